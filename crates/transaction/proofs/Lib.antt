@@ -1,0 +1,4 @@
+pub mod Slots
+pub mod Same
+pub mod Causes
+pub mod Long

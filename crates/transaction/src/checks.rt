@@ -1,0 +1,76 @@
+// The first fitting of the checks 3, 4 and 5: one function for the reader, the writers, a shard and the cluster.
+ghost use mathlib.Core.Path.{_≡_};
+ghost use Prim.Native.Nat.{_<_};
+ghost use lib.ListN.{take};
+ghost use Rattle.transaction.specs.Lists.{repeats, total};
+ghost use Rattle.transaction.specs.Tokens.{sameToken};
+ghost use Rattle.transaction.specs.Checks.{sameName, inputAmount, outputAmount, causeOf};
+use crate::Input;
+use crate::Output;
+use crate::Transaction;
+use crate::equality::same_token;
+use crate::fields::fields_fit;
+
+fn same_name(a: Input, b: Input) -> bool
+    ensures { λ r. ⌜ r ≡ sameName a b ⌝ }
+{
+    same_token(a.token, b.token)
+}
+
+// Check 4: one token is named twice among the used inputs.
+fn named_twice(count: u8, x: [Input; 4]) -> bool
+    ensures { λ r. ⌜ r ≡ repeats sameName (take count x) ⌝ }
+{
+    let a = x[0];
+    let b = x[1];
+    let c = x[2];
+    let d = x[3];
+    ((1 < count) & same_name(a, b))
+        | ((2 < count) & (same_name(a, c) | same_name(b, c)))
+        | ((3 < count) & (same_name(a, d) | same_name(b, d) | same_name(c, d)))
+}
+
+fn wide(amount: u32) -> u64
+    ensures { λ r. ⌜ (r ≡ amount) × (r < 4294967296) ⌝ }
+{
+    amount as u64
+}
+
+fn input_total(x: [Input; 4]) -> u64
+    ensures { λ r. ⌜ r ≡ total inputAmount x ⌝ }
+{
+    let a = x[0];
+    let b = x[1];
+    let c = x[2];
+    let d = x[3];
+    wide(a.amount) + wide(b.amount) + wide(c.amount) + wide(d.amount)
+}
+
+fn output_total(y: [Output; 4]) -> u64
+    ensures { λ r. ⌜ r ≡ total outputAmount y ⌝ }
+{
+    let a = y[0];
+    let b = y[1];
+    let c = y[2];
+    let d = y[3];
+    wide(a.amount) + wide(b.amount) + wide(c.amount) + wide(d.amount)
+}
+
+// All four slots are summed: check 3 has passed, so that unused ones add nothing.
+pub fn cause(genesis: u8, t: Transaction) -> u8
+    ensures { λ r. ⌜ r ≡ causeOf genesis t ⌝ }
+{
+    if !fields_fit(genesis, t) {
+        return 3;
+    }
+    let count = t.input_count;
+    let x = t.inputs;
+    if named_twice(count, x) {
+        return 4;
+    }
+    let y = t.outputs;
+    if input_total(x) != output_total(y) {
+        return 5;
+    }
+    0
+}

@@ -1,0 +1,133 @@
+// Check 3: each field in its range, and slots beyond the count all zero.
+ghost use mathlib.Core.Path.{_≡_};
+ghost use mathlib.Core.Bool.{cond};
+ghost use Rattle.transaction.specs.Lists.{slotsFit};
+ghost use Rattle.transaction.specs.Tokens.{sameInput, sameOutput, zeroInput, zeroOutput};
+ghost use Rattle.transaction.specs.Checks.{shardFits, indexFits, valueFits, inputFits, outputFits, fieldsFit, mintFits};
+use crate::Input;
+use crate::Output;
+use crate::TokenId;
+use crate::Transaction;
+use crate::equality::same_input;
+use crate::equality::same_output;
+
+pub fn shard_fits(shard: u8) -> bool
+    ensures { λ r. ⌜ r ≡ shardFits shard ⌝ }
+{
+    shard <= 7
+}
+
+fn index_fits(genesis: u8, creator: u32, index: u8) -> bool
+    ensures { λ r. ⌜ r ≡ indexFits genesis creator index ⌝ }
+{
+    if creator == 0 {
+        index < genesis
+    } else {
+        index < 4
+    }
+}
+
+fn value_fits(owner: u32, amount: u32) -> bool
+    ensures { λ r. ⌜ r ≡ valueFits owner amount ⌝ }
+{
+    (owner != 0) & (1 <= amount) & (amount <= 1000000)
+}
+
+fn input_fits(genesis: u8, x: Input) -> bool
+    ensures { λ r. ⌜ r ≡ inputFits genesis x ⌝ }
+{
+    let t = x.token;
+    shard_fits(t.shard) & index_fits(genesis, t.creator, t.index) & value_fits(x.owner, x.amount)
+}
+
+fn output_fits(y: Output) -> bool
+    ensures { λ r. ⌜ r ≡ outputFits y ⌝ }
+{
+    shard_fits(y.shard) & value_fits(y.owner, y.amount)
+}
+
+fn zero_input() -> Input
+    ensures { λ r. ⌜ r ≡ zeroInput ⌝ }
+{
+    Input {
+        token: TokenId {
+            shard: 0,
+            creator: 0,
+            index: 0,
+        },
+        owner: 0,
+        amount: 0,
+    }
+}
+
+fn zero_output() -> Output
+    ensures { λ r. ⌜ r ≡ zeroOutput ⌝ }
+{
+    Output {
+        shard: 0,
+        owner: 0,
+        amount: 0,
+    }
+}
+
+// A slot of the inputs: in range where it is used, all zero where it is not.
+fn input_slot_fits(genesis: u8, used: bool, x: Input) -> bool
+    ensures { λ r. ⌜ r ≡ cond used (inputFits genesis x) (sameInput zeroInput x) ⌝ }
+{
+    if used {
+        input_fits(genesis, x)
+    } else {
+        same_input(zero_input(), x)
+    }
+}
+
+fn output_slot_fits(used: bool, y: Output) -> bool
+    ensures { λ r. ⌜ r ≡ cond used (outputFits y) (sameOutput zeroOutput y) ⌝ }
+{
+    if used {
+        output_fits(y)
+    } else {
+        same_output(zero_output(), y)
+    }
+}
+
+fn inputs_fit(genesis: u8, count: u8, x: [Input; 4]) -> bool
+    ensures { λ r. ⌜ r ≡ slotsFit (inputFits genesis) (sameInput zeroInput) count x ⌝ }
+{
+    input_slot_fits(genesis, 0 < count, x[0])
+        & input_slot_fits(genesis, 1 < count, x[1])
+        & input_slot_fits(genesis, 2 < count, x[2])
+        & input_slot_fits(genesis, 3 < count, x[3])
+}
+
+fn outputs_fit(count: u8, y: [Output; 4]) -> bool
+    ensures { λ r. ⌜ r ≡ slotsFit outputFits (sameOutput zeroOutput) count y ⌝ }
+{
+    output_slot_fits(0 < count, y[0])
+        & output_slot_fits(1 < count, y[1])
+        & output_slot_fits(2 < count, y[2])
+        & output_slot_fits(3 < count, y[3])
+}
+
+pub fn fields_fit(genesis: u8, t: Transaction) -> bool
+    ensures { λ r. ⌜ r ≡ fieldsFit genesis t ⌝ }
+{
+    let i = t.input_count;
+    let o = t.output_count;
+    let x = t.inputs;
+    let y = t.outputs;
+    (t.number != 0)
+        & (1 <= i)
+        & (i <= 4)
+        & (1 <= o)
+        & (o <= 4)
+        & inputs_fit(genesis, i, x)
+        & outputs_fit(o, y)
+}
+
+// Check 3 of a genesis token for a shard.
+pub fn mint_fits(genesis: u8, receiver: u8, index: u8, owner: u32, amount: u32) -> bool
+    ensures { λ r. ⌜ r ≡ mintFits genesis receiver index owner amount ⌝ }
+{
+    shard_fits(receiver) & index_fits(genesis, 0, index) & value_fits(owner, amount)
+}
