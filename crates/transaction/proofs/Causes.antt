@@ -2,6 +2,7 @@
 use Prim.Native.Nat.{ℕ}
 use mathlib.Core.Path.{_≡_, refl, sym, ap, _∙_}
 use mathlib.Core.Bool.{Bool, true, false, not, _&&_}
+use mathlib.Core.List.{List, _∷_}
 use native.Mathlib.Omega.{arith}
 use borrow.Author.Tests.{eq-eqb, ne-eqb}
 use lib.Dec.{eqb, leb}
@@ -9,7 +10,7 @@ use lib.ListN.{take}
 use Rattle.transaction.specs.declared.Input.{Input}
 use Rattle.transaction.specs.declared.Output.{Output}
 use Rattle.transaction.specs.declared.Transaction.{Transaction}
-use Rattle.transaction.specs.Lists.{total, repeats, slotsFit}
+use Rattle.transaction.specs.Lists.{total, repeats, slotsFit, firstOf}
 use Rattle.transaction.specs.Tokens.{usedInputs, usedOutputs, sameInput, sameOutput, zeroInput, zeroOutput}
 use Rattle.transaction.specs.Checks.{inputFits, outputFits, countsFit, fieldsFit, sameName, namedTwice, inputAmount, outputAmount, balanced, causeOf}
 use Rattle.transaction.proofs.Slots.{and-left, and-right, total-used}
@@ -73,3 +74,12 @@ module _ (genesis : ℕ) (t : Transaction) where
       → m ≡ total inputAmount (t .inputs) → n ≡ total outputAmount (t .outputs) → m ≡ n → 0 ≡ causeOf genesis t
   unfolding causeOf namedTwice
   cause-0 {fit} {twice} {m} {n} e y f w em en q = rw (sym e ∙ y, sym f ∙ w, sums e y em en, eq-eqb m n q) refl
+
+-- a first check that fails, and one that passes
+pub first-fails : {fit : Bool} (test : Bool) (number : ℕ) (others : List (Bool × ℕ)) → fit ≡ test → fit ≡ false
+    → number ≡ firstOf ((not test, number) ∷ others)
+first-fails test number others e n = rw (sym e ∙ n) refl
+
+pub first-passes : {fit : Bool} {found : ℕ} (test : Bool) (number : ℕ) (others : List (Bool × ℕ)) → fit ≡ test → fit ≡ true
+    → found ≡ firstOf others → found ≡ firstOf ((not test, number) ∷ others)
+first-passes test number others e y f = rw (sym e ∙ y) f

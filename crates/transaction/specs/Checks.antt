@@ -68,6 +68,21 @@ checks genesis t = (not (fieldsFit genesis t), 3) ∷ (namedTwice t, 4) ∷ (not
 unfoldable pub causeOf : ℕ → Transaction → ℕ
 causeOf genesis t = firstOf (checks genesis t)
 
--- 3, of a genesis token for a shard
+-- the genesis indices of a house: 0 to 127
+abbrev pub house : ℕ
+house = 128
+
+-- The fields of a record, by its kind; the shard that receives it, and of a vote the sender, are 0 to 7, and a verdict is 1 (yes) or 0 (no).
+abbrev pub registerChecks : ℕ → ℕ → Transaction → List (Bool × ℕ)
+registerChecks genesis receiver t = (not (shardFits receiver), 3) ∷ checks genesis t
+
+abbrev pub voteChecks : ℕ → ℕ → ℕ → ℕ → Transaction → List (Bool × ℕ)
+voteChecks genesis receiver sender verdict t =
+    (not (shardFits receiver && shardFits sender && leb verdict 1), 3) ∷ checks genesis t
+
+-- a genesis token (opening)
 unfoldable pub mintFits : ℕ → ℕ → ℕ → ℕ → ℕ → Bool
 mintFits genesis receiver index owner amount = shardFits receiver && indexFits genesis 0 index && valueFits owner amount
+
+abbrev pub mintChecks : ℕ → ℕ → ℕ → ℕ → ℕ → List (Bool × ℕ)
+mintChecks genesis receiver index owner amount = (not (mintFits genesis receiver index owner amount), 3) ∷ []

@@ -2,14 +2,16 @@
 ghost use mathlib.Core.Path.{_≡_};
 ghost use Prim.Native.Nat.{_<_};
 ghost use lib.ListN.{take};
-ghost use Rattle.transaction.specs.Lists.{repeats, total};
+ghost use Rattle.transaction.specs.Lists.{repeats, total, firstOf};
 ghost use Rattle.transaction.specs.Tokens.{sameToken};
-ghost use Rattle.transaction.specs.Checks.{sameName, inputAmount, outputAmount, causeOf};
+ghost use Rattle.transaction.specs.Checks.{sameName, inputAmount, outputAmount, causeOf, registerChecks, voteChecks, mintChecks};
 use crate::Input;
 use crate::Output;
 use crate::Transaction;
 use crate::equality::same_token;
 use crate::fields::fields_fit;
+use crate::fields::mint_fits;
+use crate::fields::shard_fits;
 
 fn same_name(a: Input, b: Input) -> bool
     ensures { λ r. ⌜ r ≡ sameName a b ⌝ }
@@ -73,4 +75,33 @@ pub fn cause(genesis: u8, t: Transaction) -> u8
         return 5;
     }
     0
+}
+
+// The first fitting of a record's field checks, by its kind; 0 for none.
+pub fn register_cause(genesis: u8, receiver: u8, t: Transaction) -> u8
+    ensures { λ r. ⌜ r ≡ firstOf (registerChecks genesis receiver t) ⌝ }
+{
+    if !shard_fits(receiver) {
+        return 3;
+    }
+    cause(genesis, t)
+}
+
+pub fn vote_cause(genesis: u8, receiver: u8, sender: u8, verdict: u8, t: Transaction) -> u8
+    ensures { λ r. ⌜ r ≡ firstOf (voteChecks genesis receiver sender verdict t) ⌝ }
+{
+    if !(shard_fits(receiver) & shard_fits(sender) & (verdict <= 1)) {
+        return 3;
+    }
+    cause(genesis, t)
+}
+
+pub fn mint_cause(genesis: u8, receiver: u8, index: u8, owner: u32, amount: u32) -> u8
+    ensures { λ r. ⌜ r ≡ firstOf (mintChecks genesis receiver index owner amount) ⌝ }
+{
+    if mint_fits(genesis, receiver, index, owner, amount) {
+        0
+    } else {
+        3
+    }
 }

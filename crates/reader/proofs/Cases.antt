@@ -1,0 +1,205 @@
+-- The reader's definitions, case by case: what no whole record gives, and what each kind of whole record gives.
+use Prim.Native.Nat.{ℕ, _+_, _≤_, _<_}
+use mathlib.Core.Path.{_≡_, refl, sym, ap, _∙_}
+use mathlib.Core.Bool.{Bool, true, false, cond}
+use mathlib.Core.List.{List, [], _∷_, _++_}
+use native.Mathlib.Omega.{arith}
+use borrow.Author.Tests.{eqb-true, eqb-false, leb-false, eq-eqb, ne-eqb, lt-leb, le-leb}
+use lib.Dec.{eqb, leb}
+use lib.ListN.{length}
+use Rattle.transaction.specs.declared.Transaction.{Transaction}
+use Rattle.transaction.specs.Lists.{firstOf}
+use Rattle.transaction.specs.Tokens.{blankTransaction}
+use Rattle.transaction.specs.Checks.{house, registerChecks, voteChecks, mintChecks}
+use Rattle.reader.specs.declared.Record.{Record}
+use Rattle.reader.specs.declared.Record.the-variants.{Register, Vote, Mint}
+use Rattle.reader.specs.declared.Answer.the-variants.{Read}
+use Rattle.reader.specs.declared.Reading.{Reading}
+use Rattle.reader.specs.Layout.{byteAt, wordAt, bodyLength, transactionAt}
+use Rattle.reader.specs.Reading.{kindOf, headCause, headChecks, bodyChecks, readCause, recordAt, transactionIn, takenOf, numberOf, answerOf, readingOf, refusal, Reads}
+
+-- the three checks of the head: none holds where their number is 0
+none-of : (a b c : Bool) → firstOf ((a, 2) ∷ (b, 1) ∷ (c, 2) ∷ []) ≡ 0 → (a ≡ false) × ((b ≡ false) × (c ≡ false))
+none-of true b c h = absurd (omega arith)
+none-of false true c h = absurd (omega arith)
+none-of false false true h = absurd (omega arith)
+none-of false false false h = (refl, (refl, refl))
+
+-- checks behind the head's count where the head's pass, and not where they fail
+past-head : (a b c : Bool) (others : List (Bool × ℕ)) → firstOf ((a, 2) ∷ (b, 1) ∷ (c, 2) ∷ []) ≡ 0
+    → firstOf ((a, 2) ∷ (b, 1) ∷ (c, 2) ∷ others) ≡ firstOf others
+past-head true b c others h = absurd (omega arith)
+past-head false true c others h = absurd (omega arith)
+past-head false false true others h = absurd (omega arith)
+past-head false false false others h = refl
+
+at-head : (a b c : Bool) (others : List (Bool × ℕ)) → (firstOf ((a, 2) ∷ (b, 1) ∷ (c, 2) ∷ []) ≡ 0 → ⊥)
+    → firstOf ((a, 2) ∷ (b, 1) ∷ (c, 2) ∷ others) ≡ firstOf ((a, 2) ∷ (b, 1) ∷ (c, 2) ∷ [])
+at-head true b c others n = refl
+at-head false true c others n = refl
+at-head false false true others n = refl
+at-head false false false others n = absurd (n refl)
+
+-- the four cases of the head, from what was found
+module _ (l : List ℕ) where
+  pub head-empty : length l ≡ 0 → 2 ≡ headCause l
+  unfolding headCause
+  head-empty e = rw (eq-eqb (length l) 0 e) refl
+
+  pub head-unknown : {n : ℕ} → (length l ≡ 0 → ⊥) → n ≡ bodyLength (kindOf l) → n ≡ 0 → 1 ≡ headCause l
+  unfolding headCause
+  head-unknown some e z = rw (ne-eqb (length l) 0 some, sym e ∙ z) refl
+
+  pub head-short : {n : ℕ} → (length l ≡ 0 → ⊥) → n ≡ bodyLength (kindOf l) → (n ≡ 0 → ⊥) → length l ≤ n → 2 ≡ headCause l
+  unfolding headCause
+  head-short {n} some e z short = rw (ne-eqb (length l) 0 some, ← e, ne-eqb n 0 z, le-leb (length l) n short) refl
+
+  pub head-whole : {n : ℕ} → (length l ≡ 0 → ⊥) → n ≡ bodyLength (kindOf l) → (n ≡ 0 → ⊥) → n < length l → 0 ≡ headCause l
+  unfolding headCause
+  head-whole {n} some e z long = rw (ne-eqb (length l) 0 some, ← e, ne-eqb n 0 z, lt-leb (length l) n long) refl
+
+-- No whole record stands at the front.
+module _ (l : List ℕ) (n : headCause l ≡ 0 → ⊥) where
+  cause-of-head : readCause l ≡ headCause l
+  unfolding headCause readCause
+  cause-of-head =
+      at-head (eqb (length l) 0) (eqb (bodyLength (kindOf l)) 0) (leb (length l) (bodyLength (kindOf l))) (bodyChecks l) n
+
+  pub taken-all : takenOf l ≡ length l
+  unfolding takenOf
+  taken-all = rw (ne-eqb (headCause l) 0 n)
+
+  pub reading-none : refusal (headCause l) (length l) ≡ readingOf l
+  unfolding readingOf
+  reading-none = rw (cause-of-head, ne-eqb (headCause l) 0 n, taken-all) refl
+
+-- A whole record stands at the front.
+module _ (l : List ℕ) (h : headCause l ≡ 0) where
+  pub whole : bodyLength (kindOf l) < length l
+  unfolding headCause
+  whole =
+      leb-false _ _
+      (none-of (eqb (length l) 0) (eqb (bodyLength (kindOf l)) 0) (leb (length l) (bodyLength (kindOf l))) h .1 .1)
+
+  pub known : bodyLength (kindOf l) ≡ 0 → ⊥
+  unfolding headCause
+  known =
+      eqb-false _ _
+      (none-of (eqb (length l) 0) (eqb (bodyLength (kindOf l)) 0) (leb (length l) (bodyLength (kindOf l))) h .1 .0)
+
+  cause-of-body : readCause l ≡ firstOf (bodyChecks l)
+  unfolding headCause readCause
+  cause-of-body =
+      past-head (eqb (length l) 0) (eqb (bodyLength (kindOf l)) 0) (leb (length l) (bodyLength (kindOf l))) (bodyChecks l) h
+
+  pub taken-record : takenOf l ≡ bodyLength (kindOf l) + 1
+  unfolding takenOf
+  taken-record = rw h
+
+  -- the reading from the parts that were found
+  pub reading-good : {number taken : ℕ} {fields : Record} {t : Transaction} → number ≡ readCause l → number ≡ 0
+      → fields ≡ recordAt l → t ≡ transactionIn l → taken ≡ takenOf l
+      → _≡_ {A = Reading} (record { answer = Read fields; transaction = t; taken = taken }) (readingOf l)
+  unfolding readingOf
+  reading-good en z ef et ek = rw (sym en ∙ z, ef, et, ek) refl
+
+  pub reading-bad : {number taken : ℕ} → number ≡ readCause l → (number ≡ 0 → ⊥) → taken ≡ takenOf l
+      → refusal number taken ≡ readingOf l
+  unfolding readingOf
+  reading-bad {number} {taken} en n ek = rw (← en, ne-eqb number 0 n, ek) refl
+
+-- each kind's length, checks, fields and transaction
+pub length-1 : (k : ℕ) → k ≡ 1 → bodyLength k ≡ 99
+unfolding bodyLength
+length-1 k e = rw e
+
+pub length-2 : (k : ℕ) → k ≡ 2 → bodyLength k ≡ 101
+unfolding bodyLength
+length-2 k e = rw e
+
+pub length-3 : (k : ℕ) → k ≡ 3 → bodyLength k ≡ 10
+unfolding bodyLength
+length-3 k e = rw e
+
+-- a kind with a body that is not 1 and not 2 is 3
+pub third-kind : (k : ℕ) → (k ≡ 1 → ⊥) → (k ≡ 2 → ⊥) → (bodyLength k ≡ 0 → ⊥) → k ≡ 3
+unfolding bodyLength
+third-kind k n1 n2 n = eqb-true k 3 (last (eqb k 1) (eqb k 2) (eqb k 3) (ne-eqb _ _ n1) (ne-eqb _ _ n2) n)
+  where
+    last : (a b c : Bool) → a ≡ false → b ≡ false → (_≡_ {A = ℕ} (cond a 99 (cond b 101 (cond c 10 0))) 0 → ⊥) → c ≡ true
+    last a b true ha hb m = refl
+    last a b false ha hb m = absurd (m (simp (ha, hb)))
+
+module _ (l : List ℕ) (h : headCause l ≡ 0) (k : kindOf l ≡ 1) where
+  pub cause-1 : readCause l ≡ firstOf (registerChecks house (byteAt l 1) (transactionAt l 2))
+  cause-1 = cause-of-body l h ∙ rw k refl
+
+  pub record-1 : recordAt l ≡ Register (byteAt l 1)
+  unfolding recordAt
+  record-1 = rw k refl
+
+  pub transaction-1 : transactionIn l ≡ transactionAt l 2
+  unfolding transactionIn
+  transaction-1 = rw k refl
+
+  pub taken-1 : takenOf l ≡ 100
+  taken-1 = taken-record l h ∙ ap (λ (n : ℕ). n + 1) (length-1 (kindOf l) k)
+
+  pub long-1 : 100 ≤ length l
+  long-1 = omega (arith, whole l h, length-1 (kindOf l) k)
+
+module _ (l : List ℕ) (h : headCause l ≡ 0) (k : kindOf l ≡ 2) where
+  pub cause-2 : readCause l ≡ firstOf (voteChecks house (byteAt l 1) (byteAt l 2) (byteAt l 3) (transactionAt l 4))
+  cause-2 = cause-of-body l h ∙ rw k refl
+
+  pub record-2 : recordAt l ≡ Vote (byteAt l 1) (byteAt l 2) (byteAt l 3)
+  unfolding recordAt
+  record-2 = rw k refl
+
+  pub transaction-2 : transactionIn l ≡ transactionAt l 4
+  unfolding transactionIn
+  transaction-2 = rw k refl
+
+  pub taken-2 : takenOf l ≡ 102
+  taken-2 = taken-record l h ∙ ap (λ (n : ℕ). n + 1) (length-2 (kindOf l) k)
+
+  pub long-2 : 102 ≤ length l
+  long-2 = omega (arith, whole l h, length-2 (kindOf l) k)
+
+module _ (l : List ℕ) (h : headCause l ≡ 0) (k : kindOf l ≡ 3) where
+  pub cause-3 : readCause l ≡ firstOf (mintChecks house (byteAt l 1) (byteAt l 2) (wordAt l 3) (wordAt l 7))
+  cause-3 = cause-of-body l h ∙ rw k refl
+
+  pub record-3 : recordAt l ≡ Mint (byteAt l 1) (byteAt l 2) (wordAt l 3) (wordAt l 7)
+  unfolding recordAt
+  record-3 = rw k refl
+
+  pub transaction-3 : transactionIn l ≡ blankTransaction
+  unfolding transactionIn
+  transaction-3 = rw k refl
+
+  pub taken-3 : takenOf l ≡ 11
+  taken-3 = taken-record l h ∙ ap (λ (n : ℕ). n + 1) (length-3 (kindOf l) k)
+
+  pub long-3 : 11 ≤ length l
+  long-3 = omega (arith, whole l h, length-3 (kindOf l) k)
+
+-- a whole reading keeps the reader's promise
+number-of : (n : ℕ) (fields : Record) → numberOf (answerOf n fields) ≡ n
+number-of n fields = go (eqb n 0) refl
+  where
+    go : (b : Bool) → eqb n 0 ≡ b → numberOf (answerOf n fields) ≡ n
+    go true e = rw e (sym (eqb-true n 0 e))
+    go false e = rw e refl
+
+pub reads : (l : List ℕ) {r : Reading} → r ≡ readingOf l → Reads l r
+unfolding readingOf
+reads l e = record { number = ap (λ (x : Reading). numberOf (x .answer)) e ∙ number-of (readCause l) (recordAt l); whole = e }
+
+-- what the record takes is within the bytes
+pub taken-within : (l : List ℕ) → takenOf l ≤ length l
+taken-within l = go (eqb (headCause l) 0) refl
+  where
+    go : (b : Bool) → eqb (headCause l) 0 ≡ b → takenOf l ≤ length l
+    go true e = let h = eqb-true (headCause l) 0 e in rw (taken-record l h) (omega (arith, whole l h))
+    go false e = rw (taken-all l (eqb-false (headCause l) 0 e)) (omega arith)

@@ -1,0 +1,106 @@
+// The record reader: document 01, 'Records'. Any bytes whatever get an answer.
+ghost use mathlib.Core.Path.{_≡_};
+ghost use Rattle.reader.specs.Reading.{Reads, readingOf, headCause, takenOf, restOf};
+ghost use Rattle.reader.specs.Layout.{bodyLength};
+use transaction::Transaction;
+
+pub mod layout; // fields at their places
+pub mod bodies; // the three kinds of body
+
+// The fields of a record beside its transaction, as they stand in the bytes.
+pub enum Record {
+    // kind 1: the receiving shard (document 01: the receiving pantry)
+    Register {
+        receiver: u8,
+    },
+    // kind 2: the receiving shard, the sending shard and its verdict, 1 yes or 0 no
+    Vote {
+        receiver: u8,
+        sender: u8,
+        verdict: u8,
+    },
+    // kind 3 (an opening): the shard, index, owner and amount of a genesis token
+    Mint {
+        receiver: u8,
+        index: u8,
+        owner: u32,
+        amount: u32,
+    },
+}
+
+// What was read, or the number of the refusal.
+pub enum Answer {
+    Read(Record),
+    Refused(u8),
+}
+
+// The answer with the transaction's fields beside it, and the bytes taken from the front.
+pub struct Reading {
+    pub answer: Answer,
+    pub transaction: Transaction,
+    pub taken: usize,
+}
+
+// The length of the body that a kind has; 0 for every other kind.
+fn body_length(kind: u8) -> usize
+    ensures { λ r. ⌜ r ≡ bodyLength kind ⌝ }
+{
+    match kind {
+        1 => 99,
+        2 => 101,
+        3 => 10,
+        0 | 4..=255 => 0,
+    }
+}
+
+// Checks 1 and 2: their number, or 0 where a whole record stands at the front.
+fn head_cause(bytes: &[u8]) -> u8
+    ensures { λ r. ⌜ r ≡ headCause (now (bytes .entry)) ⌝ }
+{
+    if bytes.len() == 0 {
+        return 2;
+    }
+    let kind = bytes[0];
+    let n = body_length(kind);
+    if n == 0 {
+        return 1;
+    }
+    if bytes.len() <= n {
+        return 2;
+    }
+    0
+}
+
+// The record at the front of the bytes.
+pub fn read(bytes: &[u8]) -> Reading
+    ensures { λ r. ⌜ Reads (now (bytes .entry)) r ⌝ }
+{
+    let cause = head_cause(bytes);
+    if cause != 0 {
+        return bodies::refused(cause, bytes.len());
+    }
+    let kind = bytes[0];
+    match kind {
+        1 => bodies::read_register(bytes),
+        2 => bodies::read_vote(bytes),
+        _ => bodies::read_mint(bytes),
+    }
+}
+
+// The bytes that the record at the front takes.
+fn taken(bytes: &[u8]) -> usize
+    ensures { λ r. ⌜ r ≡ takenOf (now (bytes .entry)) ⌝ }
+{
+    if head_cause(bytes) != 0 {
+        return bytes.len();
+    }
+    body_length(bytes[0]) + 1
+}
+
+// The part of the caller's bytes behind the record, for the next read.
+pub fn rest<'a>(bytes: &'a [u8]) -> &'a [u8]
+    ensures { λ r. ⌜ now r ≡ restOf (now (bytes .entry)) ⌝ }
+{
+    let n = taken(bytes);
+    &bytes[n..]
+}
