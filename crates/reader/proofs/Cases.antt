@@ -130,6 +130,15 @@ third-kind k n1 n2 n = eqb-true k 3 (last (eqb k 1) (eqb k 2) (eqb k 3) (ne-eqb 
     last a b true ha hb m = refl
     last a b false ha hb m = absurd (m (simp (ha, hb)))
 
+-- a whole record is of kind 1, 2 or 3
+pub by-kinds : (l : List ℕ) → headCause l ≡ 0 → (P : Type 0) → (kindOf l ≡ 1 → P) → (kindOf l ≡ 2 → P) → (kindOf l ≡ 3 → P) → P
+by-kinds l h P one two three = go (eqb (kindOf l) 1) (eqb (kindOf l) 2) refl refl
+  where
+    go : (a b : Bool) → eqb (kindOf l) 1 ≡ a → eqb (kindOf l) 2 ≡ b → P
+    go true b e f = one (eqb-true (kindOf l) 1 e)
+    go false true e f = two (eqb-true (kindOf l) 2 f)
+    go false false e f = three (third-kind (kindOf l) (eqb-false (kindOf l) 1 e) (eqb-false (kindOf l) 2 f) (known l h))
+
 module _ (l : List ℕ) (h : headCause l ≡ 0) (k : kindOf l ≡ 1) where
   pub cause-1 : readCause l ≡ firstOf (registerChecks house (byteAt l 1) (transactionAt l 2))
   cause-1 = cause-of-body l h ∙ rw k refl

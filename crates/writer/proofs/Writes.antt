@@ -14,15 +14,15 @@ use Rattle.writer.specs.declared.Written.the-variants.{Bytes, Refused}
 use Rattle.writer.specs.Writing.{withRoom, numberOf, answerOf, lentAfter, Writes}
 
 -- No check has the number 0. Where one of them fails, no check behind them counts; where none fails, those behind do.
-abbrev numbered : List (Bool × ℕ) → Bool
+abbrev pub numbered : List (Bool × ℕ) → Bool
 numbered checks = all (λ (check : Bool × ℕ). not (eqb (check .1) 0)) checks
 
-first-stands : (fields others : List (Bool × ℕ)) → (firstOf fields ≡ 0 → ⊥) → firstOf (fields ++ others) ≡ firstOf fields
+pub first-stands : (fields others : List (Bool × ℕ)) → (firstOf fields ≡ 0 → ⊥) → firstOf (fields ++ others) ≡ firstOf fields
 first-stands [] others n = absurd (n refl)
 first-stands ((true, k) ∷ fields) others n = refl
 first-stands ((false, k) ∷ fields) others n = first-stands fields others n
 
-first-behind : (fields others : List (Bool × ℕ)) → numbered fields ≡ true → firstOf fields ≡ 0 → firstOf (fields ++ others) ≡ firstOf others
+pub first-behind : (fields others : List (Bool × ℕ)) → numbered fields ≡ true → firstOf fields ≡ 0 → firstOf (fields ++ others) ≡ firstOf others
 first-behind [] others n h = refl
 first-behind ((true, k) ∷ fields) others n h =
     absurd (eqb-false k 0 (not-true (eqb k 0) (and-left (not (eqb k 0)) (numbered fields) n)) h)
