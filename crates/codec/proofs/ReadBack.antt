@@ -1,15 +1,13 @@
 -- Every record written reads back as the same fields.
-use Prim.Native.Nat.{ℕ, suc, _+_, _*_, _/_, _%_, _≤_, _<_}
+use Prim.Native.Nat.{ℕ, _+_, _/_, _%_}
 use mathlib.Core.Path.{_≡_, refl, sym, ap, _∙_}
 use mathlib.Core.Bool.{Bool, true, false, cond}
 use mathlib.Core.List.{List, [], _∷_, _++_}
 use native.Mathlib.Omega.{arith}
-use borrow.Author.Tests.{eqb-true, eqb-false}
+use borrow.Author.Tests.{eqb-true}
 use lib.Dec.{eqb}
 use lib.ListN.{length, getD, drop, length-append}
 use lib.Seq.{drop-at}
-use Rattle.transaction.specs.declared.Input.{Input}
-use Rattle.transaction.specs.declared.Output.{Output}
 use Rattle.transaction.specs.declared.Transaction.{Transaction}
 use Rattle.transaction.specs.Lists.{firstOf}
 use Rattle.transaction.specs.Tokens.{zeroInput, zeroOutput, blankTransaction}
@@ -19,15 +17,14 @@ use Rattle.transaction.proofs.Long.{Long}
 use Rattle.reader.specs.declared.Record.{Record}
 use Rattle.reader.specs.declared.Record.the-variants.{Register, Vote, Mint}
 use Rattle.reader.specs.declared.Answer.the-variants.{Read}
-use Rattle.reader.specs.declared.Reading.{Reading}
-use Rattle.reader.specs.Layout.{byteAt, joined, wordAt, inputAt, outputAt, inputsAt, outputsAt, transactionAt, bodyLength}
-use Rattle.reader.specs.Reading.{kindOf, headCause, readCause, takenOf, readingOf, restOf}
+use Rattle.reader.specs.Layout.{joined, wordAt, inputAt, outputAt, inputsAt, outputsAt, transactionAt, bodyLength}
+use Rattle.reader.specs.Reading.{headCause, readingOf, restOf}
 use Rattle.reader.proofs.Cases.{head-whole, reading-good, cause-1, record-1, transaction-1, taken-1, cause-2, record-2, transaction-2, taken-2, cause-3, record-3, transaction-3, taken-3}
 use Rattle.writer.specs.Layout.{wordOf, inputBytes, outputBytes, inputsBytes, outputsBytes, transactionBytes, registerBytes, voteBytes, mintBytes}
 use Rattle.writer.specs.Writing.{registerCause, voteCause, mintCause, lentAfter}
 use Rattle.writer.proofs.Stores.{length-transaction, length-register, length-vote, length-mint}
 use Rattle.writer.proofs.Writes.{fields-pass}
-use Rattle.codec.specs.Records.{recordBytes, recordCause, beside, readBack}
+use Rattle.codec.specs.Records.{recordBytes, recordCause, readBack}
 
 -- four bytes of a number make the number
 word-back : (v : ℕ) → joined (v / 16777216) (v / 65536 % 256) (v / 256 % 256) (v % 256) ≡ v

@@ -1,23 +1,21 @@
 -- Every record read writes back as the same bytes.
-use Prim.Native.Nat.{ℕ, zero, suc, _+_, _*_, _/_, _%_, _≤_, _<_}
+use Prim.Native.Nat.{ℕ, _+_, _*_, _/_, _%_, _≤_, _<_}
 use mathlib.Core.Path.{_≡_, refl, sym, ap, _∙_}
-use mathlib.Core.Bool.{Bool, true, false, cond}
+use mathlib.Core.Bool.{Bool, true, false}
 use mathlib.Core.List.{List, [], _∷_, _++_}
 use native.Mathlib.Omega.{arith}
-use borrow.Author.Tests.{eqb-true, eqb-false, ne-eqb}
+use borrow.Author.Tests.{eqb-true, eqb-false}
 use lib.Dec.{eqb, ltb}
 use lib.ListN.{length, getD, take, drop}
-use lib.Seq.{take-add, drop-drop, drop-cons, length-take-le}
-use Rattle.transaction.specs.declared.Transaction.{Transaction}
+use lib.Seq.{take-add, drop-drop, drop-cons}
 use Rattle.transaction.specs.Lists.{firstOf}
 use Rattle.transaction.specs.Checks.{house, registerChecks, voteChecks, mintChecks}
 use Rattle.reader.specs.declared.Record.{Record}
-use Rattle.reader.specs.declared.Record.the-variants.{Register, Vote, Mint}
 use Rattle.reader.specs.declared.Answer.the-variants.{Read, Refused}
 use Rattle.reader.specs.declared.Reading.{Reading}
-use Rattle.reader.specs.Layout.{byteAt, joined, wordAt, inputAt, outputAt, inputsAt, outputsAt, transactionAt, bodyLength}
+use Rattle.reader.specs.Layout.{byteAt, joined, wordAt, inputAt, outputAt, inputsAt, outputsAt, transactionAt}
 use Rattle.reader.specs.Reading.{kindOf, headCause, headChecks, bodyChecks, readCause, recordAt, transactionIn, takenOf, answerOf, readingOf}
-use Rattle.reader.proofs.Cases.{by-kinds, cause-1, record-1, transaction-1, taken-1, long-1, cause-2, record-2, transaction-2, taken-2, long-2, cause-3, record-3, transaction-3, taken-3, long-3}
+use Rattle.reader.proofs.Cases.{by-kinds, cause-1, record-1, transaction-1, taken-1, long-1, cause-2, record-2, transaction-2, taken-2, long-2, cause-3, record-3, taken-3, long-3}
 use Rattle.writer.specs.Layout.{byteOf, wordOf, inputBytes, outputBytes, inputsBytes, outputsBytes, transactionBytes, registerBytes, voteBytes, mintBytes}
 use Rattle.writer.specs.declared.Written.{Written}
 use Rattle.writer.specs.Writing.{registerCause, voteCause, mintCause, Writes}

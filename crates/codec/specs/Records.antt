@@ -1,7 +1,6 @@
 -- A record as the reader gives it and the writers take it: its fields with the transaction beside them.
 use Prim.Native.Nat.{ℕ}
-use mathlib.Core.Path.{_≡_}
-use mathlib.Core.Bool.{Bool, cond}
+use mathlib.Core.Bool.{cond}
 use mathlib.Core.List.{List, [], _∷_, _++_}
 use lib.Dec.{eqb, ltb}
 use lib.ListN.{length, take}
@@ -15,7 +14,7 @@ use Rattle.reader.specs.declared.Reading.{Reading}
 use Rattle.reader.specs.Reading.{headChecks, bodyChecks, takenOf, readingOf}
 use Rattle.writer.specs.declared.Written.{Written}
 use Rattle.writer.specs.Layout.{registerBytes, voteBytes, mintBytes}
-use Rattle.writer.specs.Writing.{registerCause, voteCause, mintCause, lentAfter, Writes}
+use Rattle.writer.specs.Writing.{registerCause, voteCause, mintCause, Writes}
 
 -- the bytes of a record, and the number of the first check that fits where it is to be written
 abbrev pub recordBytes : Record → Transaction → List ℕ

@@ -2,7 +2,7 @@
 use Prim.Native.Nat.{ℕ, _+_, _≤_, _<_}
 use mathlib.Core.Path.{_≡_, refl, sym, ap, _∙_}
 use mathlib.Core.Bool.{Bool, true, false, cond}
-use mathlib.Core.List.{List, [], _∷_, _++_}
+use mathlib.Core.List.{List, [], _∷_}
 use native.Mathlib.Omega.{arith}
 use borrow.Author.Tests.{eqb-true, eqb-false, leb-false, eq-eqb, ne-eqb, lt-leb, le-leb}
 use lib.Dec.{eqb, leb}
@@ -16,7 +16,7 @@ use Rattle.reader.specs.declared.Record.the-variants.{Register, Vote, Mi
 use Rattle.reader.specs.declared.Answer.the-variants.{Read}
 use Rattle.reader.specs.declared.Reading.{Reading}
 use Rattle.reader.specs.Layout.{byteAt, wordAt, bodyLength, transactionAt}
-use Rattle.reader.specs.Reading.{kindOf, headCause, headChecks, bodyChecks, readCause, recordAt, transactionIn, takenOf, numberOf, answerOf, readingOf, refusal, Reads}
+use Rattle.reader.specs.Reading.{kindOf, headCause, bodyChecks, readCause, recordAt, transactionIn, takenOf, numberOf, answerOf, readingOf, refusal, Reads}
 
 -- the three checks of the head: none holds where their number is 0
 none-of : (a b c : Bool) → firstOf ((a, 2) ∷ (b, 1) ∷ (c, 2) ∷ []) ≡ 0 → (a ≡ false) × ((b ≡ false) × (c ≡ false))

@@ -1,6 +1,6 @@
 -- A transaction's arrays have four slots: what owning the struct tells at a function's entry (`.good`).
 use mathlib.Core.Path.{_≡_, sym, _∙_}
-use mathlib.Core.List.{List, [], _∷_}
+use mathlib.Core.List.{[], _∷_}
 use lib.ListN.{length, length-map}
 use denote.Struct.Laws.{val}
 use denote.Shadow.{shadow}

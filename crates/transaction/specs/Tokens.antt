@@ -1,7 +1,7 @@
 -- Document 01, 'Tokens and swaps': what a transaction is made of, and when two of them are the same.
 use Prim.Native.Nat.{ℕ}
 use mathlib.Core.Bool.{Bool, cond, _&&_}
-use mathlib.Core.List.{List, [], _∷_, _++_, map}
+use mathlib.Core.List.{List, _++_, map}
 use lib.Dec.{eqb, ltb}
 use lib.ListN.{length, getD, take, replicate}
 use Rattle.transaction.specs.declared.TokenId.{TokenId}

@@ -1,7 +1,7 @@
 -- The writers' checks and promise, case by case.
-use Prim.Native.Nat.{ℕ, suc, _≤_, _<_}
-use mathlib.Core.Path.{_≡_, refl, sym, ap, _∙_}
-use mathlib.Core.Bool.{Bool, true, false, cond, not}
+use Prim.Native.Nat.{ℕ, _≤_, _<_}
+use mathlib.Core.Path.{_≡_, refl, sym, _∙_}
+use mathlib.Core.Bool.{Bool, true, false, not}
 use mathlib.Core.List.{List, [], _∷_, _++_}
 use native.Mathlib.Omega.{arith}
 use borrow.Author.Tests.{eqb-true, eqb-false, not-true, ne-eqb, lt-ltb, le-ltb, ltb-false}
@@ -9,9 +9,8 @@ use lib.Dec.{eqb, ltb}
 use lib.ListN.{length, drop}
 use Rattle.transaction.specs.Lists.{all, firstOf}
 use Rattle.transaction.proofs.Slots.{and-left, and-right}
-use Rattle.writer.specs.declared.Written.{Written}
 use Rattle.writer.specs.declared.Written.the-variants.{Bytes, Refused}
-use Rattle.writer.specs.Writing.{withRoom, numberOf, answerOf, lentAfter, Writes}
+use Rattle.writer.specs.Writing.{withRoom, Writes}
 
 -- No check has the number 0. Where one of them fails, no check behind them counts; where none fails, those behind do.
 abbrev pub numbered : List (Bool × ℕ) → Bool

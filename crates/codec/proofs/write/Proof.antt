@@ -1,57 +1,40 @@
 use borrow.Author.Needs.{needs}
 use Rattle.codec.proofs.write.Statement.{statement}
 use Rattle.codec.proofs.write.Tie as tie
-use Rattle.codec.proofs.write.Reads as reads
-use Rattle.codec.proofs.write.Lts as lts
-use Rattle.writer.proofs.write_mint.Reads as write-mint-reads
-use Rattle.writer.proofs.write_register.Reads as write-register-reads
-use Rattle.writer.proofs.write_vote.Reads as write-vote-reads
 
--- src/lib.rt:18:28
 enum-known-fields : tie.Need-enum-known-fields
 enum-known-fields c = search needs
 
--- src/lib.rt:18:42
 write-register-requires : tie.Need-write-register-requires
 write-register-requires c κs = search needs
 
--- src/lib.rt:19:24
 enum-known-fields-2 : tie.Need-enum-known-fields-2
 enum-known-fields-2 c = search needs
 
--- src/lib.rt:19:55
 write-vote-requires : tie.Need-write-vote-requires
 write-vote-requires c κs = search needs
 
--- src/lib.rt:20:24
 enum-known-fields-3 : tie.Need-enum-known-fields-3
 enum-known-fields-3 c = search needs
 
--- src/lib.rt:20:60
 write-mint-requires : tie.Need-write-mint-requires
 write-mint-requires c κs = search needs
 
--- src/lib.rt:14:1
 same-length : tie.Need-same-length
 same-length c = search needs
 
--- src/lib.rt:14:1
 returns : tie.Need-returns
 returns c = rw (c .before .before .before .before .before .fields .given .1) (c .before .before .write-register .ensures)
 
--- src/lib.rt:14:1
 same-length-2 : tie.Need-same-length-2
 same-length-2 c = search needs
 
--- src/lib.rt:14:1
 returns-2 : tie.Need-returns-2
 returns-2 c = rw (c .before .before .before .before .before .fields2 .given .1) (c .before .before .write-vote .ensures)
 
--- src/lib.rt:14:1
 same-length-3 : tie.Need-same-length-3
 same-length-3 c = search needs
 
--- src/lib.rt:14:1
 returns-3 : tie.Need-returns-3
 returns-3 c = rw (c .before .before .before .before .before .fields3 .given .1) (c .before .before .write-mint .ensures)
 

@@ -2,28 +2,20 @@ use Rattle.codec.proofs.ReadBack.{written-reads-back}
 use Rattle.transaction.proofs.Long.{long-of}
 use Rattle.reader.specs.Reading.{readingOf}
 use denote.Ref.{now}
-use mathlib.Core.Path.{_≡_, refl, sym, ap, _∙_}
+use mathlib.Core.Path.{ap, _∙_}
 use borrow.Author.Needs.{needs}
 use Rattle.codec.proofs.write_and_read.Statement.{statement}
 use Rattle.codec.proofs.write_and_read.Tie as tie
-use Rattle.codec.proofs.write_and_read.Reads as reads
-use Rattle.codec.proofs.write_and_read.Lts as lts
-use Rattle.codec.proofs.write.Reads as write-reads
-use Rattle.reader.proofs.read.Reads as read-reads
 
--- src/lib.rt:28:5
 write-requires : tie.Need-write-requires
 write-requires c κs = search needs
 
--- src/lib.rt:30:5
 read-requires : tie.Need-read-requires
 read-requires c κs = search needs
 
--- src/lib.rt:25:1
 same-length : tie.Need-same-length
 same-length c = search needs
 
--- src/lib.rt:25:1
 returns : tie.Need-returns
 returns c =
     let a = c .before .before .before .before .before .before .before .args in

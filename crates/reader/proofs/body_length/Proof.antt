@@ -2,30 +2,23 @@ use borrow.Author.Tests.{ne-eqb}
 use Rattle.reader.specs.Layout.{bodyLength}
 use Rattle.reader.proofs.body_length.Statement.{statement}
 use Rattle.reader.proofs.body_length.Tie as tie
-use Rattle.reader.proofs.body_length.Reads as reads
-use Rattle.reader.proofs.body_length.Lts as lts
 
--- src/lib.rt:35:1
 returns : tie.Need-returns
 unfolding bodyLength
 returns c = rw (c .match .keys1)
 
--- src/lib.rt:35:1
 returns-2 : tie.Need-returns-2
 unfolding bodyLength
 returns-2 c = rw (c .match .keys2)
 
--- src/lib.rt:35:1
 returns-3 : tie.Need-returns-3
 unfolding bodyLength
 returns-3 c = rw (c .match .keys3)
 
--- src/lib.rt:35:1
 returns-4 : tie.Need-returns-4
 unfolding bodyLength
 returns-4 c = rw (c .match .keys4)
 
--- src/lib.rt:35:1
 returns-5 : tie.Need-returns-5
 unfolding bodyLength
 returns-5 c = simp (ne-eqb _ _ (c .match .rest .0 .0 .0 .1), ne-eqb _ _ (c .match .rest .0 .0 .1), ne-eqb _ _ (c .match .rest .0 .1))

@@ -3,32 +3,23 @@ use denote.Ref.{now}
 use borrow.Author.Needs.{needs}
 use Rattle.reader.proofs.head_cause.Statement.{statement}
 use Rattle.reader.proofs.head_cause.Tie as tie
-use Rattle.reader.proofs.head_cause.Reads as reads
-use Rattle.reader.proofs.head_cause.Lts as lts
-use Rattle.reader.proofs.body_length.Reads as body-length-reads
 
--- src/lib.rt:51:9
 returns : tie.Need-returns
 returns c = head-empty (now (c .before .before .args .bytes)) (c .if1 .taken)
 
--- src/lib.rt:53:16
 shared-slice-read-kind : tie.Need-shared-slice-read-kind
 shared-slice-read-kind c = search needs
 
--- src/lib.rt:54:9
 body-length-requires : tie.Need-body-length-requires
 body-length-requires c κs = search needs
 
--- src/lib.rt:56:9
 returns-2 : tie.Need-returns-2
 returns-2 c = head-unknown (now (c .before .before .before .before .before .args .bytes)) (c .before .before .before .if1 .left) (c .before .body-length .ensures) (c .if2 .taken)
 
--- src/lib.rt:59:9
 returns-3 : tie.Need-returns-3
 returns-3 c =
     head-short (now (c .before .before .before .before .before .before .args .bytes)) (c .before .before .before .before .if1 .left) (c .before .before .body-length .ensures) (c .before .if2 .left) (c .if3 .taken)
 
--- src/lib.rt:47:1
 returns-4 : tie.Need-returns-4
 returns-4 c =
     head-whole (now (c .before .before .before .before .before .before .args .bytes)) (c .before .before .before .before .if1 .left) (c .before .before .body-length .ensures) (c .before .if2 .left) (c .if3 .left)

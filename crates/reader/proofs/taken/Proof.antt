@@ -2,45 +2,35 @@ use Prim.Native.Nat.{ℕ, _+_}
 use Rattle.reader.specs.Reading.{headCause}
 use Rattle.reader.proofs.Cases.{whole, taken-all, taken-record}
 use native.Mathlib.Omega.{arith}
-use mathlib.Core.Path.{_≡_, refl, sym, ap, _∙_}
+use mathlib.Core.Path.{_≡_, sym, ap, _∙_}
 use denote.Ref.{now}
 use borrow.Author.Needs.{needs}
 use Rattle.reader.proofs.taken.Statement.{statement}
 use Rattle.reader.proofs.taken.Tie as tie
-use Rattle.reader.proofs.taken.Reads as reads
-use Rattle.reader.proofs.taken.Lts as lts
-use Rattle.reader.proofs.body_length.Reads as body-length-reads
-use Rattle.reader.proofs.head_cause.Reads as head-cause-reads
 
--- src/lib.rt:84:8
 head-cause-requires : tie.Need-head-cause-requires
 head-cause-requires c κs = search needs
 
--- src/lib.rt:85:9
 returns : tie.Need-returns
 returns c =
     let l = now (c .before .before .before .args .bytes) in
     sym (taken-all l (λ q. c .if1 .taken (c .before .head-cause .ensures ∙ q)))
 
--- src/lib.rt:87:17
 shared-slice-read-body-length : tie.Need-shared-slice-read-body-length
 shared-slice-read-body-length c =
     let l = now (c .before .before .before .before .args .bytes) in
     let h : headCause l ≡ 0 = sym (c .before .before .head-cause .ensures) ∙ c .before .if1 .left in
     omega (arith, whole l h)
 
--- src/lib.rt:87:5
 body-length-requires : tie.Need-body-length-requires
 body-length-requires c κs = search needs
 
--- src/lib.rt:87:5
 add-result : tie.Need-add-result
 add-result c =
     let l = now (c .before .before .before .before .before .args .bytes) in
     let h : headCause l ≡ 0 = sym (c .before .before .before .head-cause .ensures) ∙ c .before .before .if1 .left in
     omega (arith, whole l h)
 
--- src/lib.rt:81:1
 returns-2 : tie.Need-returns-2
 returns-2 c =
     let l = now (c .before .before .before .before .before .args .bytes) in

@@ -5,37 +5,28 @@ use Rattle.writer.proofs.Stores.{length-register}
 use Rattle.writer.proofs.Writes.{refuses, writes, room-there}
 use lib.ListN.{length}
 use denote.Ref.{now}
-use mathlib.Core.Path.{_≡_, refl, sym, ap, _∙_}
+use mathlib.Core.Path.{refl, sym, _∙_}
 use borrow.Author.Needs.{needs}
 use Rattle.writer.proofs.write_register.Statement.{statement}
 use Rattle.writer.proofs.write_register.Tie as tie
-use Rattle.writer.proofs.write_register.Reads as reads
-use Rattle.writer.proofs.write_register.Lts as lts
-use Rattle.writer.proofs.layout.put_register.Reads as put-register-reads
-use Rattle.writer.proofs.room.register_cause.Reads as register-cause-reads
 
--- src/lib.rt:21:9
 register-cause-requires : tie.Need-register-cause-requires
 register-cause-requires c κs = search needs
 
--- src/lib.rt:23:9
 returns : tie.Need-returns
 returns c =
     let a = c .before .before .before .args in
     refuses (registerCause (a .receiver) (a .t) (length (now (a .out)))) (registerBytes (a .receiver) (a .t)) (now (a .out)) (c .before .register-cause .ensures) (c .if1 .taken)
 
--- src/lib.rt:25:5
 put-register-requires : tie.Need-put-register-requires
 unfolding registerCause
 put-register-requires c κs =
     let a = c .before .before .before .before .args in
     room-there (registerChecks house (a .receiver) (a .t)) 100 (length (now (a .out))) refl (sym (c .before .before .register-cause .ensures) ∙ c .before .if1 .left)
 
--- src/lib.rt:18:1
 same-length : tie.Need-same-length
 same-length c = search needs
 
--- src/lib.rt:18:1
 returns-2 : tie.Need-returns-2
 returns-2 c =
     let a = c .before .before .before .before .before .before .before .args in

@@ -5,37 +5,28 @@ use Rattle.writer.proofs.Stores.{length-vote}
 use Rattle.writer.proofs.Writes.{refuses, writes, room-there}
 use lib.ListN.{length}
 use denote.Ref.{now}
-use mathlib.Core.Path.{_≡_, refl, sym, ap, _∙_}
+use mathlib.Core.Path.{refl, sym, _∙_}
 use borrow.Author.Needs.{needs}
 use Rattle.writer.proofs.write_vote.Statement.{statement}
 use Rattle.writer.proofs.write_vote.Tie as tie
-use Rattle.writer.proofs.write_vote.Reads as reads
-use Rattle.writer.proofs.write_vote.Lts as lts
-use Rattle.writer.proofs.layout.put_vote.Reads as put-vote-reads
-use Rattle.writer.proofs.room.vote_cause.Reads as vote-cause-reads
 
--- src/lib.rt:33:9
 vote-cause-requires : tie.Need-vote-cause-requires
 vote-cause-requires c κs = search needs
 
--- src/lib.rt:35:9
 returns : tie.Need-returns
 returns c =
     let a = c .before .before .before .args in
     refuses (voteCause (a .receiver) (a .sender) (a .verdict) (a .t) (length (now (a .out)))) (voteBytes (a .receiver) (a .sender) (a .verdict) (a .t)) (now (a .out)) (c .before .vote-cause .ensures) (c .if1 .taken)
 
--- src/lib.rt:37:5
 put-vote-requires : tie.Need-put-vote-requires
 unfolding voteCause
 put-vote-requires c κs =
     let a = c .before .before .before .before .args in
     room-there (voteChecks house (a .receiver) (a .sender) (a .verdict) (a .t)) 102 (length (now (a .out))) refl (sym (c .before .before .vote-cause .ensures) ∙ c .before .if1 .left)
 
--- src/lib.rt:30:1
 same-length : tie.Need-same-length
 same-length c = search needs
 
--- src/lib.rt:30:1
 returns-2 : tie.Need-returns-2
 returns-2 c =
     let a = c .before .before .before .before .before .before .before .args in

@@ -1,60 +1,45 @@
 use Rattle.reader.proofs.Cases.{long-3, cause-3, record-3, transaction-3, taken-3, reading-good, reading-bad}
 use native.Mathlib.Omega.{arith}
-use mathlib.Core.Path.{_≡_, refl, sym, ap, _∙_}
+use mathlib.Core.Path.{sym, _∙_}
 use denote.Ref.{now}
 use borrow.Author.Needs.{needs}
 use Rattle.reader.proofs.bodies.read_mint.Statement.{statement}
 use Rattle.reader.proofs.bodies.read_mint.Tie as tie
-use Rattle.reader.proofs.bodies.read_mint.Reads as reads
-use Rattle.reader.proofs.bodies.read_mint.Lts as lts
-use Rattle.reader.proofs.bodies.refused.Reads as refused-reads
-use Rattle.reader.proofs.layout.word_at.Reads as word-at-reads
-use Rattle.transaction.proofs.checks.mint_cause.Reads as mint-cause-reads
-use Rattle.transaction.proofs.parts.blank.Reads as blank-reads
 
--- src/bodies.rt:50:20
 shared-slice-read-receiver : tie.Need-shared-slice-read-receiver
 shared-slice-read-receiver c =
     let l = now (c .before .before .args .bytes) in
     omega (arith, long-3 l (c .before .before .pre .0) (c .before .before .pre .1))
 
--- src/bodies.rt:51:17
 shared-slice-read-index : tie.Need-shared-slice-read-index
 shared-slice-read-index c =
     let l = now (c .before .before .before .args .bytes) in
     omega (arith, long-3 l (c .before .before .before .pre .0) (c .before .before .before .pre .1))
 
--- src/bodies.rt:52:9
 word-at-requires : tie.Need-word-at-requires
 word-at-requires c κs =
     let l = now (c .before .before .before .args .bytes) in
     omega (arith, long-3 l (c .before .before .before .pre .0) (c .before .before .before .pre .1))
 
--- src/bodies.rt:53:9
 word-at-requires-2 : tie.Need-word-at-requires-2
 word-at-requires-2 c κs =
     let l = now (c .before .before .before .before .args .bytes) in
     omega (arith, long-3 l (c .before .before .before .before .pre .0) (c .before .before .before .before .pre .1))
 
--- src/bodies.rt:54:9
 mint-cause-requires : tie.Need-mint-cause-requires
 mint-cause-requires c κs = search needs
 
--- src/bodies.rt:56:9
 refused-requires : tie.Need-refused-requires
 refused-requires c κs = search needs
 
--- src/bodies.rt:56:9
 returns : tie.Need-returns
 returns c =
     let l = now (c .before .before .before .before .before .before .before .before .args .bytes) in
     c .refused .ensures ∙ reading-bad l (c .before .before .before .before .before .before .before .before .pre .0) (c .before .before .mint-cause .ensures ∙ rw (c .before .before .before .before .word-at .ensures, c .before .before .before .word-at2 .ensures) (sym (cause-3 l (c .before .before .before .before .before .before .before .before .pre .0) (c .before .before .before .before .before .before .before .before .pre .1)))) (c .before .if1 .taken) (sym (taken-3 l (c .before .before .before .before .before .before .before .before .pre .0) (c .before .before .before .before .before .before .before .before .pre .1)))
 
--- src/bodies.rt:59:58
 blank-requires : tie.Need-blank-requires
 blank-requires c κs = search needs
 
--- src/bodies.rt:46:1
 returns-2 : tie.Need-returns-2
 returns-2 c =
     let l = now (c .before .before .before .before .before .before .before .before .args .bytes) in

@@ -1,43 +1,32 @@
 use Rattle.reader.proofs.Cases.{long-1, cause-1, record-1, transaction-1, taken-1, reading-good, reading-bad}
 use native.Mathlib.Omega.{arith}
-use mathlib.Core.Path.{_≡_, refl, sym, ap, _∙_}
+use mathlib.Core.Path.{sym, _∙_}
 use denote.Ref.{now}
 use borrow.Author.Needs.{needs}
 use Rattle.reader.proofs.bodies.read_register.Statement.{statement}
 use Rattle.reader.proofs.bodies.read_register.Tie as tie
-use Rattle.reader.proofs.bodies.read_register.Reads as reads
-use Rattle.reader.proofs.bodies.read_register.Lts as lts
-use Rattle.reader.proofs.bodies.refused.Reads as refused-reads
-use Rattle.reader.proofs.layout.transaction_at.Reads as transaction-at-reads
-use Rattle.transaction.proofs.checks.register_cause.Reads as register-cause-reads
 
--- src/bodies.rt:22:20
 shared-slice-read-receiver : tie.Need-shared-slice-read-receiver
 shared-slice-read-receiver c =
     let l = now (c .before .before .args .bytes) in
     omega (arith, long-1 l (c .before .before .pre .0) (c .before .before .pre .1))
 
--- src/bodies.rt:23:9
 transaction-at-requires : tie.Need-transaction-at-requires
 transaction-at-requires c κs =
     let l = now (c .before .before .args .bytes) in
     omega (arith, long-1 l (c .before .before .pre .0) (c .before .before .pre .1))
 
--- src/bodies.rt:24:9
 register-cause-requires : tie.Need-register-cause-requires
 register-cause-requires c κs = search needs
 
--- src/bodies.rt:26:9
 refused-requires : tie.Need-refused-requires
 refused-requires c κs = search needs
 
--- src/bodies.rt:26:9
 returns : tie.Need-returns
 returns c =
     let l = now (c .before .before .before .before .before .before .args .bytes) in
     c .refused .ensures ∙ reading-bad l (c .before .before .before .before .before .before .pre .0) (c .before .before .register-cause .ensures ∙ rw (c .before .before .before .transaction-at .ensures) (sym (cause-1 l (c .before .before .before .before .before .before .pre .0) (c .before .before .before .before .before .before .pre .1)))) (c .before .if1 .taken) (sym (taken-1 l (c .before .before .before .before .before .before .pre .0) (c .before .before .before .before .before .before .pre .1)))
 
--- src/bodies.rt:18:1
 returns-2 : tie.Need-returns-2
 returns-2 c =
     let l = now (c .before .before .before .before .before .args .bytes) in

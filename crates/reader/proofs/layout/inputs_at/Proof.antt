@@ -2,39 +2,28 @@ use Rattle.reader.specs.Layout.{inputsAt}
 use borrow.Author.Needs.{needs}
 use Rattle.reader.proofs.layout.inputs_at.Statement.{statement}
 use Rattle.reader.proofs.layout.inputs_at.Tie as tie
-use Rattle.reader.proofs.layout.inputs_at.Reads as reads
-use Rattle.reader.proofs.layout.inputs_at.Lts as lts
-use Rattle.reader.proofs.layout.input_at.Reads as input-at-reads
 
--- src/layout.rt:53:6
 input-at-requires : tie.Need-input-at-requires
 input-at-requires c κs = search needs
 
--- src/layout.rt:53:43
 add-input-at : tie.Need-add-input-at
 add-input-at c = search needs
 
--- src/layout.rt:53:27
 input-at-requires-2 : tie.Need-input-at-requires-2
 input-at-requires-2 c κs = search needs
 
--- src/layout.rt:53:69
 add-input-at-2 : tie.Need-add-input-at-2
 add-input-at-2 c = search needs
 
--- src/layout.rt:53:53
 input-at-requires-3 : tie.Need-input-at-requires-3
 input-at-requires-3 c κs = search needs
 
--- src/layout.rt:53:95
 add-input-at-3 : tie.Need-add-input-at-3
 add-input-at-3 c = search needs
 
--- src/layout.rt:53:79
 input-at-requires-4 : tie.Need-input-at-requires-4
 input-at-requires-4 c κs = search needs
 
--- src/layout.rt:49:1
 returns : tie.Need-returns
 unfolding inputsAt
 returns c = cc

@@ -2,31 +2,22 @@ use Rattle.reader.specs.Layout.{outputAt}
 use borrow.Author.Needs.{needs}
 use Rattle.reader.proofs.layout.output_at.Statement.{statement}
 use Rattle.reader.proofs.layout.output_at.Tie as tie
-use Rattle.reader.proofs.layout.output_at.Reads as reads
-use Rattle.reader.proofs.layout.output_at.Lts as lts
-use Rattle.reader.proofs.layout.word_at.Reads as word-at-reads
 
--- src/layout.rt:46:21
 shared-slice-read-t4 : tie.Need-shared-slice-read-t4
 shared-slice-read-t4 c = search needs
 
--- src/layout.rt:46:54
 add-word-at : tie.Need-add-word-at
 add-word-at c = search needs
 
--- src/layout.rt:46:39
 word-at-requires : tie.Need-word-at-requires
 word-at-requires c κs = search needs
 
--- src/layout.rt:46:86
 add-word-at-2 : tie.Need-add-word-at-2
 add-word-at-2 c = search needs
 
--- src/layout.rt:46:71
 word-at-requires-2 : tie.Need-word-at-requires-2
 word-at-requires-2 c κs = search needs
 
--- src/layout.rt:42:1
 returns : tie.Need-returns
 unfolding outputAt
 returns c = cc

@@ -2,39 +2,28 @@ use Rattle.reader.specs.Layout.{outputsAt}
 use borrow.Author.Needs.{needs}
 use Rattle.reader.proofs.layout.outputs_at.Statement.{statement}
 use Rattle.reader.proofs.layout.outputs_at.Tie as tie
-use Rattle.reader.proofs.layout.outputs_at.Reads as reads
-use Rattle.reader.proofs.layout.outputs_at.Lts as lts
-use Rattle.reader.proofs.layout.output_at.Reads as output-at-reads
 
--- src/layout.rt:60:6
 output-at-requires : tie.Need-output-at-requires
 output-at-requires c κs = search needs
 
--- src/layout.rt:60:45
 add-output-at : tie.Need-add-output-at
 add-output-at c = search needs
 
--- src/layout.rt:60:28
 output-at-requires-2 : tie.Need-output-at-requires-2
 output-at-requires-2 c κs = search needs
 
--- src/layout.rt:60:71
 add-output-at-2 : tie.Need-add-output-at-2
 add-output-at-2 c = search needs
 
--- src/layout.rt:60:54
 output-at-requires-3 : tie.Need-output-at-requires-3
 output-at-requires-3 c κs = search needs
 
--- src/layout.rt:60:98
 add-output-at-3 : tie.Need-add-output-at-3
 add-output-at-3 c = search needs
 
--- src/layout.rt:60:81
 output-at-requires-4 : tie.Need-output-at-requires-4
 output-at-requires-4 c κs = search needs
 
--- src/layout.rt:56:1
 returns : tie.Need-returns
 unfolding outputsAt
 returns c = cc

@@ -2,49 +2,34 @@ use Rattle.reader.specs.Layout.{transactionAt}
 use borrow.Author.Needs.{needs}
 use Rattle.reader.proofs.layout.transaction_at.Statement.{statement}
 use Rattle.reader.proofs.layout.transaction_at.Tie as tie
-use Rattle.reader.proofs.layout.transaction_at.Reads as reads
-use Rattle.reader.proofs.layout.transaction_at.Lts as lts
-use Rattle.reader.proofs.layout.inputs_at.Reads as inputs-at-reads
-use Rattle.reader.proofs.layout.outputs_at.Reads as outputs-at-reads
-use Rattle.reader.proofs.layout.word_at.Reads as word-at-reads
 
--- src/layout.rt:67:35
 add-inputs-at : tie.Need-add-inputs-at
 add-inputs-at c = search needs
 
--- src/layout.rt:67:9
 inputs-at-requires : tie.Need-inputs-at-requires
 inputs-at-requires c κs = search needs
 
--- src/layout.rt:68:37
 add-outputs-at : tie.Need-add-outputs-at
 add-outputs-at c = search needs
 
--- src/layout.rt:68:9
 outputs-at-requires : tie.Need-outputs-at-requires
 outputs-at-requires c κs = search needs
 
--- src/layout.rt:70:17
 word-at-requires : tie.Need-word-at-requires
 word-at-requires c κs = search needs
 
--- src/layout.rt:71:28
 add-t5 : tie.Need-add-t5
 add-t5 c = search needs
 
--- src/layout.rt:71:22
 shared-slice-read-t8 : tie.Need-shared-slice-read-t8
 shared-slice-read-t8 c = search needs
 
--- src/layout.rt:72:29
 add-t9 : tie.Need-add-t9
 add-t9 c = search needs
 
--- src/layout.rt:72:23
 shared-slice-read-t11 : tie.Need-shared-slice-read-t11
 shared-slice-read-t11 c = search needs
 
--- src/layout.rt:63:1
 returns : tie.Need-returns
 unfolding transactionAt
 returns c = cc

@@ -3,45 +3,31 @@ use Rattle.transaction.proofs.Causes.{cause-0, cause-3, cause-4, cause-
 use borrow.Author.Needs.{needs}
 use Rattle.transaction.proofs.checks.cause.Statement.{statement}
 use Rattle.transaction.proofs.checks.cause.Tie as tie
-use Rattle.transaction.proofs.checks.cause.Reads as reads
-use Rattle.transaction.proofs.checks.cause.Lts as lts
-use Rattle.transaction.proofs.checks.input_total.Reads as input-total-reads
-use Rattle.transaction.proofs.checks.named_twice.Reads as named-twice-reads
-use Rattle.transaction.proofs.checks.output_total.Reads as output-total-reads
-use Rattle.transaction.proofs.fields.fields_fit.Reads as fields-fit-reads
 
--- src/checks.rt:64:9
 fields-fit-requires : tie.Need-fields-fit-requires
 fields-fit-requires c κs = search needs
 
--- src/checks.rt:65:9
 returns : tie.Need-returns
 returns c = cause-3 (c .before .before .args .genesis) (c .before .before .args .t) (c .before .fields-fit .ensures) (not-true _ (c .if1 .taken))
 
--- src/checks.rt:69:8
 named-twice-requires : tie.Need-named-twice-requires
 named-twice-requires c κs = search needs
 
--- src/checks.rt:70:9
 returns-2 : tie.Need-returns-2
 returns-2 c =
     cause-4 (c .before .before .before .before .before .args .genesis) (c .before .before .before .before .before .args .t) (c .before .before .before .before .fields-fit .ensures) (not-false _ (c .before .before .before .if1 .left)) (c .before .named-twice .ensures) (c .if2 .taken)
 
--- src/checks.rt:73:8
 input-total-requires : tie.Need-input-total-requires
 input-total-requires c κs = search needs
 
--- src/checks.rt:73:26
 output-total-requires : tie.Need-output-total-requires
 output-total-requires c κs = search needs
 
--- src/checks.rt:74:9
 returns-3 : tie.Need-returns-3
 returns-3 c =
     cause-5 (c .before .before .before .before .before .before .before .before .before .args .genesis) (c .before .before .before .before .before .before .before .before .before .args .t) (c .before .before .before .before .before .before .before .before .fields-fit .ensures) (not-false _ (c .before .before .before .before .before .before .before .if1 .left)) (c .before .before .before .before .before .named-twice .ensures) (c .before .before .before .before .if2 .left)
     (c .before .before .input-total .ensures) (c .before .output-total .ensures) (c .if3 .taken)
 
--- src/checks.rt:61:1
 returns-4 : tie.Need-returns-4
 returns-4 c =
     cause-0 (c .before .before .before .before .before .before .before .before .before .args .genesis) (c .before .before .before .before .before .before .before .before .before .args .t) (c .before .before .before .before .before .before .before .before .fields-fit .ensures) (not-false _ (c .before .before .before .before .before .before .before .if1 .left)) (c .before .before .before .before .before .named-twice .ensures) (c .before .before .before .before .if2 .left)

@@ -2,55 +2,41 @@ use Rattle.transaction.proofs.Slots.{repeats-by}
 use Rattle.transaction.specs.Checks.{sameName}
 use Rattle.transaction.specs.Tokens.{zeroInput}
 use lib.ListN.{length}
-use mathlib.Core.Path.{_≡_, refl, sym, ap, _∙_}
+use mathlib.Core.Path.{_≡_}
 use borrow.Author.Needs.{needs}
 use Rattle.transaction.proofs.checks.named_twice.Statement.{statement}
 use Rattle.transaction.proofs.checks.named_twice.Tie as tie
-use Rattle.transaction.proofs.checks.named_twice.Reads as reads
-use Rattle.transaction.proofs.checks.named_twice.Lts as lts
-use Rattle.transaction.proofs.checks.same_name.Reads as same-name-reads
 
--- src/checks.rt:25:13
 array-copy-out-a : tie.Need-array-copy-out-a
 array-copy-out-a c = search needs
 
--- src/checks.rt:26:13
 array-copy-out-b : tie.Need-array-copy-out-b
 array-copy-out-b c = search needs
 
--- src/checks.rt:27:13
 array-copy-out-c : tie.Need-array-copy-out-c
 array-copy-out-c c = search needs
 
--- src/checks.rt:28:13
 array-copy-out-d : tie.Need-array-copy-out-d
 array-copy-out-d c = search needs
 
--- src/checks.rt:29:20
 same-name-requires : tie.Need-same-name-requires
 same-name-requires c κs = search needs
 
--- src/checks.rt:30:27
 same-name-requires-2 : tie.Need-same-name-requires-2
 same-name-requires-2 c κs = search needs
 
--- src/checks.rt:30:45
 same-name-requires-3 : tie.Need-same-name-requires-3
 same-name-requires-3 c κs = search needs
 
--- src/checks.rt:31:27
 same-name-requires-4 : tie.Need-same-name-requires-4
 same-name-requires-4 c κs = search needs
 
--- src/checks.rt:31:45
 same-name-requires-5 : tie.Need-same-name-requires-5
 same-name-requires-5 c κs = search needs
 
--- src/checks.rt:31:63
 same-name-requires-6 : tie.Need-same-name-requires-6
 same-name-requires-6 c κs = search needs
 
--- src/checks.rt:22:1
 returns : tie.Need-returns
 returns c =
     let long : length (c .before .before .before .before .before .before .before .before .before .before .args .t2) ≡ 4 = search needs in

@@ -2,59 +2,44 @@ use Rattle.transaction.proofs.Slots.{total-by}
 use Rattle.transaction.specs.Checks.{outputAmount}
 use Rattle.transaction.specs.Tokens.{zeroOutput}
 use lib.ListN.{length}
-use mathlib.Core.Path.{_≡_, refl, sym, ap, _∙_}
+use mathlib.Core.Path.{_≡_}
 use borrow.Author.Needs.{needs}
 use Rattle.transaction.proofs.checks.output_total.Statement.{statement}
 use Rattle.transaction.proofs.checks.output_total.Tie as tie
-use Rattle.transaction.proofs.checks.output_total.Reads as reads
-use Rattle.transaction.proofs.checks.output_total.Lts as lts
-use Rattle.transaction.proofs.checks.wide.Reads as wide-reads
 
--- src/checks.rt:53:13
 array-copy-out-a : tie.Need-array-copy-out-a
 array-copy-out-a c = search needs
 
--- src/checks.rt:54:13
 array-copy-out-b : tie.Need-array-copy-out-b
 array-copy-out-b c = search needs
 
--- src/checks.rt:55:13
 array-copy-out-c : tie.Need-array-copy-out-c
 array-copy-out-c c = search needs
 
--- src/checks.rt:56:13
 array-copy-out-d : tie.Need-array-copy-out-d
 array-copy-out-d c = search needs
 
--- src/checks.rt:57:5
 wide-requires : tie.Need-wide-requires
 wide-requires c κs = search needs
 
--- src/checks.rt:57:22
 wide-requires-2 : tie.Need-wide-requires-2
 wide-requires-2 c κs = search needs
 
--- src/checks.rt:57:5
 add-result : tie.Need-add-result
 add-result c = search needs
 
--- src/checks.rt:57:39
 wide-requires-3 : tie.Need-wide-requires-3
 wide-requires-3 c κs = search needs
 
--- src/checks.rt:57:5
 add-result-2 : tie.Need-add-result-2
 add-result-2 c = search needs
 
--- src/checks.rt:57:56
 wide-requires-4 : tie.Need-wide-requires-4
 wide-requires-4 c κs = search needs
 
--- src/checks.rt:57:5
 add-result-3 : tie.Need-add-result-3
 add-result-3 c = search needs
 
--- src/checks.rt:50:1
 returns : tie.Need-returns
 returns c =
     let long : length (c .before .before .before .before .before .before .before .before .args .t1) ≡ 4 = search needs in

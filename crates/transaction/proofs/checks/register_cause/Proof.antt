@@ -4,26 +4,18 @@ use Rattle.transaction.proofs.Causes.{first-fails, first-passes}
 use borrow.Author.Needs.{needs}
 use Rattle.transaction.proofs.checks.register_cause.Statement.{statement}
 use Rattle.transaction.proofs.checks.register_cause.Tie as tie
-use Rattle.transaction.proofs.checks.register_cause.Reads as reads
-use Rattle.transaction.proofs.checks.register_cause.Lts as lts
-use Rattle.transaction.proofs.checks.cause.Reads as cause-reads
-use Rattle.transaction.proofs.fields.shard_fits.Reads as shard-fits-reads
 
--- src/checks.rt:84:9
 shard-fits-requires : tie.Need-shard-fits-requires
 shard-fits-requires c κs = search needs
 
--- src/checks.rt:85:9
 returns : tie.Need-returns
 returns c =
     let a = c .before .before .args in
     first-fails (shardFits (a .receiver)) 3 (checks (a .genesis) (a .t)) (c .before .shard-fits .ensures) (not-true _ (c .if1 .taken))
 
--- src/checks.rt:87:5
 cause-requires : tie.Need-cause-requires
 cause-requires c κs = search needs
 
--- src/checks.rt:81:1
 returns-2 : tie.Need-returns-2
 unfolding causeOf
 returns-2 c =

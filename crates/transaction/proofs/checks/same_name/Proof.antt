@@ -2,15 +2,10 @@ use Rattle.transaction.specs.Checks.{sameName}
 use borrow.Author.Needs.{needs}
 use Rattle.transaction.proofs.checks.same_name.Statement.{statement}
 use Rattle.transaction.proofs.checks.same_name.Tie as tie
-use Rattle.transaction.proofs.checks.same_name.Reads as reads
-use Rattle.transaction.proofs.checks.same_name.Lts as lts
-use Rattle.transaction.proofs.equality.same_token.Reads as same-token-reads
 
--- src/checks.rt:18:5
 same-token-requires : tie.Need-same-token-requires
 same-token-requires c κs = search needs
 
--- src/checks.rt:15:1
 returns : tie.Need-returns
 unfolding sameName
 returns c = cc

@@ -7,31 +7,22 @@ use Rattle.transaction.proofs.Causes.{first-fails, first-passes}
 use borrow.Author.Needs.{needs}
 use Rattle.transaction.proofs.checks.vote_cause.Statement.{statement}
 use Rattle.transaction.proofs.checks.vote_cause.Tie as tie
-use Rattle.transaction.proofs.checks.vote_cause.Reads as reads
-use Rattle.transaction.proofs.checks.vote_cause.Lts as lts
-use Rattle.transaction.proofs.checks.cause.Reads as cause-reads
-use Rattle.transaction.proofs.fields.shard_fits.Reads as shard-fits-reads
 
--- src/checks.rt:93:10
 shard-fits-requires : tie.Need-shard-fits-requires
 shard-fits-requires c κs = search needs
 
--- src/checks.rt:93:33
 shard-fits-requires-2 : tie.Need-shard-fits-requires-2
 shard-fits-requires-2 c κs = search needs
 
--- src/checks.rt:94:9
 returns : tie.Need-returns
 returns c =
     let a = c .before .before .before .args in
     let e : c .before .before .shard-fits .result && c .before .shard-fits2 .result && leb (a .verdict) 1 ≡ shardFits (a .receiver) && shardFits (a .sender) && leb (a .verdict) 1 = cc in
     first-fails (shardFits (a .receiver) && shardFits (a .sender) && leb (a .verdict) 1) 3 (checks (a .genesis) (a .t)) e (not-true _ (c .if1 .taken))
 
--- src/checks.rt:96:5
 cause-requires : tie.Need-cause-requires
 cause-requires c κs = search needs
 
--- src/checks.rt:90:1
 returns-2 : tie.Need-returns-2
 unfolding causeOf
 returns-2 c =

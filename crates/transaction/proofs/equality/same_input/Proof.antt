@@ -2,15 +2,10 @@ use Rattle.transaction.specs.Tokens.{sameInput}
 use borrow.Author.Needs.{needs}
 use Rattle.transaction.proofs.equality.same_input.Statement.{statement}
 use Rattle.transaction.proofs.equality.same_input.Tie as tie
-use Rattle.transaction.proofs.equality.same_input.Reads as reads
-use Rattle.transaction.proofs.equality.same_input.Lts as lts
-use Rattle.transaction.proofs.equality.same_token.Reads as same-token-reads
 
--- src/equality.rt:20:5
 same-token-requires : tie.Need-same-token-requires
 same-token-requires c κs = search needs
 
--- src/equality.rt:17:1
 returns : tie.Need-returns
 unfolding sameInput
 returns c = cc

@@ -1,63 +1,47 @@
 use Rattle.transaction.proofs.Slots.{agree-by}
 use Rattle.transaction.specs.Tokens.{sameInput, zeroInput}
 use lib.ListN.{length}
-use mathlib.Core.Path.{_≡_, refl, sym, ap, _∙_}
+use mathlib.Core.Path.{_≡_}
 use borrow.Author.Needs.{needs}
 use Rattle.transaction.proofs.equality.same_inputs.Statement.{statement}
 use Rattle.transaction.proofs.equality.same_inputs.Tie as tie
-use Rattle.transaction.proofs.equality.same_inputs.Reads as reads
-use Rattle.transaction.proofs.equality.same_inputs.Lts as lts
-use Rattle.transaction.proofs.equality.same_input.Reads as same-input-reads
 
--- src/equality.rt:32:16
 array-copy-out-same-input : tie.Need-array-copy-out-same-input
 array-copy-out-same-input c = search needs
 
--- src/equality.rt:32:22
 array-copy-out-same-input-2 : tie.Need-array-copy-out-same-input-2
 array-copy-out-same-input-2 c = search needs
 
--- src/equality.rt:32:5
 same-input-requires : tie.Need-same-input-requires
 same-input-requires c κs = search needs
 
--- src/equality.rt:32:41
 array-copy-out-same-input-3 : tie.Need-array-copy-out-same-input-3
 array-copy-out-same-input-3 c = search needs
 
--- src/equality.rt:32:47
 array-copy-out-same-input-4 : tie.Need-array-copy-out-same-input-4
 array-copy-out-same-input-4 c = search needs
 
--- src/equality.rt:32:30
 same-input-requires-2 : tie.Need-same-input-requires-2
 same-input-requires-2 c κs = search needs
 
--- src/equality.rt:32:66
 array-copy-out-same-input-5 : tie.Need-array-copy-out-same-input-5
 array-copy-out-same-input-5 c = search needs
 
--- src/equality.rt:32:72
 array-copy-out-same-input-6 : tie.Need-array-copy-out-same-input-6
 array-copy-out-same-input-6 c = search needs
 
--- src/equality.rt:32:55
 same-input-requires-3 : tie.Need-same-input-requires-3
 same-input-requires-3 c κs = search needs
 
--- src/equality.rt:32:91
 array-copy-out-same-input-7 : tie.Need-array-copy-out-same-input-7
 array-copy-out-same-input-7 c = search needs
 
--- src/equality.rt:32:97
 array-copy-out-same-input-8 : tie.Need-array-copy-out-same-input-8
 array-copy-out-same-input-8 c = search needs
 
--- src/equality.rt:32:80
 same-input-requires-4 : tie.Need-same-input-requires-4
 same-input-requires-4 c κs = search needs
 
--- src/equality.rt:29:1
 returns : tie.Need-returns
 returns c =
     let long : length (c .before .before .before .before .before .before .before .before .before .before .before .before .args .t1) ≡ 4 = search needs in

@@ -2,10 +2,7 @@ use mathlib.Core.Path.{refl}
 use Rattle.transaction.specs.Tokens.{sameOutput}
 use Rattle.transaction.proofs.equality.same_output.Statement.{statement}
 use Rattle.transaction.proofs.equality.same_output.Tie as tie
-use Rattle.transaction.proofs.equality.same_output.Reads as reads
-use Rattle.transaction.proofs.equality.same_output.Lts as lts
 
--- src/equality.rt:23:1
 returns : tie.Need-returns
 unfolding sameOutput
 returns c = refl

@@ -1,63 +1,47 @@
 use Rattle.transaction.proofs.Slots.{agree-by}
 use Rattle.transaction.specs.Tokens.{sameOutput, zeroOutput}
 use lib.ListN.{length}
-use mathlib.Core.Path.{_≡_, refl, sym, ap, _∙_}
+use mathlib.Core.Path.{_≡_}
 use borrow.Author.Needs.{needs}
 use Rattle.transaction.proofs.equality.same_outputs.Statement.{statement}
 use Rattle.transaction.proofs.equality.same_outputs.Tie as tie
-use Rattle.transaction.proofs.equality.same_outputs.Reads as reads
-use Rattle.transaction.proofs.equality.same_outputs.Lts as lts
-use Rattle.transaction.proofs.equality.same_output.Reads as same-output-reads
 
--- src/equality.rt:38:17
 array-copy-out-same-output : tie.Need-array-copy-out-same-output
 array-copy-out-same-output c = search needs
 
--- src/equality.rt:38:23
 array-copy-out-same-output-2 : tie.Need-array-copy-out-same-output-2
 array-copy-out-same-output-2 c = search needs
 
--- src/equality.rt:38:5
 same-output-requires : tie.Need-same-output-requires
 same-output-requires c κs = search needs
 
--- src/equality.rt:38:43
 array-copy-out-same-output-3 : tie.Need-array-copy-out-same-output-3
 array-copy-out-same-output-3 c = search needs
 
--- src/equality.rt:38:49
 array-copy-out-same-output-4 : tie.Need-array-copy-out-same-output-4
 array-copy-out-same-output-4 c = search needs
 
--- src/equality.rt:38:31
 same-output-requires-2 : tie.Need-same-output-requires-2
 same-output-requires-2 c κs = search needs
 
--- src/equality.rt:38:69
 array-copy-out-same-output-5 : tie.Need-array-copy-out-same-output-5
 array-copy-out-same-output-5 c = search needs
 
--- src/equality.rt:38:75
 array-copy-out-same-output-6 : tie.Need-array-copy-out-same-output-6
 array-copy-out-same-output-6 c = search needs
 
--- src/equality.rt:38:57
 same-output-requires-3 : tie.Need-same-output-requires-3
 same-output-requires-3 c κs = search needs
 
--- src/equality.rt:38:95
 array-copy-out-same-output-7 : tie.Need-array-copy-out-same-output-7
 array-copy-out-same-output-7 c = search needs
 
--- src/equality.rt:38:101
 array-copy-out-same-output-8 : tie.Need-array-copy-out-same-output-8
 array-copy-out-same-output-8 c = search needs
 
--- src/equality.rt:38:83
 same-output-requires-4 : tie.Need-same-output-requires-4
 same-output-requires-4 c κs = search needs
 
--- src/equality.rt:35:1
 returns : tie.Need-returns
 returns c =
     let long : length (c .before .before .before .before .before .before .before .before .before .before .before .before .args .t1) ≡ 4 = search needs in

@@ -2,10 +2,7 @@ use mathlib.Core.Path.{refl}
 use Rattle.transaction.specs.Tokens.{sameToken}
 use Rattle.transaction.proofs.equality.same_token.Statement.{statement}
 use Rattle.transaction.proofs.equality.same_token.Tie as tie
-use Rattle.transaction.proofs.equality.same_token.Reads as reads
-use Rattle.transaction.proofs.equality.same_token.Lts as lts
 
--- src/equality.rt:11:1
 returns : tie.Need-returns
 unfolding sameToken
 returns c = refl

@@ -2,15 +2,11 @@ use borrow.Author.Tests.{ne-eqb}
 use Rattle.transaction.specs.Checks.{indexFits}
 use Rattle.transaction.proofs.fields.index_fits.Statement.{statement}
 use Rattle.transaction.proofs.fields.index_fits.Tie as tie
-use Rattle.transaction.proofs.fields.index_fits.Reads as reads
-use Rattle.transaction.proofs.fields.index_fits.Lts as lts
 
--- src/fields.rt:21:1
 returns : tie.Need-returns
 unfolding indexFits
 returns c = rw (c .if1 .taken)
 
--- src/fields.rt:21:1
 returns-2 : tie.Need-returns-2
 unfolding indexFits
 returns-2 c = rw (ne-eqb _ _ (c .if1 .left))

@@ -2,47 +2,35 @@ use Rattle.transaction.proofs.Slots.{slots-by}
 use Rattle.transaction.specs.Checks.{inputFits}
 use Rattle.transaction.specs.Tokens.{sameInput, zeroInput}
 use lib.ListN.{length}
-use mathlib.Core.Path.{_≡_, refl, sym, ap, _∙_}
+use mathlib.Core.Path.{_≡_}
 use borrow.Author.Needs.{needs}
 use Rattle.transaction.proofs.fields.inputs_fit.Statement.{statement}
 use Rattle.transaction.proofs.fields.inputs_fit.Tie as tie
-use Rattle.transaction.proofs.fields.inputs_fit.Reads as reads
-use Rattle.transaction.proofs.fields.inputs_fit.Lts as lts
-use Rattle.transaction.proofs.fields.input_slot_fits.Reads as input-slot-fits-reads
 
--- src/fields.rt:74:41
 array-copy-out-input-slot-fits : tie.Need-array-copy-out-input-slot-fits
 array-copy-out-input-slot-fits c = search needs
 
--- src/fields.rt:74:5
 input-slot-fits-requires : tie.Need-input-slot-fits-requires
 input-slot-fits-requires c κs = search needs
 
--- src/fields.rt:75:47
 array-copy-out-input-slot-fits-2 : tie.Need-array-copy-out-input-slot-fits-2
 array-copy-out-input-slot-fits-2 c = search needs
 
--- src/fields.rt:75:11
 input-slot-fits-requires-2 : tie.Need-input-slot-fits-requires-2
 input-slot-fits-requires-2 c κs = search needs
 
--- src/fields.rt:76:47
 array-copy-out-input-slot-fits-3 : tie.Need-array-copy-out-input-slot-fits-3
 array-copy-out-input-slot-fits-3 c = search needs
 
--- src/fields.rt:76:11
 input-slot-fits-requires-3 : tie.Need-input-slot-fits-requires-3
 input-slot-fits-requires-3 c κs = search needs
 
--- src/fields.rt:77:47
 array-copy-out-input-slot-fits-4 : tie.Need-array-copy-out-input-slot-fits-4
 array-copy-out-input-slot-fits-4 c = search needs
 
--- src/fields.rt:77:11
 input-slot-fits-requires-4 : tie.Need-input-slot-fits-requires-4
 input-slot-fits-requires-4 c κs = search needs
 
--- src/fields.rt:71:1
 returns : tie.Need-returns
 returns c =
     let long : length (c .before .before .before .before .before .before .before .before .args .t3) ≡ 4 = search needs in

@@ -2,47 +2,35 @@ use Rattle.transaction.proofs.Slots.{slots-by}
 use Rattle.transaction.specs.Checks.{outputFits}
 use Rattle.transaction.specs.Tokens.{sameOutput, zeroOutput}
 use lib.ListN.{length}
-use mathlib.Core.Path.{_≡_, refl, sym, ap, _∙_}
+use mathlib.Core.Path.{_≡_}
 use borrow.Author.Needs.{needs}
 use Rattle.transaction.proofs.fields.outputs_fit.Statement.{statement}
 use Rattle.transaction.proofs.fields.outputs_fit.Tie as tie
-use Rattle.transaction.proofs.fields.outputs_fit.Reads as reads
-use Rattle.transaction.proofs.fields.outputs_fit.Lts as lts
-use Rattle.transaction.proofs.fields.output_slot_fits.Reads as output-slot-fits-reads
 
--- src/fields.rt:83:33
 array-copy-out-output-slot-fits : tie.Need-array-copy-out-output-slot-fits
 array-copy-out-output-slot-fits c = search needs
 
--- src/fields.rt:83:5
 output-slot-fits-requires : tie.Need-output-slot-fits-requires
 output-slot-fits-requires c κs = search needs
 
--- src/fields.rt:84:39
 array-copy-out-output-slot-fits-2 : tie.Need-array-copy-out-output-slot-fits-2
 array-copy-out-output-slot-fits-2 c = search needs
 
--- src/fields.rt:84:11
 output-slot-fits-requires-2 : tie.Need-output-slot-fits-requires-2
 output-slot-fits-requires-2 c κs = search needs
 
--- src/fields.rt:85:39
 array-copy-out-output-slot-fits-3 : tie.Need-array-copy-out-output-slot-fits-3
 array-copy-out-output-slot-fits-3 c = search needs
 
--- src/fields.rt:85:11
 output-slot-fits-requires-3 : tie.Need-output-slot-fits-requires-3
 output-slot-fits-requires-3 c κs = search needs
 
--- src/fields.rt:86:39
 array-copy-out-output-slot-fits-4 : tie.Need-array-copy-out-output-slot-fits-4
 array-copy-out-output-slot-fits-4 c = search needs
 
--- src/fields.rt:86:11
 output-slot-fits-requires-4 : tie.Need-output-slot-fits-requires-4
 output-slot-fits-requires-4 c κs = search needs
 
--- src/fields.rt:80:1
 returns : tie.Need-returns
 returns c =
     let long : length (c .before .before .before .before .before .before .before .before .args .t2) ≡ 4 = search needs in

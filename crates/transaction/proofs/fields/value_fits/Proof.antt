@@ -2,10 +2,7 @@ use mathlib.Core.Path.{refl}
 use Rattle.transaction.specs.Checks.{valueFits}
 use Rattle.transaction.proofs.fields.value_fits.Statement.{statement}
 use Rattle.transaction.proofs.fields.value_fits.Tie as tie
-use Rattle.transaction.proofs.fields.value_fits.Reads as reads
-use Rattle.transaction.proofs.fields.value_fits.Lts as lts
 
--- src/fields.rt:27:1
 returns : tie.Need-returns
 unfolding valueFits
 returns c = refl

@@ -3,47 +3,35 @@ use Rattle.transaction.specs.declared.Input.{Input}
 use lib.Dec.{eqb}
 use Rattle.transaction.specs.Tokens.{inputShard, zeroInput}
 use lib.ListN.{length, take}
-use mathlib.Core.Path.{_≡_, refl, sym, ap, _∙_}
+use mathlib.Core.Path.{_≡_, sym, _∙_}
 use borrow.Author.Needs.{needs}
 use Rattle.transaction.proofs.parts.some_input_at.Statement.{statement}
 use Rattle.transaction.proofs.parts.some_input_at.Tie as tie
-use Rattle.transaction.proofs.parts.some_input_at.Reads as reads
-use Rattle.transaction.proofs.parts.some_input_at.Lts as lts
-use Rattle.transaction.proofs.parts.input_is_at.Reads as input-is-at-reads
 
--- src/parts.rt:65:39
 array-copy-out-input-is-at : tie.Need-array-copy-out-input-is-at
 array-copy-out-input-is-at c = search needs
 
--- src/parts.rt:65:20
 input-is-at-requires : tie.Need-input-is-at-requires
 input-is-at-requires c κs = search needs
 
--- src/parts.rt:66:45
 array-copy-out-input-is-at-2 : tie.Need-array-copy-out-input-is-at-2
 array-copy-out-input-is-at-2 c = search needs
 
--- src/parts.rt:66:26
 input-is-at-requires-2 : tie.Need-input-is-at-requires-2
 input-is-at-requires-2 c κs = search needs
 
--- src/parts.rt:67:45
 array-copy-out-input-is-at-3 : tie.Need-array-copy-out-input-is-at-3
 array-copy-out-input-is-at-3 c = search needs
 
--- src/parts.rt:67:26
 input-is-at-requires-3 : tie.Need-input-is-at-requires-3
 input-is-at-requires-3 c κs = search needs
 
--- src/parts.rt:68:45
 array-copy-out-input-is-at-4 : tie.Need-array-copy-out-input-is-at-4
 array-copy-out-input-is-at-4 c = search needs
 
--- src/parts.rt:68:26
 input-is-at-requires-4 : tie.Need-input-is-at-requires-4
 input-is-at-requires-4 c κs = search needs
 
--- src/parts.rt:62:1
 returns : tie.Need-returns
 returns c =
     let long : length (c .before .before .before .before .before .before .before .before .args .t3) ≡ 4 = search needs in

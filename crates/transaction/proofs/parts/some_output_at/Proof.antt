@@ -3,47 +3,35 @@ use Rattle.transaction.specs.declared.Output.{Output}
 use lib.Dec.{eqb}
 use Rattle.transaction.specs.Tokens.{outputShard, zeroOutput}
 use lib.ListN.{length, take}
-use mathlib.Core.Path.{_≡_, refl, sym, ap, _∙_}
+use mathlib.Core.Path.{_≡_, sym, _∙_}
 use borrow.Author.Needs.{needs}
 use Rattle.transaction.proofs.parts.some_output_at.Statement.{statement}
 use Rattle.transaction.proofs.parts.some_output_at.Tie as tie
-use Rattle.transaction.proofs.parts.some_output_at.Reads as reads
-use Rattle.transaction.proofs.parts.some_output_at.Lts as lts
-use Rattle.transaction.proofs.parts.output_is_at.Reads as output-is-at-reads
 
--- src/parts.rt:80:40
 array-copy-out-output-is-at : tie.Need-array-copy-out-output-is-at
 array-copy-out-output-is-at c = search needs
 
--- src/parts.rt:80:20
 output-is-at-requires : tie.Need-output-is-at-requires
 output-is-at-requires c κs = search needs
 
--- src/parts.rt:81:46
 array-copy-out-output-is-at-2 : tie.Need-array-copy-out-output-is-at-2
 array-copy-out-output-is-at-2 c = search needs
 
--- src/parts.rt:81:26
 output-is-at-requires-2 : tie.Need-output-is-at-requires-2
 output-is-at-requires-2 c κs = search needs
 
--- src/parts.rt:82:46
 array-copy-out-output-is-at-3 : tie.Need-array-copy-out-output-is-at-3
 array-copy-out-output-is-at-3 c = search needs
 
--- src/parts.rt:82:26
 output-is-at-requires-3 : tie.Need-output-is-at-requires-3
 output-is-at-requires-3 c κs = search needs
 
--- src/parts.rt:83:46
 array-copy-out-output-is-at-4 : tie.Need-array-copy-out-output-is-at-4
 array-copy-out-output-is-at-4 c = search needs
 
--- src/parts.rt:83:26
 output-is-at-requires-4 : tie.Need-output-is-at-requires-4
 output-is-at-requires-4 c κs = search needs
 
--- src/parts.rt:77:1
 returns : tie.Need-returns
 returns c =
     let long : length (c .before .before .before .before .before .before .before .before .args .t3) ≡ 4 = search needs in

@@ -2,18 +2,14 @@ use lib.Seq.{getD-take}
 use Rattle.transaction.specs.Tokens.{usedInput, zeroInput}
 use Rattle.transaction.proofs.Slots.{used-beyond, used-none, used-some}
 use Rattle.transaction.proofs.Long.{long-of}
-use mathlib.Core.Path.{_≡_, refl, sym, ap, _∙_}
+use mathlib.Core.Path.{refl}
 use borrow.Author.Needs.{needs}
 use Rattle.transaction.proofs.parts.used_input.Statement.{statement}
 use Rattle.transaction.proofs.parts.used_input.Tie as tie
-use Rattle.transaction.proofs.parts.used_input.Reads as reads
-use Rattle.transaction.proofs.parts.used_input.Lts as lts
 
--- src/parts.rt:29:17
 cast-count : tie.Need-cast-count
 cast-count c = search needs
 
--- src/parts.rt:31:9
 returns : tie.Need-returns
 unfolding usedInput
 returns c =
@@ -21,15 +17,12 @@ returns c =
     let long = long-of t (c .before .before .before .good .0) .inputs in
     rw (used-beyond zeroInput (t .inputs) long (t .«input_count») (c .before .before .before .args .place) (c .if1 .taken)) refl
 
--- src/parts.rt:34:23
 mul-t7 : tie.Need-mul-t7
 mul-t7 c = search needs
 
--- src/parts.rt:34:23
 array-copy-out-t10 : tie.Need-array-copy-out-t10
 array-copy-out-t10 c = search needs
 
--- src/parts.rt:25:1
 returns-2 : tie.Need-returns-2
 unfolding usedInput
 returns-2 c =
@@ -37,7 +30,6 @@ returns-2 c =
     let long = long-of t (c .before .before .before .before .before .good .0) .inputs in
     rw (used-some zeroInput (t .inputs) long (t .«input_count») (c .before .before .before .before .before .args .place) (c .before .before .if1 .left) (c .before .if2 .taken), getD-take (t .«input_count») (t .inputs) (c .before .before .before .before .before .args .place) zeroInput (c .before .if2 .taken)) refl
 
--- src/parts.rt:25:1
 returns-3 : tie.Need-returns-3
 unfolding usedInput
 returns-3 c =

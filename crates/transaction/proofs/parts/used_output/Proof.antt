@@ -2,18 +2,14 @@ use lib.Seq.{getD-take}
 use Rattle.transaction.specs.Tokens.{usedOutput, zeroOutput}
 use Rattle.transaction.proofs.Slots.{used-beyond, used-none, used-some}
 use Rattle.transaction.proofs.Long.{long-of}
-use mathlib.Core.Path.{_≡_, refl, sym, ap, _∙_}
+use mathlib.Core.Path.{refl}
 use borrow.Author.Needs.{needs}
 use Rattle.transaction.proofs.parts.used_output.Statement.{statement}
 use Rattle.transaction.proofs.parts.used_output.Tie as tie
-use Rattle.transaction.proofs.parts.used_output.Reads as reads
-use Rattle.transaction.proofs.parts.used_output.Lts as lts
 
--- src/parts.rt:44:17
 cast-count : tie.Need-cast-count
 cast-count c = search needs
 
--- src/parts.rt:46:9
 returns : tie.Need-returns
 unfolding usedOutput
 returns c =
@@ -21,15 +17,12 @@ returns c =
     let long = long-of t (c .before .before .before .good .0) .outputs in
     rw (used-beyond zeroOutput (t .outputs) long (t .«output_count») (c .before .before .before .args .place) (c .if1 .taken)) refl
 
--- src/parts.rt:49:24
 mul-t7 : tie.Need-mul-t7
 mul-t7 c = search needs
 
--- src/parts.rt:49:24
 array-copy-out-t10 : tie.Need-array-copy-out-t10
 array-copy-out-t10 c = search needs
 
--- src/parts.rt:40:1
 returns-2 : tie.Need-returns-2
 unfolding usedOutput
 returns-2 c =
@@ -37,7 +30,6 @@ returns-2 c =
     let long = long-of t (c .before .before .before .before .before .good .0) .outputs in
     rw (used-some zeroOutput (t .outputs) long (t .«output_count») (c .before .before .before .before .before .args .place) (c .before .before .if1 .left) (c .before .if2 .taken), getD-take (t .«output_count») (t .outputs) (c .before .before .before .before .before .args .place) zeroOutput (c .before .if2 .taken)) refl
 
--- src/parts.rt:40:1
 returns-3 : tie.Need-returns-3
 unfolding usedOutput
 returns-3 c =

@@ -3,52 +3,37 @@ use denote.Ref.{now}
 use borrow.Author.Needs.{needs}
 use Rattle.writer.proofs.layout.put_input.Statement.{statement}
 use Rattle.writer.proofs.layout.put_input.Tie as tie
-use Rattle.writer.proofs.layout.put_input.Reads as reads
-use Rattle.writer.proofs.layout.put_input.Lts as lts
-use Rattle.writer.proofs.layout.put_byte.Reads as put-byte-reads
-use Rattle.writer.proofs.layout.put_word.Reads as put-word-reads
 
--- src/layout.rt:35:5
 put-byte-requires : tie.Need-put-byte-requires
 put-byte-requires c κs = search needs
 
--- src/layout.rt:36:19
 add-put-word : tie.Need-add-put-word
 add-put-word c = search needs
 
--- src/layout.rt:36:5
 put-word-requires : tie.Need-put-word-requires
 put-word-requires c κs = search needs
 
--- src/layout.rt:37:19
 add-put-byte : tie.Need-add-put-byte
 add-put-byte c = search needs
 
--- src/layout.rt:37:5
 put-byte-requires-2 : tie.Need-put-byte-requires-2
 put-byte-requires-2 c κs = search needs
 
--- src/layout.rt:38:19
 add-put-word-2 : tie.Need-add-put-word-2
 add-put-word-2 c = search needs
 
--- src/layout.rt:38:5
 put-word-requires-2 : tie.Need-put-word-requires-2
 put-word-requires-2 c κs = search needs
 
--- src/layout.rt:39:19
 add-put-word-3 : tie.Need-add-put-word-3
 add-put-word-3 c = search needs
 
--- src/layout.rt:39:5
 put-word-requires-3 : tie.Need-put-word-requires-3
 put-word-requires-3 c κs = search needs
 
--- src/layout.rt:30:1
 same-length : tie.Need-same-length
 same-length c = search needs
 
--- src/layout.rt:30:1
 returns : tie.Need-returns
 returns c =
     let a = c .before .before .before .before .before .before .before .before .before .before .before .before .before .before .before .before .before .before .before .before .before .before .args in

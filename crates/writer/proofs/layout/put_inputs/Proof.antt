@@ -3,59 +3,43 @@ use denote.Ref.{now}
 use borrow.Author.Needs.{needs}
 use Rattle.writer.proofs.layout.put_inputs.Statement.{statement}
 use Rattle.writer.proofs.layout.put_inputs.Tie as tie
-use Rattle.writer.proofs.layout.put_inputs.Reads as reads
-use Rattle.writer.proofs.layout.put_inputs.Lts as lts
-use Rattle.writer.proofs.layout.put_input.Reads as put-input-reads
 
--- src/layout.rt:55:24
 array-copy-out-put-input : tie.Need-array-copy-out-put-input
 array-copy-out-put-input c = search needs
 
--- src/layout.rt:55:5
 put-input-requires : tie.Need-put-input-requires
 put-input-requires c κs = search needs
 
--- src/layout.rt:56:20
 add-put-input : tie.Need-add-put-input
 add-put-input c = search needs
 
--- src/layout.rt:56:29
 array-copy-out-put-input-2 : tie.Need-array-copy-out-put-input-2
 array-copy-out-put-input-2 c = search needs
 
--- src/layout.rt:56:5
 put-input-requires-2 : tie.Need-put-input-requires-2
 put-input-requires-2 c κs = search needs
 
--- src/layout.rt:57:20
 add-put-input-2 : tie.Need-add-put-input-2
 add-put-input-2 c = search needs
 
--- src/layout.rt:57:29
 array-copy-out-put-input-3 : tie.Need-array-copy-out-put-input-3
 array-copy-out-put-input-3 c = search needs
 
--- src/layout.rt:57:5
 put-input-requires-3 : tie.Need-put-input-requires-3
 put-input-requires-3 c κs = search needs
 
--- src/layout.rt:58:20
 add-put-input-3 : tie.Need-add-put-input-3
 add-put-input-3 c = search needs
 
--- src/layout.rt:58:29
 array-copy-out-put-input-4 : tie.Need-array-copy-out-put-input-4
 array-copy-out-put-input-4 c = search needs
 
--- src/layout.rt:58:5
 put-input-requires-4 : tie.Need-put-input-requires-4
 put-input-requires-4 c κs = search needs
 
--- src/layout.rt:51:1
 same-length : tie.Need-same-length
 same-length c = search needs
 
--- src/layout.rt:51:1
 returns : tie.Need-returns
 returns c =
     let a = c .before .before .before .before .before .before .before .before .before .before .before .before .before .before .before .before .before .before .before .before .before .args in

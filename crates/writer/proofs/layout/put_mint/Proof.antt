@@ -3,36 +3,25 @@ use denote.Ref.{now}
 use borrow.Author.Needs.{needs}
 use Rattle.writer.proofs.layout.put_mint.Statement.{statement}
 use Rattle.writer.proofs.layout.put_mint.Tie as tie
-use Rattle.writer.proofs.layout.put_mint.Reads as reads
-use Rattle.writer.proofs.layout.put_mint.Lts as lts
-use Rattle.writer.proofs.layout.put_byte.Reads as put-byte-reads
-use Rattle.writer.proofs.layout.put_word.Reads as put-word-reads
 
--- src/layout.rt:109:5
 put-byte-requires : tie.Need-put-byte-requires
 put-byte-requires c κs = search needs
 
--- src/layout.rt:110:5
 put-byte-requires-2 : tie.Need-put-byte-requires-2
 put-byte-requires-2 c κs = search needs
 
--- src/layout.rt:111:5
 put-byte-requires-3 : tie.Need-put-byte-requires-3
 put-byte-requires-3 c κs = search needs
 
--- src/layout.rt:112:5
 put-word-requires : tie.Need-put-word-requires
 put-word-requires c κs = search needs
 
--- src/layout.rt:113:5
 put-word-requires-2 : tie.Need-put-word-requires-2
 put-word-requires-2 c κs = search needs
 
--- src/layout.rt:105:1
 same-length : tie.Need-same-length
 same-length c = search needs
 
--- src/layout.rt:105:1
 returns : tie.Need-returns
 returns c =
     let a = c .before .before .before .before .before .before .before .before .before .before .before .before .before .before .before .before .before .before .before .before .before .args in

@@ -3,36 +3,25 @@ use denote.Ref.{now}
 use borrow.Author.Needs.{needs}
 use Rattle.writer.proofs.layout.put_output.Statement.{statement}
 use Rattle.writer.proofs.layout.put_output.Tie as tie
-use Rattle.writer.proofs.layout.put_output.Reads as reads
-use Rattle.writer.proofs.layout.put_output.Lts as lts
-use Rattle.writer.proofs.layout.put_byte.Reads as put-byte-reads
-use Rattle.writer.proofs.layout.put_word.Reads as put-word-reads
 
--- src/layout.rt:46:5
 put-byte-requires : tie.Need-put-byte-requires
 put-byte-requires c κs = search needs
 
--- src/layout.rt:47:19
 add-put-word : tie.Need-add-put-word
 add-put-word c = search needs
 
--- src/layout.rt:47:5
 put-word-requires : tie.Need-put-word-requires
 put-word-requires c κs = search needs
 
--- src/layout.rt:48:19
 add-put-word-2 : tie.Need-add-put-word-2
 add-put-word-2 c = search needs
 
--- src/layout.rt:48:5
 put-word-requires-2 : tie.Need-put-word-requires-2
 put-word-requires-2 c κs = search needs
 
--- src/layout.rt:42:1
 same-length : tie.Need-same-length
 same-length c = search needs
 
--- src/layout.rt:42:1
 returns : tie.Need-returns
 returns c =
     let a = c .before .before .before .before .before .before .before .before .before .before .before .before .before .args in

@@ -3,59 +3,43 @@ use denote.Ref.{now}
 use borrow.Author.Needs.{needs}
 use Rattle.writer.proofs.layout.put_outputs.Statement.{statement}
 use Rattle.writer.proofs.layout.put_outputs.Tie as tie
-use Rattle.writer.proofs.layout.put_outputs.Reads as reads
-use Rattle.writer.proofs.layout.put_outputs.Lts as lts
-use Rattle.writer.proofs.layout.put_output.Reads as put-output-reads
 
--- src/layout.rt:65:25
 array-copy-out-put-output : tie.Need-array-copy-out-put-output
 array-copy-out-put-output c = search needs
 
--- src/layout.rt:65:5
 put-output-requires : tie.Need-put-output-requires
 put-output-requires c κs = search needs
 
--- src/layout.rt:66:21
 add-put-output : tie.Need-add-put-output
 add-put-output c = search needs
 
--- src/layout.rt:66:29
 array-copy-out-put-output-2 : tie.Need-array-copy-out-put-output-2
 array-copy-out-put-output-2 c = search needs
 
--- src/layout.rt:66:5
 put-output-requires-2 : tie.Need-put-output-requires-2
 put-output-requires-2 c κs = search needs
 
--- src/layout.rt:67:21
 add-put-output-2 : tie.Need-add-put-output-2
 add-put-output-2 c = search needs
 
--- src/layout.rt:67:30
 array-copy-out-put-output-3 : tie.Need-array-copy-out-put-output-3
 array-copy-out-put-output-3 c = search needs
 
--- src/layout.rt:67:5
 put-output-requires-3 : tie.Need-put-output-requires-3
 put-output-requires-3 c κs = search needs
 
--- src/layout.rt:68:21
 add-put-output-3 : tie.Need-add-put-output-3
 add-put-output-3 c = search needs
 
--- src/layout.rt:68:30
 array-copy-out-put-output-4 : tie.Need-array-copy-out-put-output-4
 array-copy-out-put-output-4 c = search needs
 
--- src/layout.rt:68:5
 put-output-requires-4 : tie.Need-put-output-requires-4
 put-output-requires-4 c κs = search needs
 
--- src/layout.rt:61:1
 same-length : tie.Need-same-length
 same-length c = search needs
 
--- src/layout.rt:61:1
 returns : tie.Need-returns
 returns c =
     let a = c .before .before .before .before .before .before .before .before .before .before .before .before .before .before .before .before .before .before .before .before .before .args in

@@ -3,54 +3,37 @@ use denote.Ref.{now}
 use borrow.Author.Needs.{needs}
 use Rattle.writer.proofs.layout.put_transaction.Statement.{statement}
 use Rattle.writer.proofs.layout.put_transaction.Tie as tie
-use Rattle.writer.proofs.layout.put_transaction.Reads as reads
-use Rattle.writer.proofs.layout.put_transaction.Lts as lts
-use Rattle.writer.proofs.layout.put_byte.Reads as put-byte-reads
-use Rattle.writer.proofs.layout.put_inputs.Reads as put-inputs-reads
-use Rattle.writer.proofs.layout.put_outputs.Reads as put-outputs-reads
-use Rattle.writer.proofs.layout.put_word.Reads as put-word-reads
 
--- src/layout.rt:77:5
 put-word-requires : tie.Need-put-word-requires
 put-word-requires c κs = search needs
 
--- src/layout.rt:78:19
 add-put-byte : tie.Need-add-put-byte
 add-put-byte c = search needs
 
--- src/layout.rt:78:5
 put-byte-requires : tie.Need-put-byte-requires
 put-byte-requires c κs = search needs
 
--- src/layout.rt:79:19
 add-put-byte-2 : tie.Need-add-put-byte-2
 add-put-byte-2 c = search needs
 
--- src/layout.rt:79:5
 put-byte-requires-2 : tie.Need-put-byte-requires-2
 put-byte-requires-2 c κs = search needs
 
--- src/layout.rt:80:21
 add-put-inputs : tie.Need-add-put-inputs
 add-put-inputs c = search needs
 
--- src/layout.rt:80:5
 put-inputs-requires : tie.Need-put-inputs-requires
 put-inputs-requires c κs = search needs
 
--- src/layout.rt:81:22
 add-put-outputs : tie.Need-add-put-outputs
 add-put-outputs c = search needs
 
--- src/layout.rt:81:5
 put-outputs-requires : tie.Need-put-outputs-requires
 put-outputs-requires c κs = search needs
 
--- src/layout.rt:71:1
 same-length : tie.Need-same-length
 same-length c = search needs
 
--- src/layout.rt:71:1
 returns : tie.Need-returns
 returns c =
     let a = c .before .before .before .before .before .before .before .before .before .before .before .before .before .before .before .before .before .before .before .before .before .before .before .args in

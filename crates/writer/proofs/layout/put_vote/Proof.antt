@@ -3,36 +3,25 @@ use denote.Ref.{now}
 use borrow.Author.Needs.{needs}
 use Rattle.writer.proofs.layout.put_vote.Statement.{statement}
 use Rattle.writer.proofs.layout.put_vote.Tie as tie
-use Rattle.writer.proofs.layout.put_vote.Reads as reads
-use Rattle.writer.proofs.layout.put_vote.Lts as lts
-use Rattle.writer.proofs.layout.put_byte.Reads as put-byte-reads
-use Rattle.writer.proofs.layout.put_transaction.Reads as put-transaction-reads
 
--- src/layout.rt:98:5
 put-byte-requires : tie.Need-put-byte-requires
 put-byte-requires c κs = search needs
 
--- src/layout.rt:99:5
 put-byte-requires-2 : tie.Need-put-byte-requires-2
 put-byte-requires-2 c κs = search needs
 
--- src/layout.rt:100:5
 put-byte-requires-3 : tie.Need-put-byte-requires-3
 put-byte-requires-3 c κs = search needs
 
--- src/layout.rt:101:5
 put-byte-requires-4 : tie.Need-put-byte-requires-4
 put-byte-requires-4 c κs = search needs
 
--- src/layout.rt:102:5
 put-transaction-requires : tie.Need-put-transaction-requires
 put-transaction-requires c κs = search needs
 
--- src/layout.rt:94:1
 same-length : tie.Need-same-length
 same-length c = search needs
 
--- src/layout.rt:94:1
 returns : tie.Need-returns
 returns c =
     let a = c .before .before .before .before .before .before .before .before .before .before .before .before .before .before .before .before .before .before .before .before .before .args in

@@ -3,59 +3,43 @@ use denote.Ref.{now}
 use borrow.Author.Needs.{needs}
 use Rattle.writer.proofs.layout.put_word.Statement.{statement}
 use Rattle.writer.proofs.layout.put_word.Tie as tie
-use Rattle.writer.proofs.layout.put_word.Reads as reads
-use Rattle.writer.proofs.layout.put_word.Lts as lts
-use Rattle.writer.proofs.layout.put_byte.Reads as put-byte-reads
 
--- src/layout.rt:24:23
 cast-put-byte : tie.Need-cast-put-byte
 cast-put-byte c = search needs
 
--- src/layout.rt:24:5
 put-byte-requires : tie.Need-put-byte-requires
 put-byte-requires c κs = search needs
 
--- src/layout.rt:25:19
 add-put-byte : tie.Need-add-put-byte
 add-put-byte c = search needs
 
--- src/layout.rt:25:27
 cast-put-byte-2 : tie.Need-cast-put-byte-2
 cast-put-byte-2 c = search needs
 
--- src/layout.rt:25:5
 put-byte-requires-2 : tie.Need-put-byte-requires-2
 put-byte-requires-2 c κs = search needs
 
--- src/layout.rt:26:19
 add-put-byte-2 : tie.Need-add-put-byte-2
 add-put-byte-2 c = search needs
 
--- src/layout.rt:26:27
 cast-put-byte-3 : tie.Need-cast-put-byte-3
 cast-put-byte-3 c = search needs
 
--- src/layout.rt:26:5
 put-byte-requires-3 : tie.Need-put-byte-requires-3
 put-byte-requires-3 c κs = search needs
 
--- src/layout.rt:27:19
 add-put-byte-3 : tie.Need-add-put-byte-3
 add-put-byte-3 c = search needs
 
--- src/layout.rt:27:27
 cast-put-byte-4 : tie.Need-cast-put-byte-4
 cast-put-byte-4 c = search needs
 
--- src/layout.rt:27:5
 put-byte-requires-4 : tie.Need-put-byte-requires-4
 put-byte-requires-4 c κs = search needs
 
--- src/layout.rt:20:1
 same-length : tie.Need-same-length
 same-length c = search needs
 
--- src/layout.rt:20:1
 returns : tie.Need-returns
 returns c =
     let a = c .before .before .before .before .before .before .before .before .before .before .before .before .before .before .before .before .before .args in

@@ -1,33 +1,26 @@
 use Rattle.transaction.specs.Checks.{house, mintChecks}
 use Rattle.writer.specs.Writing.{mintCause}
 use Rattle.writer.proofs.Writes.{room-refused, room-short, room-enough}
-use mathlib.Core.Path.{_≡_, refl, sym, ap, _∙_}
+use mathlib.Core.Path.{refl}
 use borrow.Author.Needs.{needs}
 use Rattle.writer.proofs.room.mint_cause.Statement.{statement}
 use Rattle.writer.proofs.room.mint_cause.Tie as tie
-use Rattle.writer.proofs.room.mint_cause.Reads as reads
-use Rattle.writer.proofs.room.mint_cause.Lts as lts
-use Rattle.transaction.proofs.checks.mint_cause.Reads as mint-cause-reads
 
--- src/room.rt:31:9
 mint-cause-requires : tie.Need-mint-cause-requires
 mint-cause-requires c κs = search needs
 
--- src/room.rt:33:9
 returns : tie.Need-returns
 unfolding mintCause
 returns c =
     let a = c .before .before .args in
     room-refused (mintChecks house (a .receiver) (a .index) (a .owner) (a .amount)) 11 (a .room) (c .before .mint-cause .ensures) (c .if1 .taken)
 
--- src/room.rt:28:1
 returns-2 : tie.Need-returns-2
 unfolding mintCause
 returns-2 c =
     let a = c .before .before .before .args in
     room-short (mintChecks house (a .receiver) (a .index) (a .owner) (a .amount)) 11 (a .room) refl (c .before .before .mint-cause .ensures) (c .before .if1 .left) (c .if2 .taken)
 
--- src/room.rt:28:1
 returns-3 : tie.Need-returns-3
 unfolding mintCause
 returns-3 c =

@@ -1,33 +1,26 @@
 use Rattle.transaction.specs.Checks.{house, registerChecks}
 use Rattle.writer.specs.Writing.{registerCause}
 use Rattle.writer.proofs.Writes.{room-refused, room-short, room-enough}
-use mathlib.Core.Path.{_≡_, refl, sym, ap, _∙_}
+use mathlib.Core.Path.{refl}
 use borrow.Author.Needs.{needs}
 use Rattle.writer.proofs.room.register_cause.Statement.{statement}
 use Rattle.writer.proofs.room.register_cause.Tie as tie
-use Rattle.writer.proofs.room.register_cause.Reads as reads
-use Rattle.writer.proofs.room.register_cause.Lts as lts
-use Rattle.transaction.proofs.checks.register_cause.Reads as register-cause-reads
 
--- src/room.rt:11:9
 register-cause-requires : tie.Need-register-cause-requires
 register-cause-requires c κs = search needs
 
--- src/room.rt:13:9
 returns : tie.Need-returns
 unfolding registerCause
 returns c =
     let a = c .before .before .args in
     room-refused (registerChecks house (a .receiver) (a .t)) 100 (a .room) (c .before .register-cause .ensures) (c .if1 .taken)
 
--- src/room.rt:8:1
 returns-2 : tie.Need-returns-2
 unfolding registerCause
 returns-2 c =
     let a = c .before .before .before .args in
     room-short (registerChecks house (a .receiver) (a .t)) 100 (a .room) refl (c .before .before .register-cause .ensures) (c .before .if1 .left) (c .if2 .taken)
 
--- src/room.rt:8:1
 returns-3 : tie.Need-returns-3
 unfolding registerCause
 returns-3 c =
