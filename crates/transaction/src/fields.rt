@@ -74,20 +74,22 @@ fn zero_output() -> Output
 fn input_slot_fits(genesis: u8, used: bool, x: Input) -> bool
     ensures { λ r. ⌜ r ≡ cond used (inputFits genesis x) (sameInput zeroInput x) ⌝ }
 {
+    let zero = zero_input();
     if used {
         input_fits(genesis, x)
     } else {
-        same_input(zero_input(), x)
+        same_input(zero, x)
     }
 }
 
 fn output_slot_fits(used: bool, y: Output) -> bool
     ensures { λ r. ⌜ r ≡ cond used (outputFits y) (sameOutput zeroOutput y) ⌝ }
 {
+    let zero = zero_output();
     if used {
         output_fits(y)
     } else {
-        same_output(zero_output(), y)
+        same_output(zero, y)
     }
 }
 

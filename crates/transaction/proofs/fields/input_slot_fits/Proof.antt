@@ -2,11 +2,11 @@ use borrow.Author.Needs.{needs}
 use Rattle.transaction.proofs.fields.input_slot_fits.Statement.{statement}
 use Rattle.transaction.proofs.fields.input_slot_fits.Tie as tie
 
-input-fits-requires : tie.Need-input-fits-requires
-input-fits-requires c κs = search needs
-
 zero-input-requires : tie.Need-zero-input-requires
 zero-input-requires c κs = search needs
+
+input-fits-requires : tie.Need-input-fits-requires
+input-fits-requires c κs = search needs
 
 same-input-requires : tie.Need-same-input-requires
 same-input-requires c κs = search needs
@@ -15,9 +15,9 @@ returns : tie.Need-returns
 returns c = rw (c .before .if1 .taken) (c .input-fits .ensures)
 
 returns-2 : tie.Need-returns-2
-returns-2 c = rw (c .before .before .if1 .left, ← c .before .zero-input .ensures) (c .same-input .ensures)
+returns-2 c = rw (c .before .if1 .left, ← c .before .before .zero-input .ensures) (c .same-input .ensures)
 
 pub input-slot-fits-spec : {M : Type 1} → statement M
 input-slot-fits-spec =
     tie.close
-    (tie.spec input-fits-requires zero-input-requires same-input-requires returns returns-2)
+    (tie.spec zero-input-requires input-fits-requires same-input-requires returns returns-2)

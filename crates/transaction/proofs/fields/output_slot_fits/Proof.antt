@@ -2,11 +2,11 @@ use borrow.Author.Needs.{needs}
 use Rattle.transaction.proofs.fields.output_slot_fits.Statement.{statement}
 use Rattle.transaction.proofs.fields.output_slot_fits.Tie as tie
 
-output-fits-requires : tie.Need-output-fits-requires
-output-fits-requires c κs = search needs
-
 zero-output-requires : tie.Need-zero-output-requires
 zero-output-requires c κs = search needs
+
+output-fits-requires : tie.Need-output-fits-requires
+output-fits-requires c κs = search needs
 
 same-output-requires : tie.Need-same-output-requires
 same-output-requires c κs = search needs
@@ -15,9 +15,9 @@ returns : tie.Need-returns
 returns c = rw (c .before .if1 .taken) (c .output-fits .ensures)
 
 returns-2 : tie.Need-returns-2
-returns-2 c = rw (c .before .before .if1 .left, ← c .before .zero-output .ensures) (c .same-output .ensures)
+returns-2 c = rw (c .before .if1 .left, ← c .before .before .zero-output .ensures) (c .same-output .ensures)
 
 pub output-slot-fits-spec : {M : Type 1} → statement M
 output-slot-fits-spec =
     tie.close
-    (tie.spec output-fits-requires zero-output-requires same-output-requires returns returns-2)
+    (tie.spec zero-output-requires output-fits-requires same-output-requires returns returns-2)
