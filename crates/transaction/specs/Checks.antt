@@ -78,7 +78,7 @@ registerChecks genesis receiver t = (not (shardFits receiver), 3) ∷ checks gen
 
 abbrev pub voteChecks : ℕ → ℕ → ℕ → ℕ → Transaction → List (Bool × ℕ)
 voteChecks genesis receiver sender verdict t =
-    (not (shardFits receiver && shardFits sender && leb verdict 1), 3) ∷ checks genesis t
+    (not (shardFits receiver), 3) ∷ (not (shardFits sender), 3) ∷ (not (leb verdict 1), 3) ∷ checks genesis t
 
 -- a genesis token (opening)
 unfoldable pub mintFits : ℕ → ℕ → ℕ → ℕ → ℕ → Bool

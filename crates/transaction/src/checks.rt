@@ -90,7 +90,13 @@ pub fn register_cause(genesis: u8, receiver: u8, t: Transaction) -> u8
 pub fn vote_cause(genesis: u8, receiver: u8, sender: u8, verdict: u8, t: Transaction) -> u8
     ensures { λ r. ⌜ r ≡ firstOf (voteChecks genesis receiver sender verdict t) ⌝ }
 {
-    if !(shard_fits(receiver) & shard_fits(sender) & (verdict <= 1)) {
+    if !shard_fits(receiver) {
+        return 3;
+    }
+    if !shard_fits(sender) {
+        return 3;
+    }
+    if 1 < verdict {
         return 3;
     }
     cause(genesis, t)
