@@ -1,1 +1,5 @@
+pub mod Basics
+pub mod Lookups
+pub mod Entries
+pub mod Holdings
 pub mod Examples
