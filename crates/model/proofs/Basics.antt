@@ -143,18 +143,26 @@ AllFalse [] = Unit {0}
 AllFalse (t ∷ l) = (t .0 ≡ false) × AllFalse l
 
 -- no number of the table is 0
-abbrev pub AllPositive : List (Bool × ℕ) → Type 0
-AllPositive [] = Unit {0}
-AllPositive (t ∷ l) = (t .1 ≡ 0 → ⊥) × AllPositive l
+abbrev pub isNumber : Bool × ℕ → Bool
+isNumber check = not (eqb (check .1) 0)
 
 -- where the table answers 0, each of its tests is false
-pub passed : (l : List (Bool × ℕ)) → AllPositive l → firstOf l ≡ 0 → AllFalse l
+pub passed : (l : List (Bool × ℕ)) → all isNumber l ≡ true → firstOf l ≡ 0 → AllFalse l
 passed [] s e = tt
-passed (t ∷ l) s e = go (t .0) refl e (passed l (s .1))
+passed (t ∷ l) s e = go (t .0) refl e (passed l (both (isNumber t) (all isNumber l) s .1))
   where
     go : (b : Bool) → t .0 ≡ b → cond b (t .1) (firstOf l) ≡ 0 → (firstOf l ≡ 0 → AllFalse l) → (t .0 ≡ false) × AllFalse l
-    go true p q h = absurd (s .0 q)
+    go true p q h = clash (both (isNumber t) (all isNumber l) s .0) (ap not (eqb-yes q))
     go false p q h = (p, h q)
+
+-- one table behind another: where both answer 0, the first does
+pub first-append : (a b : List (Bool × ℕ)) → all isNumber a ≡ true → firstOf (a ++ b) ≡ 0 → firstOf a ≡ 0
+first-append [] b s e = refl
+first-append (t ∷ a) b s e = go (t .0) e (first-append a b (both (isNumber t) (all isNumber a) s .1))
+  where
+    go : (c : Bool) → cond c (t .1) (firstOf (a ++ b)) ≡ 0 → (firstOf (a ++ b) ≡ 0 → firstOf a ≡ 0) → cond c (t .1) (firstOf a) ≡ 0
+    go true q h = q
+    go false q h = h q
 
 -- ---- any, all and keep, by the elements
 

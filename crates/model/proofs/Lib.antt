@@ -3,4 +3,6 @@ pub mod Lookups
 pub mod Entries
 pub mod Holdings
 pub mod Invariant
+pub mod Refusals
+pub mod Effects
 pub mod Examples
