@@ -74,18 +74,18 @@ module _ (limits : Limits) (place : ℕ) (model : Model) where
   replaced shard ledger log minted = record { shards = set (model .shards) shard ledger; log = log; minted = minted }
 
   pub data Effect : Call → Model × Answer → Type 0 where
-    refused : {call : Call} {n : ℕ} → (n ≡ 0 → ⊥) → Effect call (model, Refused n)
-    minted : {p index owner amount : ℕ} → MintPasses limits p (at p) p index owner amount
+    did-refuse : {call : Call} {n : ℕ} → (n ≡ 0 → ⊥) → Effect call (model, Refused n)
+    did-mint : {p index owner amount : ℕ} → MintPasses limits p (at p) p index owner amount
         → Effect (mint p index owner amount)
         (replaced p (afterMint (at p) index owner amount) (model .log) (record { shard = p; index = index; owner = owner; amount = amount } ∷ model .minted), Minted)
-    registered : {p : ℕ} {t : Transaction} → RegisterPasses limits p (at p) p t
+    did-register : {p : ℕ} {t : Transaction} → RegisterPasses limits p (at p) p t
         → Effect (register p t)
         (replaced p (afterRegister p (at p) t) (entryFor limits place (model .shards) p t ∷ model .log) (model .minted), Registered (vote p (at p .tokens) t) (outcomeOf (newlyKnown p (at p .tokens) t)))
-    heard : {p sender verdict : ℕ} {t : Transaction} → DeliverPasses limits p (at p) p sender verdict t
+    did-hear : {p sender verdict : ℕ} {t : Transaction} → DeliverPasses limits p (at p) p sender verdict t
         → gave (at sender) sender verdict t ≡ true → heardFrom sender (entryOf t (at p .known)) ≡ 0
         → Effect (deliver p sender verdict t)
         (replaced p (afterVote p (at p) sender verdict t) (model .log) (model .minted), Heard (outcomeOf (hearing sender verdict (entryOf t (at p .known)))))
-    again : {p sender verdict : ℕ} {t : Transaction} → DeliverPasses limits p (at p) p sender verdict t
+    did-repeat : {p sender verdict : ℕ} {t : Transaction} → DeliverPasses limits p (at p) p sender verdict t
         → (heardFrom sender (entryOf t (at p .known)) ≡ 0 → ⊥)
         → Effect (deliver p sender verdict t) (model, Again (outcomeOf (entryOf t (at p .known))))
 
@@ -103,21 +103,21 @@ module _ (limits : Limits) (place : ℕ) (model : Model) where
   mint-effect : (p index owner amount : ℕ) (r : Ledger × Answer) → ShardEffect limits p (at p) (mint p index owner amount) r
       → Effect (mint p index owner amount) (noted-at p (mint p index owner amount) r)
   unfolding logAfter mintedAfter
-  mint-effect p index owner amount _ (shard-refused h) = back p (refused h)
-  mint-effect p index owner amount _ (shard-minted h) = minted h
+  mint-effect p index owner amount _ (shard-refused h) = back p (did-refuse h)
+  mint-effect p index owner amount _ (shard-minted h) = did-mint h
 
   register-effect : (p : ℕ) (t : Transaction) (r : Ledger × Answer) → ShardEffect limits p (at p) (register p t) r → Effect (register p t) (noted-at p (register p t) r)
   unfolding logAfter mintedAfter
-  register-effect p t _ (shard-refused h) = back p (refused h)
-  register-effect p t _ (shard-registered h) = registered h
+  register-effect p t _ (shard-refused h) = back p (did-refuse h)
+  register-effect p t _ (shard-registered h) = did-register h
 
   deliver-effect : (p sender verdict : ℕ) (t : Transaction) → notGiven limits (model .shards) p sender verdict t ≡ false
       → (r : Ledger × Answer) → ShardEffect limits p (at p) (deliver p sender verdict t) r → Effect (deliver p sender verdict t) (noted-at p (deliver p sender verdict t) r)
   unfolding logAfter mintedAfter notGiven
-  deliver-effect p sender verdict t g _ (shard-refused h) = back p (refused h)
+  deliver-effect p sender verdict t g _ (shard-refused h) = back p (did-refuse h)
   deliver-effect p sender verdict t g _ (shard-heard h f z) =
-      heard h (not-no (gave (at sender) sender verdict t) (not-yes (λ n. clash (and-intro (eqb-yes f) n) g))) z
-  deliver-effect p sender verdict t g _ (shard-again h z) = back p (again h z)
+      did-hear h (not-no (gave (at sender) sender verdict t) (not-yes (λ n. clash (and-intro (eqb-yes f) n) g))) z
+  deliver-effect p sender verdict t g _ (shard-again h z) = back p (did-repeat h z)
 
   pub effect : (call : Call) → Effect call (step limits place model call)
   unfolding step clusterStep atShard logAfter mintedAfter
@@ -130,5 +130,5 @@ module _ (limits : Limits) (place : ℕ) (model : Model) where
 
       go : (b : Bool) → notGiven limits (model .shards) p sender verdict t ≡ b
           → Effect (deliver p sender verdict t) (record { shards = cond {A = List Ledger × Answer} b (model .shards, Refused 16) done .0; log = model .log; minted = model .minted }, cond {A = List Ledger × Answer} b (model .shards, Refused 16) done .1)
-      go true e = refused (eqb-apart {m = 16} {n = 0} refl)
+      go true e = did-refuse (eqb-apart {m = 16} {n = 0} refl)
       go false e = deliver-effect p sender verdict t e _ (shard-effect limits p (at p) (deliver p sender verdict t))

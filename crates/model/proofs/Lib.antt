@@ -5,4 +5,5 @@ pub mod Holdings
 pub mod Invariant
 pub mod Refusals
 pub mod Effects
+pub mod Steps
 pub mod Examples
