@@ -6,4 +6,5 @@ pub mod Invariant
 pub mod Refusals
 pub mod Effects
 pub mod Steps
+pub mod Decisions
 pub mod Examples
