@@ -7,4 +7,5 @@ pub mod Refusals
 pub mod Effects
 pub mod Steps
 pub mod Decisions
+pub mod Spending
 pub mod Examples
