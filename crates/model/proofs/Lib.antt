@@ -8,4 +8,5 @@ pub mod Effects
 pub mod Steps
 pub mod Decisions
 pub mod Spending
+pub mod Serial
 pub mod Examples
