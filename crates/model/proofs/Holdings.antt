@@ -32,8 +32,8 @@ pub mem-tok : (l : List Token) → NoTwice l → {t : Token} → List·Memᴰ t 
 mem-tok l s m =
     alone-lookup sameSpot (λ t. and-intro (eqb-same (t .creator)) (eqb-same (t .index)))
     (λ a b e.
-        let r = both (eqb (b .creator) (a .creator)) (eqb (b .index) (a .index)) e in
-        and-intro (eqb-yes (sym (eqb-eq (b .creator) (a .creator) (r .0)))) (eqb-yes (sym (eqb-eq (b .index) (a .index) (r .1)))))
+    let r = both (eqb (b .creator) (a .creator)) (eqb (b .index) (a .index)) e in
+    and-intro (eqb-yes (sym (eqb-eq (b .creator) (a .creator) (r .0)))) (eqb-yes (sym (eqb-eq (b .index) (a .index) (r .1)))))
     l s m
 
 -- ---- Inputs at a shard

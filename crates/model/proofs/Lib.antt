@@ -9,4 +9,6 @@ pub mod Steps
 pub mod Decisions
 pub mod Spending
 pub mod Serial
+pub mod Order
+pub mod Theorem
 pub mod Examples

@@ -42,7 +42,7 @@ pub last-tail : (r : Entry) (newer : List Entry) (t : Transaction) → isLast (r
 last-tail r newer t u = last-of newer t (λ e m. last-entry (r ∷ newer) t u e (List·Memᴰ·tail m))
 
 -- the entry with which a transaction stops being one of them is of it
-late : (r : Entry) (newer : List Entry) (t : Transaction) → isLast newer t ≡ true → isLast (r ∷ newer) t ≡ false → r .transaction ≡ t
+pub late : (r : Entry) (newer : List Entry) (t : Transaction) → isLast newer t ≡ true → isLast (r ∷ newer) t ≡ false → r .transaction ≡ t
 late r newer t u f = go (case (sameTransaction (r .transaction) t))
   where
     go : Case (sameTransaction (r .transaction) t) → r .transaction ≡ t

@@ -59,13 +59,13 @@ unfolding sameToken
 names-spot p m i x =
     same-test (eqb (x .token .shard) p && eqb (x .token .creator) m && eqb (x .token .index) i) (eqb (x .token .shard) p && (eqb m (x .token .creator) && eqb i (x .token .index)))
     (λ e.
-        let a = both (eqb (x .token .shard) p && eqb (x .token .creator) m) (eqb (x .token .index) i) e in
-        let b = both (eqb (x .token .shard) p) (eqb (x .token .creator) m) (a .0) in
-        and-intro (b .0) (and-intro (eqb-yes (sym (eqb-eq (x .token .creator) m (b .1)))) (eqb-yes (sym (eqb-eq (x .token .index) i (a .1))))))
+    let a = both (eqb (x .token .shard) p && eqb (x .token .creator) m) (eqb (x .token .index) i) e in
+    let b = both (eqb (x .token .shard) p) (eqb (x .token .creator) m) (a .0) in
+    and-intro (b .0) (and-intro (eqb-yes (sym (eqb-eq (x .token .creator) m (b .1)))) (eqb-yes (sym (eqb-eq (x .token .index) i (a .1))))))
     (λ e.
-        let a = both (eqb (x .token .shard) p) (eqb m (x .token .creator) && eqb i (x .token .index)) e in
-        let b = both (eqb m (x .token .creator)) (eqb i (x .token .index)) (a .1) in
-        and-intro (and-intro (a .0) (eqb-yes (sym (eqb-eq m (x .token .creator) (b .0))))) (eqb-yes (sym (eqb-eq i (x .token .index) (b .1)))))
+    let a = both (eqb (x .token .shard) p) (eqb m (x .token .creator) && eqb i (x .token .index)) e in
+    let b = both (eqb m (x .token .creator)) (eqb i (x .token .index)) (a .1) in
+    and-intro (and-intro (a .0) (eqb-yes (sym (eqb-eq m (x .token .creator) (b .0))))) (eqb-yes (sym (eqb-eq i (x .token .index) (b .1)))))
 
 named-taken : (t : Transaction) (p m i : ℕ) → any (namesIt (record { shard = p; creator = m; index = i })) (usedInputs t) ≡ taken p t m i
 unfolding taken inputsHere
