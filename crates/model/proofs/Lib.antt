@@ -11,4 +11,5 @@ pub mod Spending
 pub mod Serial
 pub mod Order
 pub mod Theorem
+pub mod Bridge
 pub mod Examples
