@@ -12,4 +12,5 @@ pub mod Serial
 pub mod Order
 pub mod Theorem
 pub mod Bridge
+pub mod Votes
 pub mod Examples
