@@ -13,4 +13,5 @@ pub mod Order
 pub mod Theorem
 pub mod Bridge
 pub mod Votes
+pub mod Capacity
 pub mod Examples

@@ -574,7 +574,7 @@ after-next limits place model w (call ∷ calls) =
 empty-at : (limits : Limits) (p : ℕ) → ledgerAt limits (emptyShards limits) p ≡ emptyLedger limits
 empty-at limits p = getD-same 8 (emptyLedger limits) p
 
-empty-inv : (limits : Limits) → Inv limits (emptyModel limits)
+pub empty-inv : (limits : Limits) → Inv limits (emptyModel limits)
 unfolding made genesisLedger
 empty-inv limits = record {
   eight = refl;
