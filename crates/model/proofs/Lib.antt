@@ -14,4 +14,5 @@ pub mod Theorem
 pub mod Bridge
 pub mod Votes
 pub mod Capacity
+pub mod Laws
 pub mod Examples

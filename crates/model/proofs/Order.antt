@@ -67,7 +67,7 @@ module _ (limits : Limits) (model : Model) (w : Inv limits model) where
           subst (λ (a : Bool). List·Memᴰ t (cond a (r .transaction ∷ serialFrom model (r ∷ newer) older) (serialFrom model (r ∷ newer) older))) (sym b) (List·Memᴰ·head (sym y))
 
   -- a committed transaction stands in the log
-  committed-logged : (t : Transaction) → committed model t ≡ true → (e : Entry) × List·Memᴰ e (model .log) × (e .transaction ≡ t)
+  pub committed-logged : (t : Transaction) → committed model t ≡ true → (e : Entry) × List·Memᴰ e (model .log) × (e .transaction ≡ t)
   committed-logged t c =
       let r = commit-at limits model w t c in
       let k = knows limits model w (r .0) t (λ z. commit≢wait (sym (r .1) ∙ z)) in

@@ -88,19 +88,33 @@ sum-change f g q (suc n) l h = go (case (eqb n q)) (λ d. sum-change f g q n d h
 -- a registration leaves one vote fewer to hear than there are shards
 pub missing-registered : (p : ℕ) (tokens : List Token) (t : Transaction) → p < 8 → takesPart p t ≡ true → missing (newlyKnown p tokens t) + 1 ≡ shardCount t
 unfolding newlyKnown
-missing-registered p tokens t h part =
-    let k : Known = record { transaction = t; heard = set (replicate 8 0) p (noted (vote p tokens t)) } in
-    let here : missingAt k p ≡ 0 =
-    ap (λ (n : ℕ). cond (takesPart p t && eqb n 0) 1 0) (getD-set-same (replicate 8 0) p (noted (vote p tokens t)) 0 h) ∙ (λ i. cond (part i && not-is {b = eqb (noted (vote p tokens t)) 0} (noted-heard (vote p tokens t)) i) 1 0) in
-    let count : _≡_ {A = ℕ} (cond (takesPart p t) 1 0) 1 = ap (λ (b : Bool). cond b 1 0) part in
-    let other : (a : ℕ) → (a ≡ p → ⊥) → missingAt k a ≡ cond (takesPart a t) 1 0 =
-    λ a n. ap (λ (c : ℕ). cond (takesPart a t && eqb c 0) 1 0) (getD-set-other (replicate 8 0) p a (noted (vote p tokens t)) 0 n ∙ getD-same 8 0 a) ∙ ap (λ (b : Bool). cond b 1 0) (and-yes (takesPart a t)) in
-    let sums : missing k + cond (takesPart p t) 1 0 ≡ shardCount t + missingAt k p = sum-change (missingAt k) (λ q. cond (takesPart q t) 1 0) p 8 h other in
-    omega arith
+missing-registered p tokens t h part = let a = here in let b = count in let c = sums in omega arith
   where
+    own : ℕ
+    own = noted (vote p tokens t)
+
+    k : Known
+    k = record { transaction = t; heard = set (replicate 8 0) p own }
+
     and-yes : (b : Bool) → b && true ≡ b
     and-yes true = refl
     and-yes false = refl
+
+    here : missingAt k p ≡ 0
+    here =
+        ap (λ (n : ℕ). cond (takesPart p t && eqb n 0) 1 0) (getD-set-same (replicate 8 0) p own 0 h)
+        ∙ (λ i. cond (part i && not-is {b = eqb own 0} (noted-heard (vote p tokens t)) i) 1 0)
+
+    count : _≡_ {A = ℕ} (cond (takesPart p t) 1 0) 1
+    count = ap (λ (b : Bool). cond b 1 0) part
+
+    other : (a : ℕ) → (a ≡ p → ⊥) → missingAt k a ≡ cond (takesPart a t) 1 0
+    other a n =
+        ap (λ (c : ℕ). cond (takesPart a t && eqb c 0) 1 0) (getD-set-other (replicate 8 0) p a own 0 n ∙ getD-same 8 0 a)
+        ∙ ap (λ (b : Bool). cond b 1 0) (and-yes (takesPart a t))
+
+    sums : missing k + cond (takesPart p t) 1 0 ≡ shardCount t + missingAt k p
+    sums = sum-change (missingAt k) (λ q. cond (takesPart q t) 1 0) p 8 h other
 
 -- a fresh vote leaves one vote fewer
 pub missing-fresh : (k : Known) (q v : ℕ) → q < 8 → length (k .heard) ≡ 8 → takesPart q (k .transaction) ≡ true → heardFrom q k ≡ 0 → missing (hearing q v k) + 1 ≡ missing k

@@ -1,0 +1,134 @@
+-- Further laws, each in one line: what a refused call and a repeat leave, tokens found available once, and amounts that balance.
+use Prim.Native.Nat.{ℕ, zero, suc, _+_, _<_, _≤_}
+use native.Mathlib.Omega.{arith}
+use mathlib.Core.Path.{_≡_, refl, ap, sym, _∙_, subst}
+use mathlib.Core.Logic.{_≢_, _⊎_, inl, inr, ⊎-elim}
+use mathlib.Core.Bool.{Bool, true, false, cond, _&&_, not, true≢false}
+use mathlib.Core.Option.{Option, none, some}
+use mathlib.Core.List.{List, [], _∷_, _++_, List·Memᴰ, List·Memᴰ·head, List·Memᴰ·tail}
+use lib.Dec.{eqb}
+use lib.ListN.{set, getD}
+use lib.Seq.{set-getD}
+use Rattle.transaction.specs.declared.Input.{Input}
+use Rattle.transaction.specs.declared.Transaction.{Transaction}
+use Rattle.transaction.specs.Lists.{any, total, firstOf, repeats}
+use Rattle.transaction.specs.Tokens.{usedInputs, usedOutputs}
+use Rattle.transaction.specs.Checks.{inputAmount, outputAmount, balanced}
+use Rattle.model.specs.declared.Known.{Known}
+use Rattle.model.specs.declared.Outcome.{Outcome}
+use Rattle.model.specs.declared.Answer.{Answer}
+use Rattle.model.specs.declared.Answer.the-variants.{Refused, Minted, Registered, Heard, Again}
+use Rattle.model.specs.Shard.{Limits, Ledger, emptyLedger, Call, mint, register, deliver, carriedOut, shardStep}
+use Rattle.model.specs.Cluster.{ledgerAt, notGiven, atShard, clusterStep}
+use Rattle.model.specs.Model.{Entry, Model, emptyModel, entryFor, step, after, play}
+use Rattle.model.specs.Demand.{committed}
+use Rattle.model.proofs.Basics.{eqb-eq, eqb-apart}
+use Rattle.model.proofs.Lookups.{alone-repeats}
+use Rattle.model.proofs.Entries.{sameNumber}
+use Rattle.model.proofs.Refusals.{FormPasses, RegisterPasses}
+use Rattle.model.proofs.Effects.{ShardEffect, shard-refused, shard-minted, shard-registered, shard-heard, shard-again, shard-effect, Effect, did-refuse, did-mint, did-register, did-hear, did-repeat, effect}
+use Rattle.model.proofs.Steps.{Inv, play-inv}
+use Rattle.model.proofs.Order.{committed-logged}
+
+-- ---- What changes nothing
+
+-- the answers of calls that change nothing: a refusal and a repeat
+abbrev pub leaves : Answer → Bool
+leaves (Refused number) = true
+leaves Minted = false
+leaves (Registered verdict outcome) = false
+leaves (Heard outcome) = false
+leaves (Again outcome) = true
+
+shard-left : (limits : Limits) (me : ℕ) (ledger : Ledger) (call : Call) (r : Ledger × Answer) → ShardEffect limits me ledger call r → leaves (r .1) ≡ true → r .0 ≡ ledger
+shard-left limits me ledger call _ (shard-refused h) e = refl
+shard-left limits me ledger call _ (shard-again h z) e = refl
+shard-left limits me ledger call _ (shard-minted h) e = absurd (true≢false (sym e))
+shard-left limits me ledger call _ (shard-registered h) e = absurd (true≢false (sym e))
+shard-left limits me ledger call _ (shard-heard h g z) e = absurd (true≢false (sym e))
+
+-- a refused call and a repeat change no shard
+pub shard-unchanged : (limits : Limits) (me : ℕ) (ledger : Ledger) (call : Call) → leaves (shardStep limits me ledger call .1) ≡ true → shardStep limits me ledger call .0 ≡ ledger
+shard-unchanged limits me ledger call e = shard-left limits me ledger call (shardStep limits me ledger call) (shard-effect limits me ledger call) e
+
+at-unchanged : (limits : Limits) (shards : List Ledger) (p : ℕ) (call : Call) → leaves (atShard limits shards p call .1) ≡ true → atShard limits shards p call .0 ≡ shards
+unfolding atShard
+at-unchanged limits shards p call e = ap (set shards p) (shard-unchanged limits p (ledgerAt limits shards p) call e) ∙ set-getD shards p (emptyLedger limits)
+
+pub cluster-unchanged : (limits : Limits) (shards : List Ledger) (call : Call) → leaves (clusterStep limits shards call .1) ≡ true → clusterStep limits shards call .0 ≡ shards
+unfolding clusterStep
+cluster-unchanged limits shards (mint p index owner amount) e = at-unchanged limits shards p (mint p index owner amount) e
+cluster-unchanged limits shards (register p t) e = at-unchanged limits shards p (register p t) e
+cluster-unchanged limits shards (deliver p sender verdict t) e = go (notGiven limits shards p sender verdict t) e
+  where
+    done : List Ledger × Answer
+    done = atShard limits shards p (deliver p sender verdict t)
+
+    go : (b : Bool) → leaves (cond b (shards, Refused 16) done .1) ≡ true → cond b (shards, Refused 16) done .0 ≡ shards
+    go true e = refl
+    go false e = at-unchanged limits shards p (deliver p sender verdict t) e
+
+model-left : (limits : Limits) (place : ℕ) (model : Model) (call : Call) (r : Model × Answer) → Effect limits place model call r → leaves (r .1) ≡ true → r .0 ≡ model
+model-left limits place model call _ (did-refuse h) e = refl
+model-left limits place model call _ (did-repeat h z) e = refl
+model-left limits place model call _ (did-mint h) e = absurd (true≢false (sym e))
+model-left limits place model call _ (did-register h) e = absurd (true≢false (sym e))
+model-left limits place model call _ (did-hear h g z) e = absurd (true≢false (sym e))
+
+-- nor do they change the model's notes
+pub model-unchanged : (limits : Limits) (place : ℕ) (model : Model) (call : Call) → leaves (step limits place model call .1) ≡ true → step limits place model call .0 ≡ model
+model-unchanged limits place model call e = model-left limits place model call (step limits place model call) (effect limits place model call) e
+
+-- a refusal has a number
+number-left : (limits : Limits) (me : ℕ) (ledger : Ledger) (call : Call) (r : Ledger × Answer) → ShardEffect limits me ledger call r → (n : ℕ) → r .1 ≡ Refused n → n ≢ 0
+number-left limits me ledger call _ (shard-refused {n = m} h) n e z = let y : m ≡ n = cc in h (y ∙ z)
+number-left limits me ledger call _ (shard-minted h) n e z = let y : _≡_ {A = ℕ} 0 1 = cc in omega arith
+number-left limits me ledger call _ (shard-registered h) n e z = let y : _≡_ {A = ℕ} 0 1 = cc in omega arith
+number-left limits me ledger call _ (shard-heard h g w) n e z = let y : _≡_ {A = ℕ} 0 1 = cc in omega arith
+number-left limits me ledger call _ (shard-again h w) n e z = let y : _≡_ {A = ℕ} 0 1 = cc in omega arith
+
+pub refused-number : (limits : Limits) (me : ℕ) (ledger : Ledger) (call : Call) (n : ℕ) → shardStep limits me ledger call .1 ≡ Refused n → n ≢ 0
+refused-number limits me ledger call = number-left limits me ledger call (shardStep limits me ledger call) (shard-effect limits me ledger call)
+
+-- ---- Tokens and numbers
+
+-- two distinct transactions never both found one token available
+pub available-once : (limits : Limits) (calls : List Call) (a b : Entry) (x y : Input) → List·Memᴰ a (play limits calls .log) → List·Memᴰ b (play limits calls .log)
+    → a .shard ≡ b .shard → List·Memᴰ x (a .available) → List·Memᴰ y (b .available) → x .token ≡ y .token → a .transaction ≡ b .transaction
+available-once limits calls a b x y ma mb s mx my e =
+    ap (λ (r : Entry). r .transaction)
+    (play-inv limits calls .logged .disjoint a b ma mb s x y mx my (λ i. e i .creator) (λ i. e i .index))
+
+-- no shard knows two transactions of one number
+pub one-number : (limits : Limits) (calls : List Call) (p : ℕ) → repeats sameNumber (ledgerAt limits (play limits calls .shards) p .known) ≡ false
+one-number limits calls p = alone-repeats sameNumber (ledgerAt limits (play limits calls .shards) p .known) (play-inv limits calls .at p .core .one-each)
+
+-- ---- Amounts
+
+balanced-step : (limits : Limits) (place : ℕ) (model : Model) → ((e : Entry) → List·Memᴰ e (model .log) → balanced (e .transaction) ≡ true)
+    → (call : Call) (r : Model × Answer) → Effect limits place model call r → (e : Entry) → List·Memᴰ e (r .0 .log) → balanced (e .transaction) ≡ true
+balanced-step limits place model f call _ (did-refuse h) = f
+balanced-step limits place model f call _ (did-mint h) = f
+balanced-step limits place model f call _ (did-hear h g z) = f
+balanced-step limits place model f call _ (did-repeat h z) = f
+balanced-step limits place model f call _ (did-register {p = p} {t = t} h) = go
+  where
+    go : (e : Entry) → List·Memᴰ e (entryFor limits place (model .shards) p t ∷ model .log) → balanced (e .transaction) ≡ true
+    go e (List·Memᴰ·head z) = ap (λ (r : Entry). balanced (r .transaction)) z ∙ h .form .balances
+    go e (List·Memᴰ·tail m) = f e m
+
+balanced-after : (limits : Limits) (place : ℕ) (model : Model) → ((e : Entry) → List·Memᴰ e (model .log) → balanced (e .transaction) ≡ true)
+    → (calls : List Call) (e : Entry) → List·Memᴰ e (after limits place model calls .log) → balanced (e .transaction) ≡ true
+unfolding after
+balanced-after limits place model f [] = f
+balanced-after limits place model f (call ∷ calls) =
+    balanced-after limits (suc place) (step limits place model call .0) (balanced-step limits place model f call (step limits place model call) (effect limits place model call)) calls
+
+-- the amounts of a committed transaction balance
+pub committed-balance : (limits : Limits) (calls : List Call) (t : Transaction) → committed (play limits calls) t ≡ true
+    → total inputAmount (usedInputs t) ≡ total outputAmount (usedOutputs t)
+unfolding play balanced
+committed-balance limits calls t c =
+    let r = committed-logged limits (play limits calls) (play-inv limits calls) t c in
+    let b : balanced t ≡ true = ap balanced (sym (r .2)) ∙ balanced-after limits 1 (emptyModel limits) (λ e m. elim m [ ]) calls (r .0) (r .1) in
+    eqb-eq (total inputAmount (usedInputs t)) (total outputAmount (usedOutputs t)) b
