@@ -13,7 +13,8 @@ use Rattle.model.specs.declared.Outcome.{Outcome}
 use Rattle.model.specs.declared.Outcome.the-variants.{Wait, Commit, Abort}
 use Rattle.model.specs.declared.Answer.{Answer}
 use Rattle.model.specs.Lists.{mapOption}
-use Rattle.model.specs.Shard.{Limits, Ledger, Call}
+use Rattle.model.specs.Steps.{Limits, Ledger}
+use Rattle.model.specs.Shard.{Call}
 use Rattle.model.specs.Cluster.{emptyShards, ledgerAt, clusterStep}
 use Rattle.model.specs.Model.{Model, emptyModel, step, after, answers, play, playAnswers}
 use Rattle.model.specs.Demand.{outcomeIn, heardAllIn, WasAvailable, commits, committed, SerialLedger, tokenAt, tokenValue, sameSpot, Demand3}

@@ -19,7 +19,8 @@ use Rattle.model.specs.declared.Outcome.{Outcome}
 use Rattle.model.specs.declared.Outcome.the-variants.{Wait, Commit, Abort}
 use Rattle.model.specs.declared.Answer.{Answer}
 use Rattle.model.specs.Lists.{keep, find}
-use Rattle.model.specs.Shard.{Limits, Ledger, emptyLedger, Call, genesisToken, inputsHere, availableHere, pledges, vote, noted, newlyKnown, heardFrom, hearing, outcomeOf, outputHere, outputsHere, tokenOf, tokensFrom, madeHere, stays, commit, settle, isFor, nothingKnown, placeOf, entryOf, ifUndecided, reservedBy, reserved, afterMint, afterRegister, afterVote}
+use Rattle.model.specs.Steps.{Limits, Ledger, emptyLedger, genesisToken, inputsHere, availableHere, pledges, vote, noted, newlyKnown, heardFrom, hearing, outcomeOf, outputHere, outputsHere, tokenOf, tokensFrom, madeHere, stays, commit, settle, isFor, nothingKnown, placeOf, entryOf, afterMint, afterRegister, afterVote}
+use Rattle.model.specs.Shard.{Call, ifUndecided, reservedBy, reserved}
 use Rattle.model.specs.Cluster.{emptyShards, ledgerAt}
 use Rattle.model.specs.Model.{Entry, Model, emptyModel, step, after, play}
 use Rattle.model.proofs.Basics.{clash, Case, yes-case, no-case, case, both, find-at, set-elim, getD-same}

@@ -16,7 +16,8 @@ use Rattle.transaction.specs.Tokens.{usedInputs, shardsOf}
 use Rattle.model.specs.declared.Known.{Known}
 use Rattle.model.specs.declared.Outcome.{Outcome}
 use Rattle.model.specs.declared.Outcome.the-variants.{Wait, Commit, Abort}
-use Rattle.model.specs.Shard.{Limits, Ledger, emptyLedger, Call, inputsHere, heardFrom, isHeard, isYes, heardAll, allYes, outcomeOf, isFor, entryOf}
+use Rattle.model.specs.Steps.{Limits, Ledger, emptyLedger, inputsHere, heardFrom, isHeard, isYes, heardAll, allYes, outcomeOf, isFor, entryOf}
+use Rattle.model.specs.Shard.{Call}
 use Rattle.model.specs.Cluster.{ledgerAt}
 use Rattle.model.specs.Model.{Entry, Model, play}
 use Rattle.model.specs.Demand.{outcomeIn, heardAllIn, outcomeAt, heardAllAt, isCommit, commits, committed, WasAvailable}

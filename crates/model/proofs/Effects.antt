@@ -10,7 +10,8 @@ use Rattle.transaction.specs.declared.Transaction.{Transaction}
 use Rattle.transaction.specs.Lists.{firstOf}
 use Rattle.model.specs.declared.Answer.{Answer}
 use Rattle.model.specs.declared.Answer.the-variants.{Refused, Minted, Registered, Heard, Again}
-use Rattle.model.specs.Shard.{Limits, Ledger, emptyLedger, Call, mint, register, deliver, vote, newlyKnown, entryOf, heardFrom, hearing, outcomeOf, afterMint, afterRegister, afterVote, mintRefusals, registerRefusals, deliverForm, deliverRefusals, hear, shardStep}
+use Rattle.model.specs.Steps.{Limits, Ledger, emptyLedger, vote, newlyKnown, entryOf, heardFrom, hearing, outcomeOf, afterMint, afterRegister, afterVote}
+use Rattle.model.specs.Shard.{Call, mint, register, deliver, mintRefusals, registerRefusals, deliverForm, deliverRefusals, hear, shardStep}
 use Rattle.model.specs.Cluster.{ledgerAt, gave, notGiven, atShard, clusterStep}
 use Rattle.model.specs.Model.{Entry, Genesis, Model, entryFor, logAfter, mintedAfter, step}
 use Rattle.model.proofs.Basics.{eqb-eq, eqb-yes, eqb-apart, clash, both, and-intro, not-yes, not-no, Case, yes-case, no-case, case}

@@ -14,7 +14,8 @@ use Rattle.model.specs.declared.Known.{Known}
 use Rattle.model.specs.declared.Outcome.{Outcome}
 use Rattle.model.specs.declared.Outcome.the-variants.{Wait, Commit, Abort}
 use Rattle.model.specs.Lists.{find, lookup}
-use Rattle.model.specs.Shard.{isFor, hasNumber, isOther, nothingKnown, placeOf, entryOf, heardFrom, isHeard, isYes, heardAll, allYes, decide, outcomeOf}
+use Rattle.model.specs.Steps.{isFor, nothingKnown, placeOf, entryOf, heardFrom, isHeard, isYes, heardAll, allYes, decide, outcomeOf}
+use Rattle.model.specs.Shard.{hasNumber, isOther}
 use Rattle.model.proofs.Basics.{eqb-eq, eqb-same, eqb-yes, eqb-no, eqb-apart, not-yes, not-no, clash, Case, yes-case, no-case, case, both, and-intro, neither, some≢none, some-inj, CaseO, is-some, is-none, caseO, all-at, all-of, all-cong, any-at, any-of, any-none, any-no, find-at}
 use Rattle.model.proofs.Lookups.{lookup-passes, lookup-mem, lookup-no, Alone, alone-lookup}
 

@@ -14,7 +14,8 @@ use Rattle.model.specs.declared.Token.{Token}
 use Rattle.model.specs.declared.Answer.{Answer}
 use Rattle.model.specs.declared.Answer.the-variants.{Refused, Minted, Registered, Heard, Again}
 use Rattle.model.specs.declared.Outcome.the-variants.{Wait, Commit, Abort}
-use Rattle.model.specs.Shard.{house, Call, mint, register, deliver, inputsHere, available, availableHere, pledges, vote, newlyKnown, decide, outputsHere, madeHere, commit, afterMint, afterRegister, afterVote, placeOf, entryOf, reservedBy, reserved, mintRefusals, registerRefusals, deliverForm, deliverRefusals, hear, shardStep}
+use Rattle.model.specs.Steps.{house, inputsHere, available, availableHere, pledges, vote, newlyKnown, decide, outputsHere, madeHere, commit, afterMint, afterRegister, afterVote, placeOf, entryOf}
+use Rattle.model.specs.Shard.{Call, mint, register, deliver, reservedBy, reserved, mintRefusals, registerRefusals, deliverForm, deliverRefusals, hear, shardStep}
 use Rattle.model.specs.Cluster.{ledgerAt, gave, notGiven, atShard, clusterStep}
 use Rattle.model.specs.Model.{Entry, logAfter, mintedAfter, step, after, answers, play, playAnswers}
 

@@ -13,7 +13,7 @@ use Rattle.transaction.specs.Lists.{any}
 use Rattle.transaction.specs.Tokens.{usedInputs, usedOutputs, inputShard, outputShard, shardsOf}
 use Rattle.model.specs.declared.Token.{Token}
 use Rattle.model.specs.Lists.{keep, lookup, mapOption}
-use Rattle.model.specs.Shard.{inputHere, inputsHere, names, namedBy, freeFor, available, pledgedTo, pledgeIf, pledges, outputHere, tokenOf, tokensFrom, madeHere, stays, commit}
+use Rattle.model.specs.Steps.{inputHere, inputsHere, names, namedBy, freeFor, available, pledgedTo, pledgeIf, pledges, outputHere, tokenOf, tokensFrom, madeHere, stays, commit}
 use Rattle.model.specs.Demand.{Value, inputValue, tokenValue, hasSpot, tokenAt, sameSpot}
 use Rattle.model.proofs.Basics.{eqb-eq, eqb-same, eqb-yes, eqb-no, eqb-apart, not-yes, clash, Case, yes-case, no-case, case, both, and-intro, orElse, some≢none, some-inj, CaseO, is-some, is-none, caseO, none-of, any-at, any-of, keep-in, keep-out}
 use Rattle.model.proofs.Lookups.{lookup-passes, lookup-append, lookup-map, lookup-keep, Alone, alone-append, alone-map, alone-keep, alone-lookup}

@@ -17,7 +17,7 @@ use Rattle.model.specs.declared.Known.{Known}
 use Rattle.model.specs.declared.Outcome.{Outcome}
 use Rattle.model.specs.declared.Outcome.the-variants.{Wait, Commit, Abort}
 use Rattle.model.specs.Lists.{lookup, mapOption}
-use Rattle.model.specs.Shard.{Limits, Ledger, inputsHere, heardFrom, outcomeOf, madeHere, commit, settle}
+use Rattle.model.specs.Steps.{Limits, Ledger, inputsHere, heardFrom, outcomeOf, madeHere, commit, settle}
 use Rattle.model.specs.Model.{Entry}
 use Rattle.model.specs.Demand.{Value, inputValue, tokenValue, tokenAt}
 use Rattle.model.proofs.Basics.{eqb-eq, eqb-yes, eqb-apart, not-yes, clash, Case, yes-case, no-case, case, orElse, orElse-none, isSome, some≢none, some-inj, CaseO, is-some, is-none, caseO, map-none, map-or}

@@ -18,7 +18,9 @@ use Rattle.model.specs.declared.Known.{Known}
 use Rattle.model.specs.declared.Outcome.{Outcome}
 use Rattle.model.specs.declared.Answer.{Answer}
 use Rattle.model.specs.declared.Answer.the-variants.{Refused, Minted, Registered, Heard, Again}
-use Rattle.model.specs.Shard.{Limits, Ledger, emptyLedger, Call, mint, register, deliver, carriedOut, shardStep}
+use Rattle.model.specs.Steps.{Limits, Ledger, emptyLedger}
+use Rattle.model.specs.Shard.{Call, mint, register, deliver, shardStep}
+use Rattle.model.specs.Answers.{carriedOut}
 use Rattle.model.specs.Cluster.{ledgerAt, notGiven, atShard, clusterStep}
 use Rattle.model.specs.Model.{Entry, Model, emptyModel, entryFor, step, after, play}
 use Rattle.model.specs.Demand.{committed}

@@ -9,7 +9,8 @@ use Rattle.transaction.specs.declared.Transaction.{Transaction}
 use Rattle.transaction.specs.Tokens.{sameTransaction, shardsOf}
 use Rattle.model.specs.declared.Answer.{Answer}
 use Rattle.model.specs.declared.Known.{Known}
-use Rattle.model.specs.Shard.{Limits, Call}
+use Rattle.model.specs.Steps.{Limits}
+use Rattle.model.specs.Shard.{Call}
 use Rattle.model.specs.Cluster.{ledgerAt}
 use Rattle.model.specs.Model.{Entry, Model, emptyModel, entryFor, step, after, play}
 use Rattle.model.specs.Demand.{committed, logsIt, isLast, serialFrom, serialOrder, lastPlace, ByLast, EachOnce}

@@ -14,7 +14,8 @@ use Rattle.transaction.specs.Tokens.{shardsOf, takesPart}
 use Rattle.transaction.specs.Checks.{shardFits, indexFits, valueFits, countsFit, fieldsFit, namedTwice, balanced, mintFits}
 use Rattle.transaction.proofs.Causes.{counts}
 use Rattle.model.specs.declared.Known.{Known}
-use Rattle.model.specs.Shard.{Limits, Ledger, isFor, hasNumber, isOther, entryOf, heardFrom, outputsHere, reserved, otherVerdict, mintRefusals, registerRefusals, deliverForm, deliverRefusals}
+use Rattle.model.specs.Steps.{Limits, Ledger, isFor, entryOf, heardFrom, outputsHere}
+use Rattle.model.specs.Shard.{hasNumber, isOther, reserved, otherVerdict, mintRefusals, registerRefusals, deliverForm, deliverRefusals}
 use Rattle.model.proofs.Basics.{eqb-eq, eqb-apart, clash, both, neither, not-no, not-is, passed, first-append, any-at}
 
 -- ---- Parts of the field checks

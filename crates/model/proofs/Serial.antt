@@ -18,7 +18,7 @@ use Rattle.model.specs.declared.Known.{Known}
 use Rattle.model.specs.declared.Outcome.{Outcome}
 use Rattle.model.specs.declared.Outcome.the-variants.{Wait, Commit, Abort}
 use Rattle.model.specs.Lists.{lookup, mapOption}
-use Rattle.model.specs.Shard.{Limits, inputsHere, outcomeOf, madeHere}
+use Rattle.model.specs.Steps.{Limits, inputsHere, outcomeOf, madeHere}
 use Rattle.model.specs.Cluster.{ledgerAt}
 use Rattle.model.specs.Model.{Entry, Model}
 use Rattle.model.specs.Demand.{outcomeAt, committed, Settled, logsIt, isLast, serialFrom, serialOrder, EachOnce, Value, SerialLedger, inputValue, tokenValue, tokenAt, genesisLedger, spend, serialRun, heldValue, SerialEnd}

@@ -14,7 +14,7 @@ use Rattle.transaction.specs.Tokens.{usedInputs, usedOutputs, sameToken}
 use Rattle.transaction.specs.Checks.{sameName, namedTwice}
 use Rattle.model.specs.declared.Token.{Token}
 use Rattle.model.specs.Lists.{keep, lookup, mapOption, passes}
-use Rattle.model.specs.Shard.{inputHere, inputsHere, tokenOf, tokensFrom, madeHere}
+use Rattle.model.specs.Steps.{inputHere, inputsHere, tokenOf, tokensFrom, madeHere}
 use Rattle.model.specs.Demand.{Value, SerialLedger, inputValue, outputValue, tokenValue, hasSpot, tokenAt, hasValue, present, without, takeInputs, outputId, addOutputs, spend}
 use Rattle.model.proofs.Basics.{eqb-eq, eqb-same, eqb-yes, eqb-no, eqb-apart, both, neither, and-intro, clash, same-test, orElse, any-none, any-keep}
 use Rattle.model.proofs.Holdings.{takesSpot, taken}

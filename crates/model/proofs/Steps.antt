@@ -20,7 +20,8 @@ use Rattle.model.specs.declared.Outcome.{Outcome}
 use Rattle.model.specs.declared.Outcome.the-variants.{Wait, Commit, Abort}
 use Rattle.model.specs.declared.Answer.{Answer}
 use Rattle.model.specs.Lists.{keep, find, lookup, mapOption}
-use Rattle.model.specs.Shard.{Limits, Ledger, emptyLedger, Call, genesisToken, inputsHere, available, availableHere, pledgeIf, pledges, vote, noted, newlyKnown, heardFrom, hearing, outcomeOf, settle, isFor, placeOf, entryOf, afterMint, afterRegister, afterVote}
+use Rattle.model.specs.Steps.{Limits, Ledger, emptyLedger, genesisToken, inputsHere, available, availableHere, pledgeIf, pledges, vote, noted, newlyKnown, heardFrom, hearing, outcomeOf, settle, isFor, placeOf, entryOf, afterMint, afterRegister, afterVote}
+use Rattle.model.specs.Shard.{Call}
 use Rattle.model.specs.Cluster.{emptyShards, ledgerAt, hasGiven, gave}
 use Rattle.model.specs.Model.{Entry, Genesis, Model, emptyModel, entryFor, step, after, play}
 use Rattle.model.specs.Demand.{Value, inputValue, tokenValue, hasSpot, tokenAt, sameSpot, genesisId, genesisLedger}

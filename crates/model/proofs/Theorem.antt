@@ -1,6 +1,7 @@
 -- Demand 3, whole: about every list of calls, at every limits.
 use mathlib.Core.List.{List}
-use Rattle.model.specs.Shard.{Limits, Call}
+use Rattle.model.specs.Steps.{Limits}
+use Rattle.model.specs.Shard.{Call}
 use Rattle.model.specs.Cluster.{ledgerAt}
 use Rattle.model.specs.Model.{play}
 use Rattle.model.specs.Demand.{Demand3, sameSpot}

@@ -15,7 +15,7 @@ use Rattle.model.specs.declared.Token.{Token}
 use Rattle.model.specs.declared.Known.{Known}
 use Rattle.model.specs.declared.Outcome.{Outcome}
 use Rattle.model.specs.declared.Outcome.the-variants.{Wait, Commit, Abort}
-use Rattle.model.specs.Shard.{vote, noted, newlyKnown, heardFrom, hearing, isHeard, isYes, heardAll, allYes, decide, outcomeOf}
+use Rattle.model.specs.Steps.{vote, noted, newlyKnown, heardFrom, hearing, isHeard, isYes, heardAll, allYes, decide, outcomeOf}
 use Rattle.model.proofs.Basics.{eqb-eq, eqb-same, eqb-yes, eqb-no, eqb-apart, not-yes, not-is, both, and-intro, clash, Case, yes-case, no-case, case, all-at, all-of, any-of, getD-same}
 use Rattle.model.proofs.Entries.{commit≢wait, outcome-heard}
 use Rattle.model.proofs.Refusals.{part-in}

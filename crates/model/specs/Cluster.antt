@@ -9,7 +9,8 @@ use Rattle.transaction.specs.Lists.{any, firstOf}
 use Rattle.model.specs.declared.Known.{Known}
 use Rattle.model.specs.declared.Answer.{Answer}
 use Rattle.model.specs.declared.Answer.the-variants.{Refused}
-use Rattle.model.specs.Shard.{Limits, Ledger, emptyLedger, Call, mint, register, deliver, isFor, heardFrom, deliverForm, shardStep}
+use Rattle.model.specs.Steps.{Limits, Ledger, emptyLedger, isFor, heardFrom}
+use Rattle.model.specs.Shard.{Call, mint, register, deliver, deliverForm, shardStep}
 
 -- eight shards, each empty at first
 abbrev pub emptyShards : Limits → List Ledger

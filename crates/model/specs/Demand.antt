@@ -18,7 +18,8 @@ use Rattle.model.specs.declared.Known.{Known}
 use Rattle.model.specs.declared.Outcome.{Outcome}
 use Rattle.model.specs.declared.Outcome.the-variants.{Wait, Commit, Abort}
 use Rattle.model.specs.Lists.{lookup, mapOption, passes}
-use Rattle.model.specs.Shard.{Limits, Ledger, Call, isFor, entryOf, heardAll, outcomeOf}
+use Rattle.model.specs.Steps.{Limits, Ledger, isFor, entryOf, heardAll, outcomeOf}
+use Rattle.model.specs.Shard.{Call}
 use Rattle.model.specs.Cluster.{ledgerAt}
 use Rattle.model.specs.Model.{Entry, Genesis, Model, play}
 

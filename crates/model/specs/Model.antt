@@ -5,7 +5,9 @@ use mathlib.Core.List.{List, [], _∷_}
 use Rattle.transaction.specs.declared.Input.{Input}
 use Rattle.transaction.specs.declared.Transaction.{Transaction}
 use Rattle.model.specs.declared.Answer.{Answer}
-use Rattle.model.specs.Shard.{Limits, Ledger, Call, mint, register, deliver, availableHere, carriedOut}
+use Rattle.model.specs.Steps.{Limits, Ledger, availableHere}
+use Rattle.model.specs.Shard.{Call, mint, register, deliver}
+use Rattle.model.specs.Answers.{carriedOut}
 use Rattle.model.specs.Cluster.{emptyShards, ledgerAt, clusterStep}
 
 -- one registration: its place in the list of calls, the shard, the transaction, which of its inputs there were available
