@@ -67,7 +67,7 @@ module _ (limits : Limits) (model : Model) (w : Inv limits model) where
       go false e h = absurd (h refl)
 
   -- a shard's vote on a transaction is one vote
-  voted-same : (q : ℕ) (t : Transaction) (c d : ℕ) → Voted (model .log) q t c → Voted (model .log) q t d → c ≡ d
+  pub voted-same : (q : ℕ) (t : Transaction) (c d : ℕ) → Voted (model .log) q t c → Voted (model .log) q t d → c ≡ d
   voted-same q t c d v u = go (v .is-vote) (u .is-vote)
     where
       e : v .entry ≡ u .entry

@@ -480,7 +480,7 @@ stay : {limits : Limits} {model : Model} → Inv limits model → Next limits mo
 stay {limits} {model} w = record { inv = w; grows = λ p. grows-refl (ledgerAt limits (model .shards) p .known) }
 
 -- what a sender has given is its vote in the log
-gave-vote : (limits : Limits) (model : Model) → Inv limits model → (q v : ℕ) (t : Transaction) → gave (ledgerAt limits (model .shards) q) q v t ≡ true → Voted (model .log) q t (v + 1)
+pub gave-vote : (limits : Limits) (model : Model) → Inv limits model → (q v : ℕ) (t : Transaction) → gave (ledgerAt limits (model .shards) q) q v t ≡ true → Voted (model .log) q t (v + 1)
 unfolding gave
 gave-vote limits model w q v t e =
     let l : Ledger = ledgerAt limits (model .shards) q in

@@ -177,27 +177,30 @@ pub record SerialEnd (model : Model) : Type 0 where
   pub ledger : SerialLedger
   pub runs : serialRun (genesisLedger (model .minted)) (serialOrder model) ≡ some ledger
 
-pub record Demand3 (limits : Limits) (calls : List Call) : Type 0 where
-  -- no two shards ever decide one transaction differently
-  pub agreement : (p q : ℕ) (t : Transaction) → outcomeAt limits (play limits calls) p t ≢ Wait → outcomeAt limits (play limits calls) q t ≢ Wait
-      → outcomeAt limits (play limits calls) p t ≡ outcomeAt limits (play limits calls) q t
-  -- none changes its decision: it stands in every longer list
-  pub finality : (more : List Call) (p : ℕ) (t : Transaction) → outcomeAt limits (play limits calls) p t ≢ Wait
-      → outcomeAt limits (play limits (calls ++ more)) p t ≡ outcomeAt limits (play limits calls) p t
-  -- a shard that has heard all votes holds the transaction committed exactly when each input was available at its shard's registration
-  pub commit-rule : (p : ℕ) (t : Transaction) → heardAllAt limits (play limits calls) p t ≡ true
-      → (outcomeAt limits (play limits calls) p t ≡ Commit)
-      ↔ ((x : Input) → List·Memᴰ x (usedInputs t) → WasAvailable (play limits calls .log) t x)
-  -- a shard registers a transaction once
-  pub one-entry : (a b : Entry) → List·Memᴰ a (play limits calls .log) → List·Memᴰ b (play limits calls .log)
-      → a .shard ≡ b .shard → a .transaction ≡ b .transaction → a ≡ b
-  -- the serial order lists exactly the committed transactions, each once, strictly by last registration
-  pub listed : (t : Transaction) → List·Memᴰ t (serialOrder (play limits calls)) ↔ (committed (play limits calls) t ≡ true)
-  pub each-once : EachOnce (serialOrder (play limits calls))
-  pub by-last : ByLast (play limits calls .log) (serialOrder (play limits calls))
-  -- the serial run succeeds: each input is present at its turn, with its owner and amount, and is destroyed once
-  pub serial : SerialEnd (play limits calls)
-  -- where every committed transaction is decided at all its shards, the shards hold exactly the tokens of the serial ledger
-  pub one-ledger : Settled limits (play limits calls) → (id : TokenId) → heldValue limits (play limits calls) id ≡ serial .ledger id
-  -- no shard holds two tokens of one id
-  pub one-token : (p : ℕ) → repeats sameSpot (ledgerAt limits (play limits calls .shards) p .tokens) ≡ false
+module _ (limits : Limits) (calls : List Call) where
+  -- the model after the calls
+  abbrev model : Model
+  model = play limits calls
+
+  pub record Demand3 : Type 0 where
+    -- no two shards ever decide one transaction differently
+    pub agreement : (p q : ℕ) (t : Transaction) → outcomeAt limits model p t ≢ Wait → outcomeAt limits model q t ≢ Wait
+        → outcomeAt limits model p t ≡ outcomeAt limits model q t
+    -- none changes its decision: it stands in every longer list
+    pub finality : (more : List Call) (p : ℕ) (t : Transaction) → outcomeAt limits model p t ≢ Wait
+        → outcomeAt limits (play limits (calls ++ more)) p t ≡ outcomeAt limits model p t
+    -- a shard that has heard all votes holds the transaction committed exactly when each input was available at its shard's registration
+    pub commit-rule : (p : ℕ) (t : Transaction) → heardAllAt limits model p t ≡ true
+        → (outcomeAt limits model p t ≡ Commit) ↔ ((x : Input) → List·Memᴰ x (usedInputs t) → WasAvailable (model .log) t x)
+    -- a shard registers a transaction once
+    pub one-entry : (a b : Entry) → List·Memᴰ a (model .log) → List·Memᴰ b (model .log) → a .shard ≡ b .shard → a .transaction ≡ b .transaction → a ≡ b
+    -- the serial order lists exactly the committed transactions, each once, strictly by last registration
+    pub listed : (t : Transaction) → List·Memᴰ t (serialOrder model) ↔ (committed model t ≡ true)
+    pub each-once : EachOnce (serialOrder model)
+    pub by-last : ByLast (model .log) (serialOrder model)
+    -- the serial run succeeds, in every state: each input is present at its turn, with its owner and amount, and is destroyed once
+    pub serial : SerialEnd model
+    -- where every committed transaction is decided at all its shards, the shards hold exactly the tokens of the serial ledger
+    pub one-ledger : Settled limits model → (id : TokenId) → heldValue limits model id ≡ serial .ledger id
+    -- no shard holds two tokens of one id
+    pub one-token : (p : ℕ) → repeats sameSpot (ledgerAt limits (model .shards) p .tokens) ≡ false
