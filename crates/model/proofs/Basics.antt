@@ -19,12 +19,15 @@ use Rattle.model.specs.Lists.{keep, find, mapOption, passes}
 pub eqb-eq : (m n : ℕ) → eqb m n ≡ true → m ≡ n
 eqb-eq m n e = eqb-true m n e
 
+-- a number equals itself
 pub eqb-same : (n : ℕ) → eqb n n ≡ true
 eqb-same n = eq-eqb n n refl
 
+-- equal numbers pass the test
 pub eqb-yes : {m n : ℕ} → m ≡ n → eqb m n ≡ true
 eqb-yes {m} {n} e = eq-eqb m n e
 
+-- different numbers fail it
 pub eqb-no : {m n : ℕ} → (m ≡ n → ⊥) → eqb m n ≡ false
 eqb-no {m} {n} f = ne-eqb m n f
 
@@ -33,9 +36,11 @@ pub not-yes : {b : Bool} → (b ≡ true → ⊥) → b ≡ false
 not-yes {b = true} f = absurd (f refl)
 not-yes {b = false} f = refl
 
+-- a test that is both true and false proves anything
 pub clash : {C : Type 0} {b : Bool} → b ≡ true → b ≡ false → C
 clash p q = absurd (true≢false (sym p ∙ q))
 
+-- numbers that fail the test differ
 pub eqb-apart : {m n : ℕ} → eqb m n ≡ false → m ≡ n → ⊥
 eqb-apart {m} {n} p e = clash (eq-eqb m n e) p
 
@@ -44,6 +49,7 @@ pub data Case (b : Bool) : Type 0 where
   yes-case : b ≡ true → Case b
   no-case : b ≡ false → Case b
 
+-- every test is in one of the cases
 pub case : (b : Bool) → Case b
 case true = yes-case refl
 case false = no-case refl
@@ -53,18 +59,22 @@ pub both : (a b : Bool) → a && b ≡ true → (a ≡ true) × (b ≡ true)
 both true b e = (refl, e)
 both false b e = absurd (false≢true e)
 
+-- two tests that hold, joined
 pub and-intro : {a b : Bool} → a ≡ true → b ≡ true → a && b ≡ true
 and-intro {a = true} {b} p q = q
 and-intro {a = false} {b} p q = p
 
+-- both parts of an || that fails
 pub neither : (a b : Bool) → a || b ≡ false → (a ≡ false) × (b ≡ false)
 neither true b e = absurd (true≢false e)
 neither false b e = (refl, e)
 
+-- a test whose negation fails holds
 pub not-no : (b : Bool) → not b ≡ false → b ≡ true
 not-no true e = refl
 not-no false e = absurd (true≢false e)
 
+-- a test whose negation holds fails
 pub not-is : {b : Bool} → not b ≡ true → b ≡ false
 not-is {b = true} e = absurd (false≢true e)
 not-is {b = false} e = refl
@@ -82,6 +92,7 @@ abbrev pub orElse : {A : Type 0} → Option A → Option A → Option A
 orElse none b = b
 orElse (some a) b = some a
 
+-- is there a value
 abbrev pub isSome : {A : Type 0} → Option A → Bool
 isSome none = false
 isSome (some a) = true
@@ -91,13 +102,16 @@ abbrev IsSome : {A : Type 0} → Option A → Type 0
 IsSome none = ⊥
 IsSome (some a) = Unit {0}
 
+-- a value is not nothing
 pub some≢none : {A : Type 0} {C : Type 0} {o : Option A} {a : A} → o ≡ some a → o ≡ none → C
 some≢none p q = absurd (subst IsSome (sym p ∙ q) tt)
 
+-- the value, with a default
 abbrev fromSome : {A : Type 0} → A → Option A → A
 fromSome d none = d
 fromSome d (some a) = a
 
+-- an option holds one value
 pub some-inj : {A : Type 0} {a b : A} → _≡_ {A = Option A} (some a) (some b) → a ≡ b
 some-inj {a = a} e = ap (fromSome a) e
 
@@ -106,18 +120,22 @@ pub data CaseO {A : Type 0} (o : Option A) : Type 0 where
   is-some : (a : A) → o ≡ some a → CaseO o
   is-none : o ≡ none → CaseO o
 
+-- every option is in one of the cases
 pub caseO : {A : Type 0} (o : Option A) → CaseO o
 caseO none = is-none refl
 caseO (some a) = is-some a refl
 
+-- nothing behind an option changes it
 pub orElse-none : {A : Type 0} (o : Option A) → orElse o none ≡ o
 orElse-none none = refl
 orElse-none (some a) = refl
 
+-- nothing, whichever way a test goes
 pub none-of : {A : Type 0} (b : Bool) (o : Option A) → o ≡ none → cond b none o ≡ none
 none-of true o e = refl
 none-of false o e = e
 
+-- two that are nothing make nothing
 pub or-none : {A : Type 0} (a c : Option A) → a ≡ none → c ≡ none → orElse a c ≡ none
 or-none a c e d = ap (λ o. orElse o c) e ∙ d
 
@@ -126,6 +144,7 @@ pub map-none : {A B : Type 0} (f : A → B) (o : Option A) → mapOption f o ≡
 map-none f none e = refl
 map-none f (some a) e = some≢none refl e
 
+-- a reading of the first of two is the first of two readings
 pub map-or : {A B : Type 0} (f : A → B) (a b : Option A) → mapOption f (orElse a b) ≡ orElse (mapOption f a) (mapOption f b)
 map-or f none b = refl
 map-or f (some t) b = refl
@@ -138,6 +157,7 @@ same-some (some a) q f g = sym (f a refl)
 
 -- ---- A table of refusals
 
+-- every test of a table is false
 abbrev pub AllFalse : List (Bool × ℕ) → Type 0
 AllFalse [] = Unit {0}
 AllFalse (t ∷ l) = (t .0 ≡ false) × AllFalse l
@@ -178,18 +198,22 @@ first-behind n (t ∷ a) b s e =
 
 -- ---- any, all and keep, by the elements
 
+-- an element of a list all of which pass
 pub all-at : {A : Type 0} (f : A → Bool) (l : List A) → all f l ≡ true → (x : A) → List·Memᴰ x l → f x ≡ true
 all-at f (y ∷ l) e x (List·Memᴰ·head p) = ap f p ∙ both (f y) (all f l) e .0
 all-at f (y ∷ l) e x (List·Memᴰ·tail m) = all-at f l (both (f y) (all f l) e .1) x m
 
+-- all pass if each element does
 pub all-of : {A : Type 0} (f : A → Bool) (l : List A) → ((x : A) → List·Memᴰ x l → f x ≡ true) → all f l ≡ true
 all-of f [] h = refl
 all-of f (y ∷ l) h = and-intro (h y (List·Memᴰ·head refl)) (all-of f l (λ x m. h x (List·Memᴰ·tail m)))
 
+-- all, by tests that agree on the elements
 pub all-cong : {A : Type 0} (f g : A → Bool) (l : List A) → ((x : A) → List·Memᴰ x l → f x ≡ g x) → all f l ≡ all g l
 all-cong f g [] h = refl
 all-cong f g (x ∷ l) h = λ i. h x (List·Memᴰ·head refl) i && all-cong f g l (λ y m. h y (List·Memᴰ·tail m)) i
 
+-- where some element passes, there is one
 pub any-at : {A : Type 0} (f : A → Bool) (l : List A) → any f l ≡ true → (x : A) × List·Memᴰ x l × (f x ≡ true)
 any-at f [] e = absurd (false≢true e)
 any-at {A} f (y ∷ l) e = go (f y) refl (any-at f l)
@@ -200,6 +224,7 @@ any-at {A} f (y ∷ l) e = go (f y) refl (any-at f l)
         let r : (x : A) × List·Memᴰ x l × (f x ≡ true) = h (subst (λ (b : Bool). b || any f l ≡ true) p e) in
         (r .0, List·Memᴰ·tail (r .1), r .2)
 
+-- an element that passes
 pub any-of : {A : Type 0} (f : A → Bool) {l : List A} {x : A} → List·Memᴰ x l → f x ≡ true → any f l ≡ true
 any-of f {l = y ∷ l} (List·Memᴰ·head p) e = subst (λ (b : Bool). b || any f l ≡ true) (sym e ∙ ap f p) refl
 any-of f {l = y ∷ l} (List·Memᴰ·tail m) e = go (f y) (any-of f m e)
@@ -212,9 +237,11 @@ any-of f {l = y ∷ l} (List·Memᴰ·tail m) e = go (f y) (any-of f m e)
 pub any-none : {A : Type 0} (f : A → Bool) {l : List A} {x : A} → any f l ≡ false → List·Memᴰ x l → f x ≡ false
 any-none f e m = not-yes (λ y. clash (any-of f m y) e)
 
+-- none passes if no element does
 pub any-no : {A : Type 0} (f : A → Bool) (l : List A) → ((x : A) → List·Memᴰ x l → f x ≡ true → ⊥) → any f l ≡ false
 any-no f l h = not-yes (λ e. let r = any-at f l e in h (r .0) (r .1) (r .2))
 
+-- an element that passes is kept
 pub keep-in : {A : Type 0} (f : A → Bool) (l : List A) {x : A} → List·Memᴰ x l → f x ≡ true → List·Memᴰ x (keep f l)
 keep-in f (y ∷ l) {x} (List·Memᴰ·head p) e = subst (λ (b : Bool). List·Memᴰ x (cond b (y ∷ keep f l) (keep f l))) (sym e ∙ ap f p) (List·Memᴰ·head p)
 keep-in f (y ∷ l) {x} (List·Memᴰ·tail m) e = go (f y) (keep-in f l m e)
@@ -223,6 +250,7 @@ keep-in f (y ∷ l) {x} (List·Memᴰ·tail m) e = go (f y) (keep-in f l m e)
     go true q = List·Memᴰ·tail q
     go false q = q
 
+-- what is kept is an element that passes
 pub keep-out : {A : Type 0} (f : A → Bool) (l : List A) {x : A} → List·Memᴰ x (keep f l) → List·Memᴰ x l × (f x ≡ true)
 keep-out f [] m = elim m [ ]
 keep-out f (y ∷ l) {x} m = go (f y) refl m (keep-out f l)
@@ -275,6 +303,7 @@ pub place-of : {A : Type 0} (d : A) {l : List A} {a : A} → List·Memᴰ a l �
 place-of d {l = y ∷ l} (List·Memᴰ·head e) = (0, omega arith, sym e)
 place-of d {l = y ∷ l} (List·Memᴰ·tail m) = let r = place-of d m in let h : r .0 < length l = r .1 in (suc (r .0), omega arith, r .2)
 
+-- what stands at a place of a list is an element
 pub getD-mem : {A : Type 0} (l : List A) (p : ℕ) (d : A) → p < length l → List·Memᴰ (getD l p d) l
 getD-mem [] p d h = absurd (omega arith)
 getD-mem (y ∷ l) zero d h = List·Memᴰ·head refl

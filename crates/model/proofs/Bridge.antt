@@ -29,6 +29,7 @@ step-cluster limits place model call = refl
 -- An engine: states, a `view` of a state as ledgers, what the contracts require of a state and ensure of the next (`Sound`),
 -- and the relation that the contracts of its calls state (`Does`). Its first state is empty, and each call ensures the cluster step's equation.
 pub record Engine (limits : Limits) : Type 1 where
+  -- the engine's states
   pub State : Type 0
   pub view : State → List Ledger
   pub Sound : State → Type 0
@@ -44,6 +45,7 @@ module _ {limits : Limits} (engine : Engine limits) where
   abbrev State : Type 0
   State = engine .State
 
+  -- the ledger that a state shows for a shard
   abbrev ledger : State → ℕ → Ledger
   ledger s p = ledgerAt limits (engine .view s) p
 
@@ -58,6 +60,7 @@ module _ {limits : Limits} (engine : Engine limits) where
     answered : replies ≡ answers limits place model calls
     viewed : engine .view s ≡ after limits place model calls .shards
 
+  -- a run follows the play from the model that its first state shows
   run-from : (place : ℕ) (model : Model) {s s′ : State} {calls : List Call} {replies : List Answer} → engine .Sound s → engine .view s ≡ model .shards
       → Run s calls replies s′ → Follows place model calls replies s′
   unfolding after answers
@@ -76,6 +79,7 @@ module _ {limits : Limits} (engine : Engine limits) where
     pub viewed : engine .view s ≡ play limits calls .shards
     pub demand : Demand3 limits calls
 
+  -- demand 3, whole, of every run
   pub run-demand-3 : {s : State} {calls : List Call} {replies : List Answer} → Run (engine .first) calls replies s → RunDemand calls replies s
   unfolding play playAnswers
   run-demand-3 {calls = calls} x =
@@ -84,10 +88,12 @@ module _ {limits : Limits} (engine : Engine limits) where
 
   -- ---- What demand 3 says of the shards, read off the engine's own states
 
+  -- a run that goes on
   run-append : {s s′ s″ : State} {calls more : List Call} {replies others : List Answer} → Run s calls replies s′ → Run s′ more others s″ → Run s (calls ++ more) (replies ++ others) s″
   run-append done y = y
   run-append (then x rest) y = then x (run-append rest y)
 
+  -- no two shards of the engine decide one transaction differently
   pub run-agreement : {s : State} {calls : List Call} {replies : List Answer} → Run (engine .first) calls replies s → (p q : ℕ) (t : Transaction)
       → outcomeIn (ledger s p) t ≢ Wait → outcomeIn (ledger s q) t ≢ Wait → outcomeIn (ledger s p) t ≡ outcomeIn (ledger s q) t
   run-agreement x p q t =
@@ -96,6 +102,7 @@ module _ {limits : Limits} (engine : Engine limits) where
       (λ (l : List Ledger). outcomeIn (ledgerAt limits l p) t ≢ Wait → outcomeIn (ledgerAt limits l q) t ≢ Wait → outcomeIn (ledgerAt limits l p) t ≡ outcomeIn (ledgerAt limits l q) t)
       (sym (d .viewed)) (d .demand .agreement p q t)
 
+  -- no shard of the engine changes its decision while the run goes on
   pub run-finality : {s s′ : State} {calls more : List Call} {replies others : List Answer} → Run (engine .first) calls replies s → Run s more others s′ → (p : ℕ) (t : Transaction)
       → outcomeIn (ledger s p) t ≢ Wait → outcomeIn (ledger s′ p) t ≡ outcomeIn (ledger s p) t
   run-finality {more = more} x y p t h =
@@ -103,6 +110,7 @@ module _ {limits : Limits} (engine : Engine limits) where
       let outcome : List Ledger → Outcome = λ l. outcomeIn (ledgerAt limits l p) t in
       ap outcome (run-demand-3 (run-append x y) .viewed) ∙ d .demand .finality more p t (λ z. h (ap outcome (d .viewed) ∙ z)) ∙ sym (ap outcome (d .viewed))
 
+  -- the commit rule of the engine's shards
   pub run-commit-rule : {s : State} {calls : List Call} {replies : List Answer} → Run (engine .first) calls replies s → (p : ℕ) (t : Transaction)
       → heardAllIn (ledger s p) t ≡ true → (outcomeIn (ledger s p) t ≡ Commit) ↔ ((x : Input) → List·Memᴰ x (usedInputs t) → WasAvailable (play limits calls .log) t x)
   run-commit-rule {calls = calls} x p t =
@@ -112,6 +120,7 @@ module _ {limits : Limits} (engine : Engine limits) where
       → (outcomeIn (ledgerAt limits l p) t ≡ Commit) ↔ ((x : Input) → List·Memᴰ x (usedInputs t) → WasAvailable (play limits calls .log) t x))
       (sym (d .viewed)) (d .demand .commit-rule p t)
 
+  -- the engine's shards hold what the serial ledger holds, where every committed transaction is decided at all its shards
   pub run-one-ledger : {s : State} {calls : List Call} {replies : List Answer} (x : Run (engine .first) calls replies s)
       → ((t : Transaction) → any (commits t) (engine .view s) ≡ true → (p : ℕ) → List·Memᴰ p (shardsOf t) → outcomeIn (ledger s p) t ≢ Wait)
       → (id : TokenId) → mapOption tokenValue (tokenAt (ledger s (id .shard) .tokens) (id .creator) (id .index)) ≡ demand-3 limits calls .serial .ledger id

@@ -31,6 +31,7 @@ use Rattle.model.proofs.Steps.{Inv, Next, step-next, empty-inv}
 
 -- ---- Lengths and sums
 
+-- what is kept is no longer than the list
 pub keep-length : {A : Type 0} (f : A → Bool) (l : List A) → length (keep f l) ≤ length l
 keep-length f [] = omega arith
 keep-length f (x ∷ l) = go (f x) (keep-length f l)
@@ -39,6 +40,7 @@ keep-length f (x ∷ l) = go (f x) (keep-length f l)
     go true h = omega arith
     go false h = omega arith
 
+-- the sum over two lists
 pub total-append : {A : Type 0} (f : A → ℕ) (a b : List A) → total f (a ++ b) ≡ total f a + total f b
 total-append f [] b = omega arith
 total-append f (x ∷ a) b = let h = total-append f a b in omega arith
@@ -49,6 +51,7 @@ total-set f [] i a d h = absurd (omega arith)
 total-set f (x ∷ l) zero a d h = omega arith
 total-set f (x ∷ l) (suc i) a d h = let r = total-set f l i a d (omega arith) in omega arith
 
+-- a found place is within the list
 pub find-below : {A : Type 0} (f : A → Bool) (l : List A) → any f l ≡ true → find f l < length l
 find-below f [] e = absurd (false≢true e)
 find-below f (x ∷ l) e = go (f x) e (find-below f l)
@@ -57,6 +60,7 @@ find-below f (x ∷ l) e = go (f x) e (find-below f l)
     go true e h = omega arith
     go false e h = let r = h e in omega arith
 
+-- an element of a list with one replaced is the new one or an old one
 pub mem-set : {A : Type 0} (l : List A) (i : ℕ) (a : A) {x : A} → List·Memᴰ x (set l i a) → (x ≡ a) ⊎ List·Memᴰ x l
 mem-set [] i a m = elim m [ ]
 mem-set (y ∷ l) zero a (List·Memᴰ·head e) = inl e
@@ -68,9 +72,11 @@ mem-set (y ∷ l) (suc i) a (List·Memᴰ·tail m) = ⊎-elim (λ e. inl e) (λ 
 abbrev pub isSet : Bool → Bool
 isSet flag = flag
 
+-- how many flags are set
 abbrev pub counted : List Bool → ℕ
 counted flags = length (keep isSet flags)
 
+-- a flag newly set counts one more
 counted-set : (l : List Bool) (i : ℕ) → i < length l → getD l i false ≡ false → counted (set l i true) ≡ counted l + 1
 counted-set [] i h e = absurd (omega arith)
 counted-set (b ∷ l) zero h e = go b e
@@ -98,6 +104,7 @@ made-length me t = from 0 (usedOutputs t)
         go true h = ap suc h
         go false h = h
 
+-- a commit leaves at most the tokens held and the outputs here
 commit-length : (me : ℕ) (t : Transaction) (tokens : List Token) → length (commit me t tokens) ≤ length tokens + length (outputsHere me t)
 unfolding commit
 commit-length me t tokens =
@@ -115,6 +122,7 @@ settle-room Abort me t tokens = omega arith
 
 -- ---- What holds of a ledger
 
+-- a fit ledger
 pub record Fit (limits : Limits) (me : ℕ) (ledger : Ledger) : Type 0 where
   -- the limits
   pub token-room : length (ledger .tokens) + reserved me (ledger .known) ≤ limits .tokens
@@ -126,6 +134,7 @@ pub record Fit (limits : Limits) (me : ℕ) (ledger : Ledger) : Type 0 where
   pub checked : (k : Known) → List·Memᴰ k (ledger .known) → causeOf (limits .genesis) (k .transaction) ≡ 0
   pub eight : (k : Known) → List·Memᴰ k (ledger .known) → length (k .heard) ≡ 8
 
+-- the empty ledger is fit
 pub empty-fit : (limits : Limits) (me : ℕ) → Fit limits me (emptyLedger limits)
 unfolding reserved
 empty-fit limits me = record {
@@ -142,10 +151,12 @@ form-checked : (genesis : ℕ) (t : Transaction) → fieldsFit genesis t ≡ tru
 unfolding causeOf
 form-checked genesis t a b c = rw (a, b, c) refl
 
+-- a list with one more element is not empty
 not-nothing : (l : List Known) (k : Known) → l ++ (k ∷ []) ≡ [] → ⊥
 not-nothing l k e = let h = length-append l (k ∷ []) in let z : length (l ++ (k ∷ [])) ≡ 0 = ap length e in omega arith
 
 module _ (limits : Limits) (sized : limits .genesis ≤ limits .tokens) (me : ℕ) (ledger : Ledger) (f : Fit limits me ledger) where
+  -- a genesis token keeps a ledger fit
   mint-fit : {receiver index owner amount : ℕ} → MintPasses limits me ledger receiver index owner amount → Fit limits me (afterMint ledger index owner amount)
   unfolding afterMint reserved
   mint-fit {index = index} {owner = owner} {amount = amount} h =
@@ -166,6 +177,7 @@ module _ (limits : Limits) (sized : limits .genesis ≤ limits .tokens) (me : �
         eight = f .eight;
       }
 
+  -- a registration keeps it fit
   register-fit : {receiver : ℕ} {t : Transaction} → RegisterPasses limits me ledger receiver t → Fit limits me (afterRegister me ledger t)
   unfolding afterRegister newlyKnown reserved reservedBy pledges
   register-fit {t = t} h =
@@ -186,6 +198,7 @@ module _ (limits : Limits) (sized : limits .genesis ≤ limits .tokens) (me : �
         eight = λ j m. ⊎-elim (f .eight j) (λ d. ap (λ (a : Known). length (a .heard)) (List·Memᴰ·eq-of-singleton d) ∙ length-set (replicate 8 0) me (noted (vote me (ledger .tokens) t))) (List·Memᴰ·append-cases (ledger .known) m);
       }
 
+  -- a fresh vote keeps it fit
   vote-fit : {receiver sender verdict : ℕ} {t : Transaction} → DeliverPasses limits me ledger receiver sender verdict t → heardFrom sender (entryOf t (ledger .known)) ≡ 0
       → Fit limits me (afterVote me ledger sender verdict t)
   unfolding afterVote reserved reservedBy entryOf placeOf
@@ -233,6 +246,7 @@ module _ (limits : Limits) (sized : limits .genesis ≤ limits .tokens) (me : �
 -- ---- In a cluster
 
 module _ (limits : Limits) (sized : limits .genesis ≤ limits .tokens) where
+  -- a call at the cluster keeps every shard's ledger fit
   step-fit : (place : ℕ) (model : Model) → Inv limits model → ((p : ℕ) → Fit limits p (ledgerAt limits (model .shards) p))
       → (call : Call) (r : Model × Answer) → Effect limits place model call r → (p : ℕ) → Fit limits p (ledgerAt limits (r .0 .shards) p)
   step-fit place model w f call _ (did-refuse h) = f
@@ -247,6 +261,7 @@ module _ (limits : Limits) (sized : limits .genesis ≤ limits .tokens) where
       set-elim (λ q l. Fit limits q l) (model .shards) (emptyLedger limits) p _ (let e = w .eight in let b = shard-below p (h .form .receiver-fits) in omega arith)
       (vote-fit limits sized p (ledgerAt limits (model .shards) p) (f p) h z) (λ q n. f q)
 
+  -- and so does every list of calls
   after-fit : (place : ℕ) (model : Model) → Inv limits model → ((p : ℕ) → Fit limits p (ledgerAt limits (model .shards) p))
       → (calls : List Call) (p : ℕ) → Fit limits p (ledgerAt limits (after limits place model calls .shards) p)
   unfolding after

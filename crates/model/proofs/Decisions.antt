@@ -41,22 +41,26 @@ module _ (limits : Limits) (model : Model) (w : Inv limits model) where
     pub whole : entry .transaction ≡ t
     pub is-outcome : outcomeAt limits model p t ≡ outcomeOf entry
 
+  -- an entry that is found tells the outcome
   pub knows-of : (p : ℕ) (t : Transaction) (k : Known) → look (ledgerAt limits (model .shards) p .known) (t .number) ≡ some k → k .transaction ≡ t → Knows p t
   unfolding outcomeIn
   knows-of p t k e z =
       let r = look-entry t (ledgerAt limits (model .shards) p .known) (w .at p .core .one-each) e z in
       record { entry = k; is-known = e; whole = z; is-outcome = λ i. cond (r .0 i) (outcomeOf (r .1 i)) Wait }
 
+  -- the outcome at a shard is that of its entry
   pub outcome-of : (p : ℕ) (t : Transaction) (k : Known) → look (ledgerAt limits (model .shards) p .known) (t .number) ≡ some k → k .transaction ≡ t
       → outcomeAt limits model p t ≡ outcomeOf k
   unfolding knows-of
   outcome-of p t k e z = knows-of p t k e z .is-outcome
 
+  -- a transaction that is known has an entry
   knows-for : (p : ℕ) (t : Transaction) → any (isFor t) (ledgerAt limits (model .shards) p .known) ≡ true → Knows p t
   knows-for p t e =
       let r = entry-look t (ledgerAt limits (model .shards) p .known) (w .at p .core .one-each) e in
       knows-of p t (entryOf t (ledgerAt limits (model .shards) p .known)) (r .0) (r .1)
 
+  -- a shard with an outcome has an entry
   pub knows : (p : ℕ) (t : Transaction) → outcomeAt limits model p t ≢ Wait → Knows p t
   unfolding outcomeIn
   knows p t h = go (any (isFor t) (ledgerAt limits (model .shards) p .known)) refl h
@@ -84,12 +88,14 @@ module _ (limits : Limits) (model : Model) (w : Inv limits model) where
       go (inl a) (inr b) = back b ∙ sym b
       go (inr a) b = a ∙ sym (forth a)
 
+  -- each vote that a shard heard is in the log
   pub votes-at : (p : ℕ) (t : Transaction) (k : Knows p t) (q : ℕ) → (heardFrom q (k .entry) ≡ 0 → ⊥) → Voted (model .log) q t (heardFrom q (k .entry))
   votes-at p t k q h =
       subst (λ (a : Transaction). Voted (model .log) q a (heardFrom q (k .entry))) (k .whole) (w .at p .core .votes (t .number) (k .entry) (k .is-known) q h)
 
   -- ---- Agreement
 
+  -- two shards that decided a transaction decided alike
   pub agree-at : (p q : ℕ) (t : Transaction) → outcomeAt limits model p t ≢ Wait → outcomeAt limits model q t ≢ Wait → outcomeAt limits model p t ≡ outcomeAt limits model q t
   agree-at p q t f g =
       let j = knows p t f in
@@ -111,11 +117,13 @@ module _ (limits : Limits) (model : Model) (w : Inv limits model) where
       let two : heardFrom q (k .entry) ≡ 2 = outcome-yes (k .entry) (sym (k .is-outcome) ∙ e) q (subst (λ (s : Transaction). List·Memᴰ q (shardsOf s)) (sym (k .whole)) m) in
       subst (λ (c : ℕ). Voted (model .log) q t c) two (votes-at p t k q (λ z. eqb-apart {m = 0} {n = 2} refl (sym z ∙ two)))
 
+  -- a committed transaction found each of its inputs available
   commit-available : (p : ℕ) (t : Transaction) → outcomeAt limits model p t ≡ Commit → (x : Input) → List·Memᴰ x (usedInputs t) → WasAvailable (model .log) t x
   commit-available p t e x m =
       let v = commit-votes p t e (x .token .shard) (here-shard (x .token .shard) t x (in-here t x m) .2) in
       record { entry = v .entry; logged = v .logged; at = v .at; of = v .of; found = voted-available v x (in-here t x m) }
 
+  -- where each input was available and all votes are heard, all are yes
   available-yes : (p : ℕ) (t : Transaction) (k : Knows p t) → heardAll (k .entry .transaction) (k .entry .heard) ≡ true
       → ((x : Input) → List·Memᴰ x (usedInputs t) → WasAvailable (model .log) t x) → allYes (k .entry .transaction) (k .entry .heard) ≡ true
   available-yes p t k all-heard f = all-of (isYes (k .entry .heard)) (shardsOf (k .entry .transaction)) yes-at
@@ -129,6 +137,7 @@ module _ (limits : Limits) (model : Model) (w : Inv limits model) where
           let e : a .entry ≡ v .entry = w .logged .unique (a .entry) (v .entry) (a .logged) (v .logged) (a .at ∙ h .1 ∙ sym (v .at)) (a .of ∙ sym (v .of)) in
           subst (λ (r : Entry). List·Memᴰ x (r .available)) e (a .found)))
 
+  -- commit exactly if each input was available
   pub exact-at : (p : ℕ) (t : Transaction) → heardAllAt limits model p t ≡ true
       → (outcomeAt limits model p t ≡ Commit) ↔ ((x : Input) → List·Memᴰ x (usedInputs t) → WasAvailable (model .log) t x)
   unfolding heardAllIn knows-of
@@ -146,6 +155,7 @@ module _ (limits : Limits) (model : Model) (w : Inv limits model) where
 
   -- ---- Committed: some shard has decided commit
 
+  -- a committed transaction is committed at some shard
   pub commit-at : (t : Transaction) → committed model t ≡ true → (p : ℕ) × (outcomeAt limits model p t ≡ Commit)
   unfolding committed
   commit-at t c =
@@ -153,6 +163,7 @@ module _ (limits : Limits) (model : Model) (w : Inv limits model) where
       let a = place-of (emptyLedger limits) (r .1) in
       (a .0, ap (λ (l : Ledger). outcomeIn l t) (a .2) ∙ is-commit (outcomeIn (r .0) t) (r .2))
 
+  -- what is committed at a shard is committed
   pub committed-at : (p : ℕ) (t : Transaction) → outcomeAt limits model p t ≡ Commit → committed model t ≡ true
   unfolding committed outcomeIn
   committed-at p t e = go (ltb p (length (model .shards))) refl
@@ -163,6 +174,7 @@ module _ (limits : Limits) (model : Model) (w : Inv limits model) where
           let none-there : ledgerAt limits (model .shards) p ≡ emptyLedger limits = List·getD-eq-default (model .shards) (emptyLedger limits) (ltb-false p (length (model .shards)) z) in
           absurd (wait≢commit (sym (ap (λ (l : Ledger). outcomeIn l t) none-there) ∙ e))
 
+  -- a known transaction with that outcome is committed
   pub committed-of : (p n : ℕ) (k : Known) → look (ledgerAt limits (model .shards) p .known) n ≡ some k → outcomeOf k ≡ Commit → committed model (k .transaction) ≡ true
   committed-of p n k e y =
       let known : List Known = ledgerAt limits (model .shards) p .known in
@@ -170,6 +182,7 @@ module _ (limits : Limits) (model : Model) (w : Inv limits model) where
 
 -- ---- Finality
 
+-- a decision stands in every longer list
 pub final-at : (limits : Limits) (calls more : List Call) (p : ℕ) (t : Transaction) → outcomeAt limits (play limits calls) p t ≢ Wait
     → outcomeAt limits (play limits (calls ++ more)) p t ≡ outcomeAt limits (play limits calls) p t
 unfolding Grows

@@ -20,6 +20,7 @@ use Rattle.model.proofs.Refusals.{MintPasses, mint-passes, RegisterPass
 -- ---- At one shard
 
 module _ (limits : Limits) (me : ℕ) (ledger : Ledger) where
+  -- what a call can do at a shard, with its answer
   pub data ShardEffect : Call → Ledger × Answer → Type 0 where
     shard-refused : {call : Call} {n : ℕ} → (n ≡ 0 → ⊥) → ShardEffect call (ledger, Refused n)
     shard-minted : {receiver index owner amount : ℕ} → MintPasses limits me ledger receiver index owner amount
@@ -34,6 +35,7 @@ module _ (limits : Limits) (me : ℕ) (ledger : Ledger) where
         → (heardFrom sender (entryOf t (ledger .known)) ≡ 0 → ⊥)
         → ShardEffect (deliver receiver sender verdict t) (ledger, Again (outcomeOf (entryOf t (ledger .known))))
 
+  -- every call does one of these
   pub shard-effect : (call : Call) → ShardEffect call (shardStep limits me ledger call)
   unfolding shardStep hear
   shard-effect (mint receiver index owner amount) = go (eqb (firstOf (mintRefusals limits me ledger receiver index owner amount)) 0) refl
@@ -67,6 +69,7 @@ module _ (limits : Limits) (me : ℕ) (ledger : Ledger) where
 -- ---- At the cluster, with the model's notes
 
 module _ (limits : Limits) (place : ℕ) (model : Model) where
+  -- a shard's ledger
   abbrev pub at : ℕ → Ledger
   at shard = ledgerAt limits (model .shards) shard
 
@@ -74,6 +77,7 @@ module _ (limits : Limits) (place : ℕ) (model : Model) where
   abbrev pub replaced : ℕ → Ledger → List Entry → List Genesis → Model
   replaced shard ledger log minted = record { shards = set (model .shards) shard ledger; log = log; minted = minted }
 
+  -- what a call can do to the model, with its answer
   pub data Effect : Call → Model × Answer → Type 0 where
     did-refuse : {call : Call} {n : ℕ} → (n ≡ 0 → ⊥) → Effect call (model, Refused n)
     did-mint : {p index owner amount : ℕ} → MintPasses limits p (at p) p index owner amount
@@ -94,6 +98,7 @@ module _ (limits : Limits) (place : ℕ) (model : Model) where
   put-back : (p : ℕ) → replaced p (at p) (model .log) (model .minted) ≡ model
   put-back p = λ i. record { shards = set-getD (model .shards) p (emptyLedger limits) i; log = model .log; minted = model .minted }
 
+  -- an effect that leaves the model, put back
   back : {call : Call} (p : ℕ) {answer : Answer} → Effect call (model, answer) → Effect call (replaced p (at p) (model .log) (model .minted), answer)
   back {call} p {answer} h = subst (λ (m : Model). Effect call (m, answer)) (sym (put-back p)) h
 
@@ -101,17 +106,20 @@ module _ (limits : Limits) (place : ℕ) (model : Model) where
   abbrev noted-at : ℕ → Call → Ledger × Answer → Model × Answer
   noted-at p call done = (replaced p (done .0) (logAfter limits place model call (done .1)) (mintedAfter model call (done .1)), done .1)
 
+  -- a genesis token's effect from that at its shard
   mint-effect : (p index owner amount : ℕ) (r : Ledger × Answer) → ShardEffect limits p (at p) (mint p index owner amount) r
       → Effect (mint p index owner amount) (noted-at p (mint p index owner amount) r)
   unfolding logAfter mintedAfter
   mint-effect p index owner amount _ (shard-refused h) = back p (did-refuse h)
   mint-effect p index owner amount _ (shard-minted h) = did-mint h
 
+  -- a registration's effect from that at its shard
   register-effect : (p : ℕ) (t : Transaction) (r : Ledger × Answer) → ShardEffect limits p (at p) (register p t) r → Effect (register p t) (noted-at p (register p t) r)
   unfolding logAfter mintedAfter
   register-effect p t _ (shard-refused h) = back p (did-refuse h)
   register-effect p t _ (shard-registered h) = did-register h
 
+  -- a vote's effect from that at its shard
   deliver-effect : (p sender verdict : ℕ) (t : Transaction) → notGiven limits (model .shards) p sender verdict t ≡ false
       → (r : Ledger × Answer) → ShardEffect limits p (at p) (deliver p sender verdict t) r → Effect (deliver p sender verdict t) (noted-at p (deliver p sender verdict t) r)
   unfolding logAfter mintedAfter notGiven
@@ -120,6 +128,7 @@ module _ (limits : Limits) (place : ℕ) (model : Model) where
       did-hear h (not-no (gave (at sender) sender verdict t) (not-yes (λ n. clash (and-intro (eqb-yes f) n) g))) z
   deliver-effect p sender verdict t g _ (shard-again h z) = back p (did-repeat h z)
 
+  -- every call does one of these
   pub effect : (call : Call) → Effect call (step limits place model call)
   unfolding step clusterStep atShard logAfter mintedAfter
   effect (mint p index owner amount) = mint-effect p index owner amount _ (shard-effect limits p (at p) (mint p index owner amount))

@@ -23,11 +23,13 @@ use Rattle.model.proofs.Lookups.{lookup-passes, lookup-mem, lookup-no, 
 pub same-eq : (a b : Transaction) → sameTransaction a b ≡ true → a ≡ b
 same-eq a b = same-exactly a b .0
 
+-- equal transactions pass the test
 pub same-true : {a b : Transaction} → a ≡ b → sameTransaction a b ≡ true
 same-true {a} {b} e = same-exactly a b .1 e
 
 -- ---- Lookups by number
 
+-- the test of a number
 abbrev pub numbered : ℕ → Known → Bool
 numbered n k = eqb (k .transaction .number) n
 
@@ -39,12 +41,15 @@ look known n = lookup (numbered n) known
 abbrev pub sameNumber : Known → Known → Bool
 sameNumber a b = numbered (a .transaction .number) b
 
+-- no number twice
 abbrev pub OneEach : List Known → Type 0
 OneEach known = Alone sameNumber known
 
+-- what is found has the number
 pub look-number : (l : List Known) (n : ℕ) {k : Known} → look l n ≡ some k → k .transaction .number ≡ n
 look-number l n {k} e = eqb-eq (k .transaction .number) n (lookup-passes (numbered n) l e)
 
+-- a known transaction is found by its number
 pub mem-look : (l : List Known) → OneEach l → {k : Known} → List·Memᴰ k l → look l (k .transaction .number) ≡ some k
 mem-look l s m = alone-lookup sameNumber (λ k. eqb-same (k .transaction .number)) (λ a b e. eqb-yes (sym (eqb-eq (b .transaction .number) (a .transaction .number) e))) l s m
 
@@ -53,6 +58,7 @@ abbrev pub put : Known → List Known → List Known
 put k [] = k ∷ []
 put k (j ∷ l) = cond (eqb (j .transaction .number) (k .transaction .number)) (k ∷ l) (j ∷ put k l)
 
+-- what is found after an entry was put in
 pub look-put : (k : Known) (l : List Known) (n : ℕ) → look (put k l) n ≡ cond (eqb (k .transaction .number) n) (some k) (look l n)
 look-put k [] n = refl
 look-put k (j ∷ l) n = go (eqb (j .transaction .number) (k .transaction .number)) refl (look-put k l n)
@@ -76,9 +82,11 @@ look-put k (j ∷ l) n = go (eqb (j .transaction .number) (k .transaction .numbe
         ∙ two (eqb (j .transaction .number) n) (eqb (k .transaction .number) n) (some j) (look l n)
         (λ a b. eqb-apart {m = j .transaction .number} {n = k .transaction .number} p (eqb-eq (j .transaction .number) n a ∙ sym (eqb-eq (k .transaction .number) n b)))
 
+-- the entry put in is found by its number
 pub look-put-same : (k : Known) (l : List Known) {n : ℕ} → k .transaction .number ≡ n → look (put k l) n ≡ some k
 look-put-same k l {n} e = look-put k l n ∙ ap (λ (b : Bool). cond b (some k) (look l n)) (eqb-yes e)
 
+-- any other number finds what it found
 pub look-put-other : (k : Known) (l : List Known) {n : ℕ} → (k .transaction .number ≡ n → ⊥) → look (put k l) n ≡ look l n
 look-put-other k l {n} f = look-put k l n ∙ ap (λ (b : Bool). cond b (some k) (look l n)) (eqb-no f)
 
@@ -91,6 +99,7 @@ look-put-elim Q k l h g n j e = go (eqb (k .transaction .number) n) refl (sym (l
     go true p q = subst (λ (c : Known). Q n c) (some-inj q) (subst (λ (m : ℕ). Q m k) (eqb-eq (k .transaction .number) n p) h)
     go false p q = g n j q
 
+-- putting an entry in makes no number twice
 pub one-each-put : (k : Known) (l : List Known) → OneEach l → OneEach (put k l)
 one-each-put k [] s = (refl, tt)
 one-each-put k (j ∷ l) s = go (eqb (j .transaction .number) (k .transaction .number)) refl (one-each-put k l (s .1))
@@ -101,6 +110,7 @@ one-each-put k (j ∷ l) s = go (eqb (j .transaction .number) (k .transaction .n
 
 -- ---- A registration puts its entry behind the others, and a vote puts it in its place
 
+-- behind the others, where the number is unknown
 pub append-put : (k : Known) (l : List Known) → look l (k .transaction .number) ≡ none → l ++ (k ∷ []) ≡ put k l
 append-put k [] e = refl
 append-put k (j ∷ l) e = go (eqb (j .transaction .number) (k .transaction .number)) e (append-put k l)
@@ -110,6 +120,7 @@ append-put k (j ∷ l) e = go (eqb (j .transaction .number) (k .transaction .num
     go true q h = some≢none refl q
     go false q h = ap (λ (m : List Known). j ∷ m) (h q)
 
+-- in the place of the one that is known
 pub set-put : (t : Transaction) (k : Known) (l : List Known) → OneEach l → k .transaction .number ≡ t .number → any (isFor t) l ≡ true → set l (find (isFor t) l) k ≡ put k l
 set-put t k [] s n e = absurd (false≢true e)
 set-put t k (j ∷ l) s n e = go (isFor t j) refl e (set-put t k l (s .1) n)
@@ -145,6 +156,7 @@ entry-look t l s e =
     let w = same-eq (getD l (find (isFor t) l) nothingKnown .transaction) t (r .1) in
     (ap (λ (a : Transaction). look l (a .number)) (sym w) ∙ mem-look l s (r .0), w)
 
+-- the entry by its number is the entry by its place
 pub look-entry : (t : Transaction) (l : List Known) → OneEach l → {k : Known} → look l (t .number) ≡ some k → k .transaction ≡ t → (any (isFor t) l ≡ true) × (entryOf t l ≡ k)
 look-entry t l s {k} e w =
     let a : any (isFor t) l ≡ true = any-of (isFor t) (lookup-mem (numbered (t .number)) l e) (same-true w) in
@@ -152,12 +164,15 @@ look-entry t l s {k} e w =
 
 -- ---- Outcomes
 
+-- the outcomes differ
 pub commit≢wait : Commit ≡ Wait → ⊥
 commit≢wait e = let z : _≡_ {A = ℕ} 0 1 = cc in eqb-apart {m = 0} {n = 1} refl z
 
+-- the outcomes differ
 pub abort≢commit : Abort ≡ Commit → ⊥
 abort≢commit e = let z : _≡_ {A = ℕ} 0 1 = cc in eqb-apart {m = 0} {n = 1} refl z
 
+-- the outcomes differ
 pub wait≢commit : Wait ≡ Commit → ⊥
 wait≢commit e = commit≢wait (sym e)
 

@@ -27,6 +27,7 @@ use Rattle.model.specs.Demand.{outcomeIn, committed, serialFrom, serialO
 input : ℕ → ℕ → ℕ → ℕ → ℕ → Input
 input shard creator index owner amount = record { token = record { shard = shard; creator = creator; index = index }; owner = owner; amount = amount }
 
+-- an output to a shard
 output : ℕ → ℕ → ℕ → Output
 output shard owner amount = record { shard = shard; owner = owner; amount = amount }
 
@@ -44,6 +45,7 @@ make number xs ys = record {
 tokensAfter : List Call → ℕ → List Token
 tokensAfter calls shard = ledgerAt house (play house calls .shards) shard .tokens
 
+-- a held token
 token : ℕ → ℕ → ℕ → ℕ → ℕ → Token
 token creator index owner amount pledge = record { creator = creator; index = index; owner = owner; amount = amount; pledge = pledge }
 
@@ -55,6 +57,7 @@ both = make 5 (input 0 0 0 10 3 ∷ input 1 0 0 20 2 ∷ []) (output 1 10 3 ∷ 
 known-at-both : List Call
 known-at-both = mint 0 0 10 3 ∷ mint 1 0 20 2 ∷ register 0 both ∷ register 1 both ∷ []
 
+-- the last three of document 01's calls
 votes : List Call
 votes = deliver 0 1 1 both ∷ deliver 1 0 1 both ∷ deliver 1 0 1 both ∷ []
 
@@ -62,9 +65,11 @@ votes = deliver 0 1 1 both ∷ deliver 1 0 1 both ∷ deliver 1 0 1 both ∷ []
 alone : ℕ → Transaction
 alone number = make number (input 0 0 0 10 3 ∷ []) (output 0 11 3 ∷ [])
 
+-- the token with another owner
 wrong : Transaction
 wrong = make 6 (input 0 0 0 99 3 ∷ []) (output 0 11 3 ∷ [])
 
+-- that token and one that is not there
 half : Transaction
 half = make 6 (input 0 0 0 10 3 ∷ input 0 0 1 10 1 ∷ []) (output 0 11 4 ∷ [])
 
@@ -72,6 +77,7 @@ half = make 6 (input 0 0 0 10 3 ∷ input 0 0 1 10 1 ∷ []) (output 0 11 4 ∷ 
 other5 : Transaction
 other5 = make 5 (input 0 0 0 10 3 ∷ []) (output 1 10 3 ∷ [])
 
+-- like document 01's in all but an owner
 near5 : Transaction
 near5 = make 5 (input 0 0 0 10 3 ∷ input 1 0 0 20 2 ∷ []) (output 1 10 3 ∷ output 0 21 2 ∷ [])
 
@@ -83,6 +89,7 @@ pass from to = make 7 (input from 0 0 10 3 ∷ []) (output to 20 3 ∷ [])
 torn : Transaction
 torn = make 8 (input 0 0 0 10 3 ∷ input 1 0 0 20 2 ∷ []) (output 1 10 3 ∷ output 0 20 2 ∷ [])
 
+-- it is registered at both, and both votes are delivered
 torn-apart : List Call
 torn-apart = mint 0 0 10 3 ∷ register 0 torn ∷ register 1 torn ∷ deliver 0 1 0 torn ∷ deliver 1 0 1 torn ∷ []
 
@@ -92,6 +99,7 @@ small = record { tokens = 2; transactions = 2; genesis = 2 }
 
 -- ---- What the model says of them
 
+-- the facts
 pub record Examples : Type 0 where
   -- document 01's seven calls, and what the shards then hold
   seven-answers : playAnswers house (known-at-both ++ votes) ≡ Minted ∷ Minted ∷ Registered true Wait ∷ Registered true Wait ∷ Heard Commit ∷ Heard Commit ∷ Again Commit ∷ []
@@ -148,6 +156,7 @@ pub record Examples : Type 0 where
   full-10 : playAnswers small (mint 0 0 10 3 ∷ register 0 (alone 1) ∷ []) ≡ Minted ∷ Registered true Commit ∷ []
   over-10 : playAnswers small (mint 0 0 10 3 ∷ mint 0 1 10 3 ∷ register 0 (alone 1) ∷ []) ≡ Minted ∷ Minted ∷ Refused 10 ∷ []
 
+-- each of them by computation
 pub examples : Examples
 unfolding input output make tokensAfter token both known-at-both votes alone wrong half other5 near5 pass torn torn-apart small takesPart sameToken sameInput sameOutput sameTransaction indexFits valueFits inputFits outputFits countsFit fieldsFit sameName namedTwice balanced mintFits inputsHere available availableHere pledges vote newlyKnown decide outputsHere madeHere commit afterMint afterRegister afterVote placeOf entryOf reservedBy reserved mintRefusals registerRefusals deliverForm deliverRefusals hear shardStep gave notGiven atShard clusterStep logAfter mintedAfter step after answers play playAnswers outcomeIn committed serialFrom
 examples = record {

@@ -28,6 +28,7 @@ tok-name l m i {t} e =
     let r = both (eqb (t .creator) m) (eqb (t .index) i) (lookup-passes (hasSpot m i) l e) in
     (eqb-eq (t .creator) m (r .0), eqb-eq (t .index) i (r .1))
 
+-- a held token is found by its creator and index
 pub mem-tok : (l : List Token) → NoTwice l → {t : Token} → List·Memᴰ t l → tokenAt l (t .creator) (t .index) ≡ some t
 mem-tok l s m =
     alone-lookup sameSpot (λ t. and-intro (eqb-same (t .creator)) (eqb-same (t .index)))
@@ -38,6 +39,7 @@ mem-tok l s m =
 
 -- ---- Inputs at a shard
 
+-- an input at a shard is one of the transaction, and the shard takes part
 pub here-shard : (p : ℕ) (t : Transaction) (x : Input) → List·Memᴰ x (inputsHere p t) → (List·Memᴰ x (usedInputs t)) × (x .token .shard ≡ p) × List·Memᴰ p (shardsOf t)
 unfolding inputsHere
 here-shard p t x m =
@@ -45,6 +47,7 @@ here-shard p t x m =
     let e : x .token .shard ≡ p = eqb-eq (x .token .shard) p (r .1) in
     (r .0, e, Memᴰ·append-left (map outputShard (usedOutputs t)) (Memᴰ·cast (sym e) (Memᴰ·map inputShard (r .0))))
 
+-- an input is among those at its shard
 pub in-here : (t : Transaction) (x : Input) → List·Memᴰ x (usedInputs t) → List·Memᴰ x (inputsHere (x .token .shard) t)
 unfolding inputsHere
 in-here t x m = keep-in (inputHere (x .token .shard)) (usedInputs t) m (eqb-same (x .token .shard))
@@ -53,6 +56,7 @@ in-here t x m = keep-in (inputHere (x .token .shard)) (usedInputs t) m (eqb-same
 abbrev pub takesSpot : ℕ → ℕ → Input → Bool
 takesSpot m i x = eqb m (x .token .creator) && eqb i (x .token .index)
 
+-- does an input at shard p take it
 unfoldable pub taken : ℕ → Transaction → ℕ → ℕ → Bool
 taken p t m i = any (takesSpot m i) (inputsHere p t)
 
@@ -63,6 +67,7 @@ pub record Takes (p : ℕ) (t : Transaction) (m i : ℕ) : Type 0 where
   pub is-creator : input .token .creator ≡ m
   pub is-index : input .token .index ≡ i
 
+-- the input that takes it
 pub taken-by : (p : ℕ) (t : Transaction) (m i : ℕ) → taken p t m i ≡ true → Takes p t m i
 unfolding taken
 taken-by p t m i e =
@@ -72,12 +77,14 @@ taken-by p t m i e =
 
 -- ---- An available input's token
 
+-- the token of an available input
 pub record Available (tokens : List Token) (x : Input) : Type 0 where
   pub token : Token
   pub is-there : tokenAt tokens (x .token .creator) (x .token .index) ≡ some token
   pub is-value : tokenValue token ≡ inputValue x
   pub is-free : token .pledge ≡ 0
 
+-- an available input has such a token
 pub available-token : (tokens : List Token) (x : Input) → NoTwice tokens → available tokens x ≡ true → Available tokens x
 unfolding available
 available-token tokens x s e =
@@ -106,11 +113,13 @@ pledge-keeps n xs t = go (any (namedBy t) xs)
     go true = (refl, refl, refl)
     go false = (refl, refl, refl)
 
+-- a lookup after pledges
 pub tok-pledges : (n : ℕ) (xs : List Input) (tokens : List Token) (m i : ℕ) → tokenAt (pledges n xs tokens) m i ≡ mapOption (pledgeIf n xs) (tokenAt tokens m i)
 unfolding pledges
 tok-pledges n xs tokens m i =
     lookup-map (hasSpot m i) (hasSpot m i) (pledgeIf n xs) (λ t j. eqb (pledge-keeps n xs t .0 j) m && eqb (pledge-keeps n xs t .1 j) i) tokens
 
+-- pledges change no value
 pub value-pledged : (n : ℕ) (xs : List Input) (o : Option Token) → mapOption tokenValue (mapOption (pledgeIf n xs) o) ≡ mapOption tokenValue o
 value-pledged n xs none = refl
 value-pledged n xs (some t) = ap some (pledge-keeps n xs t .2)
@@ -128,6 +137,7 @@ pub pledge-set : (n : ℕ) (xs : List Input) (t : Token) (x : Input) → List·M
 pledge-set n xs t x m a b =
     ap (λ (c : Bool). (cond c (pledgedTo n t) t) .pledge) (any-of (namedBy t) m (and-intro (eqb-yes a) (eqb-yes b)))
 
+-- pledges make no token twice
 pub no-twice-pledges : (n : ℕ) (xs : List Input) (tokens : List Token) → NoTwice tokens → NoTwice (pledges n xs tokens)
 unfolding pledges
 no-twice-pledges n xs tokens s =
@@ -159,14 +169,17 @@ made-from p n j (o ∷ l) m i {t} e = go (eqb (o .shard) p) refl e (made-from p 
             (sym (eqb-eq n m (r .0)), List·Memᴰ·head (sym (eqb-eq (o .shard) p y)), omega arith)
         hit false z q = let w : suc j ≤ i = h q .2 in (h q .0, List·Memᴰ·tail (h q .1), omega arith)
 
+-- a made token's creator is the transaction
 pub made-number : (p : ℕ) (t : Transaction) (m i : ℕ) {k : Token} → tokenAt (madeHere p t) m i ≡ some k → m ≡ t .number
 unfolding madeHere
 made-number p t m i e = made-from p (t .number) 0 (usedOutputs t) m i e .0
 
+-- tokens are made at shards that take part
 pub made-shard : (p : ℕ) (t : Transaction) (m i : ℕ) {k : Token} → tokenAt (madeHere p t) m i ≡ some k → List·Memᴰ p (shardsOf t)
 unfolding madeHere
 made-shard p t m i e = Memᴰ·append-right (map inputShard (usedInputs t)) (made-from p (t .number) 0 (usedOutputs t) m i e .1)
 
+-- outputs make no token twice
 no-twice-from : (p n j : ℕ) (l : List Output) → NoTwice (tokensFrom p n j l)
 no-twice-from p n j [] = tt
 no-twice-from p n j (o ∷ l) = go (eqb (o .shard) p) (no-twice-from p n (suc j) l)
@@ -191,9 +204,11 @@ stays-untaken p t m i k e =
     let r = both (eqb (k .creator) m) (eqb (k .index) i) e in
     λ j. not (any (takesSpot (eqb-eq (k .creator) m (r .0) j) (eqb-eq (k .index) i (r .1) j)) (inputsHere p t))
 
+-- a lookup among the tokens that stay
 tok-left : (p : ℕ) (t : Transaction) (tokens : List Token) (m i : ℕ) → tokenAt (keep (stays (inputsHere p t)) tokens) m i ≡ cond (taken p t m i) none (tokenAt tokens m i)
 tok-left p t tokens m i = lookup-keep (hasSpot m i) (stays (inputsHere p t)) (taken p t m i) (stays-untaken p t m i) tokens
 
+-- a lookup after a commit
 pub tok-commit : (p : ℕ) (t : Transaction) (tokens : List Token) (m i : ℕ)
     → tokenAt (commit p t tokens) m i ≡ orElse (cond (taken p t m i) none (tokenAt tokens m i)) (tokenAt (madeHere p t) m i)
 unfolding commit
@@ -201,6 +216,7 @@ tok-commit p t tokens m i =
     lookup-append (hasSpot m i) (keep (stays (inputsHere p t)) tokens) (madeHere p t)
     ∙ ap (λ (o : Option Token). orElse o (tokenAt (madeHere p t) m i)) (tok-left p t tokens m i)
 
+-- a commit makes no token twice, where none was made by its number before
 pub no-twice-commit : (p : ℕ) (t : Transaction) (tokens : List Token) → NoTwice tokens → ((i : ℕ) → tokenAt tokens (t .number) i ≡ none) → NoTwice (commit p t tokens)
 unfolding commit madeHere
 no-twice-commit p t tokens s h =

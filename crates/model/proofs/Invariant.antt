@@ -35,6 +35,7 @@ pub record Voted (log : List Entry) (q : ℕ) (t : Transaction) (c : ℕ) : Type
   pub is-vote : (c ≡ 1) ⊎ (c ≡ 2)
   pub says : (c ≡ 2) ↔ ((x : Input) → List·Memᴰ x (inputsHere q t) → List·Memᴰ x (entry .available))
 
+-- a vote stays in a longer log
 pub voted-more : {log : List Entry} {q : ℕ} {t : Transaction} {c : ℕ} (r : Entry) → Voted log q t c → Voted (r ∷ log) q t c
 voted-more r v = record { entry = v .entry; logged = List·Memᴰ·tail (v .logged); at = v .at; of = v .of; is-vote = v .is-vote; says = v .says }
 
@@ -51,6 +52,7 @@ Complete log t = (q : ℕ) → List·Memᴰ q (shardsOf t) → Registration log 
 
 -- ---- What the genesis tokens and the commits of a shard have made; `genesis` is the value of a genesis token by creator and index
 
+-- what a commit makes, and no other outcome
 abbrev pub onCommit : {A : Type 0} → Outcome → Option A → Option A
 onCommit Wait o = none
 onCommit Commit o = o
@@ -60,10 +62,12 @@ onCommit Abort o = none
 abbrev pub gain : ℕ → Transaction → ℕ → ℕ → Option Value
 gain p t m i = mapOption tokenValue (tokenAt (madeHere p t) m i)
 
+-- what a known transaction has made
 abbrev pub byCommit : ℕ → Option Known → ℕ → ℕ → Option Value
 byCommit p none m i = none
 byCommit p (some k) m i = onCommit (outcomeOf k) (gain p (k .transaction) m i)
 
+-- what was made under a creator and an index
 unfoldable pub made : ℕ → (ℕ → ℕ → Option Value) → List Known → ℕ → ℕ → Option Value
 made p genesis known m i = orElse (genesis m i) (byCommit p (look known m) m i)
 
@@ -96,6 +100,7 @@ Sources p genesis known (r ∷ older) =
 
 -- ---- The invariant of one shard
 
+-- the tokens, the known transactions and the log of one shard
 pub record Core (log : List Entry) (p : ℕ) (tokens : List Token) (genesis : ℕ → ℕ → Option Value) (known : List Known) : Type 0 where
   -- known transactions have distinct numbers, none of them 0, and name no token twice
   pub one-each : OneEach known
@@ -111,6 +116,7 @@ pub record Core (log : List Entry) (p : ℕ) (tokens : List Token) (genesis : �
   pub there : (m i : ℕ) → (Consumed p known m i → ⊥) → mapOption tokenValue (tokenAt tokens m i) ≡ made p genesis known m i
   pub sources : Sources p genesis known log
 
+-- the ledger of one shard
 pub record Ok (limits : Limits) (log : List Entry) (p : ℕ) (genesis : ℕ → ℕ → Option Value) (ledger : Ledger) : Type 0 where
   pub core : Core log p (ledger .tokens) genesis (ledger .known)
   pub flags : length (ledger .given) ≡ limits .genesis
@@ -123,15 +129,18 @@ pub record Ok (limits : Limits) (log : List Entry) (p : ℕ) (genesis : ℕ → 
 
 -- ---- Sources of the inputs of a yes vote
 
+-- an input that was found available has a source
 pub sources-at : (p : ℕ) (genesis : ℕ → ℕ → Option Value) (known : List Known) (log : List Entry) (x : Input) → Sources p genesis known log
     → (r : Entry) → List·Memᴰ r log → r .shard ≡ p → List·Memᴰ x (r .available) → (older : List Entry) × Source p genesis known older x
 sources-at p genesis known (r₀ ∷ older) x src r (List·Memᴰ·head e) at a =
     (older, src .0 (ap (λ (c : Entry). c .shard) (sym e) ∙ at) x (subst (λ (c : Entry). List·Memᴰ x (c .available)) e a))
 sources-at p genesis known (r₀ ∷ older) x src r (List·Memᴰ·tail d) at a = sources-at p genesis known older x (src .1) r d at a
 
+-- a yes vote found each input available
 pub voted-available : {log : List Entry} {p : ℕ} {t : Transaction} (v : Voted log p t 2) (x : Input) → List·Memᴰ x (inputsHere p t) → List·Memᴰ x (v .entry .available)
 voted-available v x m = v .says .0 refl x m
 
+-- so each input of a yes vote has a source
 pub sourced : (p : ℕ) (genesis : ℕ → ℕ → Option Value) (known : List Known) (log : List Entry) (t : Transaction) (x : Input) → Sources p genesis known log
     → Voted log p t 2 → List·Memᴰ x (inputsHere p t) → (older : List Entry) × Source p genesis known older x
 sourced p genesis known log t x src v m = sources-at p genesis known log x src (v .entry) (v .logged) (v .at) (voted-available v x m)
@@ -167,6 +176,7 @@ module _ {log : List Entry} {p : ℕ} {tokens : List Token} {genesis : ℕ → �
       go (is-none e) = e
       go (is-some t e) = map-none tokenValue (tokenAt tokens m i) (c .there m i (λ d. some≢none e (c .gone m i d)) ∙ z)
 
+  -- what is held was made, with its value
   pub held-made : (m i : ℕ) {t : Token} → tokenAt tokens m i ≡ some t → made p genesis known m i ≡ some (tokenValue t)
   held-made m i {t} e = sym (c .there m i (λ d. some≢none e (c .gone m i d))) ∙ ap (mapOption tokenValue) e
 
@@ -184,9 +194,11 @@ pub record Enters (log : List Entry) (p : ℕ) (known : List Known) (k : Known) 
 module _ {log : List Entry} {p : ℕ} {tokens : List Token} {genesis : ℕ → ℕ → Option Value} {known : List Known} (c : Core log p tokens genesis known)
     (k : Known) (tokens₁ : List Token) (en : Enters log p known k)
     (keeps : (m i : ℕ) → mapOption tokenValue (tokenAt tokens₁ m i) ≡ mapOption tokenValue (tokenAt tokens m i)) where
+  -- the known transactions with k
   abbrev new : List Known
   new = put k known
 
+  -- the tokens with its outcome
   abbrev after : List Token
   after = settle (outcomeOf k) p (k .transaction) tokens₁
 
@@ -244,9 +256,11 @@ module _ {log : List Entry} {p : ℕ} {tokens : List Token} {genesis : ℕ → �
     is-known = look-put-other k known (λ e. en .undecided (d .entry) (ap (look known) e ∙ d .is-known) (d .is-commit)) ∙ d .is-known;
   }
 
+  -- its inputs here are consumed
   consumed-new : (m i : ℕ) → outcomeOf k ≡ Commit → taken p (k .transaction) m i ≡ true → Consumed p new m i
   consumed-new m i y t = record { number = k .transaction .number; entry = k; is-known = look-put-same k known refl; is-commit = y; is-taken = t }
 
+  -- nothing else is
   consumed-cases : (m i : ℕ) → Consumed p new m i → Consumed p known m i ⊎ ((outcomeOf k ≡ Commit) × (taken p (k .transaction) m i ≡ true))
   consumed-cases m i d =
       look-put-elim (λ n j. outcomeOf j ≡ Commit → taken p (j .transaction) m i ≡ true → Consumed p known m i ⊎ ((outcomeOf k ≡ Commit) × (taken p (k .transaction) m i ≡ true)))
@@ -262,12 +276,15 @@ module _ {log : List Entry} {p : ℕ} {tokens : List Token} {genesis : ℕ → �
       let s = sourced p genesis known log (k .transaction) (w .input) (c .sources) (subst (λ (v : ℕ). Voted log p (k .transaction) v) two (en .votes p (en .own))) (w .is-here) in
       some≢none (source-made p genesis known (s .0) (w .input) (c .number) (c .zero-only) (s .1)) ((λ j. made p genesis known (w .is-creator j) (w .is-index j)) ∙ z)
 
+  -- what is consumed was made before
   made-before : (m i : ℕ) → Consumed p new m i → made p genesis known m i ≡ none → ⊥
   made-before m i d z = ⊎-elim (λ e. consumed-made c m i e z) (λ e. commit-made (e .0) m i (e .1) z) (consumed-cases m i d)
 
+  -- what was consumed before is not there
   gone-same : (m i : ℕ) → Consumed p known m i → tokenAt tokens₁ m i ≡ none
   gone-same m i d = map-none tokenValue (tokenAt tokens₁ m i) (keeps m i ∙ ap (mapOption tokenValue) (c .gone m i d))
 
+  -- what is consumed is not there afterwards
   gone-new : (m i : ℕ) → Consumed p new m i → tokenAt after m i ≡ none
   gone-new m i d = go (outcomeOf k) refl
     where
@@ -291,6 +308,7 @@ module _ {log : List Entry} {p : ℕ} {tokens : List Token} {genesis : ℕ → �
           made-none (is-none z) = z
           made-none (is-some t z) = absurd (made-before m i d (unmade-number m i (made-number p (k .transaction) m i z)))
 
+  -- what is not consumed is there if it was made
   there-new : (m i : ℕ) → (Consumed p new m i → ⊥) → mapOption tokenValue (tokenAt after m i) ≡ made p genesis new m i
   there-new m i f = go (outcomeOf k) refl ∙ sym (made-new m i)
     where
@@ -313,10 +331,12 @@ module _ {log : List Entry} {p : ℕ} {tokens : List Token} {genesis : ℕ → �
   source-new older x (from-commit j e y g all) =
       from-commit j (look-put-other k known (λ n. en .undecided j (ap (look known) n ∙ e) y) ∙ e) y g all
 
+  -- and so do those of the whole log
   sources-new : (r : List Entry) → Sources p genesis known r → Sources p genesis new r
   sources-new [] s = tt
   sources-new (r ∷ older) s = (λ e x a. source-new older x (s .0 e x a), sources-new older (s .1))
 
+  -- the invariant once k is entered
   pub core-enter : Core log p after genesis new
   core-enter = record {
     one-each = one-each-put k known (c .one-each);
@@ -348,9 +368,11 @@ module _ {log : List Entry} {p : ℕ} {tokens : List Token} {genesis : ℕ → �
             is-there = tok-commit p (k .transaction) tokens₁ m i ∙ (λ j. orElse (cond (n j) none (t .is-there j)) (tokenAt (madeHere p (k .transaction)) m i));
           })
 
+  -- an input once available stays consumed or pledged
   pub bound-more : (m i : ℕ) → Consumed p known m i ⊎ Pledged tokens₁ m i → Consumed p new m i ⊎ Pledged after m i
   bound-more m i b = ⊎-elim (λ d. inl (consumed-more m i d)) (bound-enter m i) b
 
+  -- no token twice, once k is entered
   pub no-twice-enter : NoTwice tokens₁ → NoTwice after
   no-twice-enter n = go (outcomeOf k)
     where

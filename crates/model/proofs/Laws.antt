@@ -44,6 +44,7 @@ leaves (Registered verdict outcome) = false
 leaves (Heard outcome) = false
 leaves (Again outcome) = true
 
+-- by cases on what a call did at a shard
 shard-left : (limits : Limits) (me : ℕ) (ledger : Ledger) (call : Call) (r : Ledger × Answer) → ShardEffect limits me ledger call r → leaves (r .1) ≡ true → r .0 ≡ ledger
 shard-left limits me ledger call _ (shard-refused h) e = refl
 shard-left limits me ledger call _ (shard-again h z) e = refl
@@ -55,10 +56,12 @@ shard-left limits me ledger call _ (shard-heard h g z) e = absurd (true≢false 
 pub shard-unchanged : (limits : Limits) (me : ℕ) (ledger : Ledger) (call : Call) → leaves (shardStep limits me ledger call .1) ≡ true → shardStep limits me ledger call .0 ≡ ledger
 shard-unchanged limits me ledger call e = shard-left limits me ledger call (shardStep limits me ledger call) (shard-effect limits me ledger call) e
 
+-- the same at the receiving shard of a cluster
 at-unchanged : (limits : Limits) (shards : List Ledger) (p : ℕ) (call : Call) → leaves (atShard limits shards p call .1) ≡ true → atShard limits shards p call .0 ≡ shards
 unfolding atShard
 at-unchanged limits shards p call e = ap (set shards p) (shard-unchanged limits p (ledgerAt limits shards p) call e) ∙ set-getD shards p (emptyLedger limits)
 
+-- they change no shard of a cluster
 pub cluster-unchanged : (limits : Limits) (shards : List Ledger) (call : Call) → leaves (clusterStep limits shards call .1) ≡ true → clusterStep limits shards call .0 ≡ shards
 unfolding clusterStep
 cluster-unchanged limits shards (mint p index owner amount) e = at-unchanged limits shards p (mint p index owner amount) e
@@ -72,6 +75,7 @@ cluster-unchanged limits shards (deliver p sender verdict t) e = go (notGiven li
     go true e = refl
     go false e = at-unchanged limits shards p (deliver p sender verdict t) e
 
+-- by cases on what a call did to the model
 model-left : (limits : Limits) (place : ℕ) (model : Model) (call : Call) (r : Model × Answer) → Effect limits place model call r → leaves (r .1) ≡ true → r .0 ≡ model
 model-left limits place model call _ (did-refuse h) e = refl
 model-left limits place model call _ (did-repeat h z) e = refl
@@ -91,6 +95,7 @@ number-left limits me ledger call _ (shard-registered h) n e z = let y : _≡_ {
 number-left limits me ledger call _ (shard-heard h g w) n e z = let y : _≡_ {A = ℕ} 0 1 = cc in omega arith
 number-left limits me ledger call _ (shard-again h w) n e z = let y : _≡_ {A = ℕ} 0 1 = cc in omega arith
 
+-- a refusal has a number
 pub refused-number : (limits : Limits) (me : ℕ) (ledger : Ledger) (call : Call) (n : ℕ) → shardStep limits me ledger call .1 ≡ Refused n → n ≢ 0
 refused-number limits me ledger call = number-left limits me ledger call (shardStep limits me ledger call) (shard-effect limits me ledger call)
 
@@ -109,6 +114,7 @@ one-number limits calls p = alone-repeats sameNumber (ledgerAt limits (play limi
 
 -- ---- Amounts
 
+-- a call logs balanced transactions only
 balanced-step : (limits : Limits) (place : ℕ) (model : Model) → ((e : Entry) → List·Memᴰ e (model .log) → balanced (e .transaction) ≡ true)
     → (call : Call) (r : Model × Answer) → Effect limits place model call r → (e : Entry) → List·Memᴰ e (r .0 .log) → balanced (e .transaction) ≡ true
 balanced-step limits place model f call _ (did-refuse h) = f
@@ -121,6 +127,7 @@ balanced-step limits place model f call _ (did-register {p = p} {t = t} h) = go
     go e (List·Memᴰ·head z) = ap (λ (r : Entry). balanced (r .transaction)) z ∙ h .form .balances
     go e (List·Memᴰ·tail m) = f e m
 
+-- and so does every list of calls
 balanced-after : (limits : Limits) (place : ℕ) (model : Model) → ((e : Entry) → List·Memᴰ e (model .log) → balanced (e .transaction) ≡ true)
     → (calls : List Call) (e : Entry) → List·Memᴰ e (after limits place model calls .log) → balanced (e .transaction) ≡ true
 unfolding after
@@ -139,6 +146,7 @@ committed-balance limits calls t c =
 
 -- ---- Refusal 12 is met at a lone shard only: in a cluster, a sender that has given a vote has given no other
 
+-- the other verdict is neither none nor this one
 other-clash : (heard verdict : ℕ) → otherVerdict heard verdict ≡ true → (heard ≡ 0 → ⊥) × (heard ≡ verdict + 1 → ⊥)
 other-clash heard verdict e =
     let r = both (not (eqb heard 0)) (not (eqb heard (verdict + 1))) e in
@@ -185,6 +193,7 @@ deliver-number limits p ledger sender verdict t n e = go (eqb (firstOf (deliverR
     go true false e = let z : _≡_ {A = ℕ} 0 1 = cc in absurd (omega arith)
     go false b e = cc
 
+-- 12 is never answered in a cluster
 pub never-twelve : (limits : Limits) (calls : List Call) (p sender verdict : ℕ) (t : Transaction) → clusterStep limits (play limits calls .shards) (deliver p sender verdict t) .1 ≢ Refused 12
 unfolding clusterStep atShard notGiven
 never-twelve limits calls p sender verdict t e = go (notGiven limits shards p sender verdict t) refl e

@@ -18,6 +18,7 @@ module _ {A : Type 0} where
       go true p q h = ap f (sym (some-inj q)) ∙ p
       go false p q h = h q
 
+  -- what is found is an element
   pub lookup-mem : (f : A → Bool) (l : List A) {x : A} → lookup f l ≡ some x → List·Memᴰ x l
   lookup-mem f [] e = some≢none e refl
   lookup-mem f (y ∷ l) {x} e = go (f y) e (lookup-mem f l)
@@ -34,6 +35,7 @@ module _ {A : Type 0} where
       go (is-none z) = z
       go (is-some x z) = clash (any-of f (lookup-mem f l z) (lookup-passes f l z)) e
 
+  -- no element passes where nothing is found
   pub lookup-none : (f : A → Bool) (l : List A) → lookup f l ≡ none → any f l ≡ false
   lookup-none f [] e = refl
   lookup-none f (y ∷ l) e = go (f y) e (lookup-none f l)
@@ -42,6 +44,7 @@ module _ {A : Type 0} where
       go true q h = some≢none refl q
       go false q h = h q
 
+  -- a lookup in two lists
   pub lookup-append : (f : A → Bool) (a b : List A) → lookup f (a ++ b) ≡ orElse (lookup f a) (lookup f b)
   lookup-append f [] b = refl
   lookup-append f (y ∷ a) b = go (f y) (lookup-append f a b)
@@ -85,10 +88,12 @@ module _ {A : Type 0} where
   Alone like [] = Unit {0}
   Alone like (x ∷ l) = (lookup (like x) l ≡ none) × Alone like l
 
+  -- the test of the table finds no pair
   pub alone-repeats : (like : A → A → Bool) (l : List A) → Alone like l → repeats like l ≡ false
   alone-repeats like [] s = refl
   alone-repeats like (x ∷ l) s = λ i. lookup-none (like x) l (s .0) i || alone-repeats like l (s .1) i
 
+  -- two such lists whose elements are not alike
   pub alone-append : (like : A → A → Bool) (a b : List A) → Alone like a → Alone like b → ((x : A) → List·Memᴰ x a → lookup (like x) b ≡ none) → Alone like (a ++ b)
   alone-append like [] b sa sb h = sb
   alone-append like (x ∷ a) b sa sb h = (
@@ -96,6 +101,7 @@ module _ {A : Type 0} where
     alone-append like a b (sa .1) sb (λ y m. h y (List·Memᴰ·tail m)),
   )
 
+  -- a change that keeps what is alike
   pub alone-map : (like : A → A → Bool) (g : A → A) → ((x y : A) → like (g x) (g y) ≡ like x y) → (l : List A) → Alone like l → Alone like (map g l)
   alone-map like g h [] s = tt
   alone-map like g h (x ∷ l) s = (lookup-map (like x) (like (g x)) g (h x) l ∙ ap (mapOption g) (s .0), alone-map like g h l (s .1))
@@ -110,6 +116,7 @@ module _ {A : Type 0} where
       go false true p q h = ap (λ (b : Bool). cond b (some y) (lookup f (keep g l))) p ∙ h q
       go false false p q h = h q
 
+  -- the elements kept
   pub alone-keep : (like : A → A → Bool) (g : A → Bool) (l : List A) → Alone like l → Alone like (keep g l)
   alone-keep like g [] s = tt
   alone-keep like g (x ∷ l) s = go (g x) (alone-keep like g l (s .1))

@@ -25,6 +25,7 @@ use Rattle.model.proofs.Serial.{last-entry, last-of, last-tail, late}
 -- ---- Exactly the committed transactions, each once
 
 module _ (limits : Limits) (model : Model) (w : Inv limits model) where
+  -- what is listed is committed, and no newer entry is of it
   serial-in : (rest newer : List Entry) (t : Transaction) → List·Memᴰ t (serialFrom model newer rest) → (committed model t ≡ true) × (isLast newer t ≡ true)
   unfolding serialFrom
   serial-in [] newer t m = elim m [ ]
@@ -39,6 +40,7 @@ module _ (limits : Limits) (model : Model) (w : Inv limits model) where
       go true e (List·Memᴰ·tail d) h = h d
       go false e d h = h d
 
+  -- nothing is listed twice
   serial-once : (rest newer : List Entry) → EachOnce (serialFrom model newer rest)
   unfolding serialFrom
   serial-once [] newer = tt
@@ -48,6 +50,7 @@ module _ (limits : Limits) (model : Model) (w : Inv limits model) where
       go true h = (λ m. last-entry (r ∷ newer) (r .transaction) (serial-in older (r ∷ newer) (r .transaction) m .1) r (List·Memᴰ·head refl) refl, h)
       go false h = h
 
+  -- a committed transaction of the log is listed
   serial-has : (rest newer : List Entry) (t : Transaction) → committed model t ≡ true → isLast newer t ≡ true → (e : Entry) → List·Memᴰ e rest → e .transaction ≡ t → List·Memᴰ t (serialFrom model newer rest)
   unfolding serialFrom
   serial-has [] newer t c u e m z = elim m [ ]
@@ -75,25 +78,31 @@ module _ (limits : Limits) (model : Model) (w : Inv limits model) where
       let v = w .at (r .0) .core .votes (t .number) (k .entry) (k .is-known) (r .0) (w .at (r .0) .core .own (t .number) (k .entry) (k .is-known)) in
       (v .entry, v .logged, v .of ∙ k .whole)
 
+  -- exactly the committed ones are listed
   pub listed-at : (t : Transaction) → List·Memᴰ t (serialOrder model) ↔ (committed model t ≡ true)
   listed-at t = (λ m. serial-in (model .log) [] t m .0, λ c. let e = committed-logged t c in serial-has (model .log) [] t c refl (e .0) (e .1) (e .2))
 
+  -- each once
   pub once-at : EachOnce (serialOrder model)
   once-at = serial-once (model .log) []
 
 -- ---- The log's places fall
 
+-- each entry stands before the older ones
 abbrev Falls : List Entry → Type 0
 Falls [] = Unit {0}
 Falls (r ∷ older) = ((e : Entry) → List·Memᴰ e older → e .place < r .place) × Falls older
 
+-- the log's places are below the next call's and fall
 record Placed (place : ℕ) (log : List Entry) : Type 0 where
   below : (e : Entry) → List·Memᴰ e log → e .place < place
   falls : Falls log
 
+-- a call that logs nothing
 placed-same : (place : ℕ) (log : List Entry) → Placed place log → Placed (suc place) log
 placed-same place log h = record { below = λ e m. let z = h .below e m in omega arith; falls = h .falls }
 
+-- a call that logs its place
 placed-new : (place : ℕ) (log : List Entry) (r : Entry) → r .place ≡ place → Placed place log → Placed (suc place) (r ∷ log)
 placed-new place log r z h = record { below = go; falls = (λ e m. let y = h .below e m in omega arith, h .falls) }
   where
@@ -101,6 +110,7 @@ placed-new place log r z h = record { below = go; falls = (λ e m. let y = h .be
     go e (List·Memᴰ·head y) = let x : e .place ≡ r .place = ap (λ (a : Entry). a .place) y in omega arith
     go e (List·Memᴰ·tail m) = let y = h .below e m in omega arith
 
+-- by cases on what a call did
 placed-step : (limits : Limits) (place : ℕ) (model : Model) → Placed place (model .log) → (call : Call) (r : Model × Answer) → Effect limits place model call r → Placed (suc place) (r .0 .log)
 placed-step limits place model h call _ (did-refuse n) = placed-same place (model .log) h
 placed-step limits place model h call _ (did-mint n) = placed-same place (model .log) h
@@ -108,6 +118,7 @@ placed-step limits place model h call _ (did-register {p = p} {t = t} n) = place
 placed-step limits place model h call _ (did-hear n g z) = placed-same place (model .log) h
 placed-step limits place model h call _ (did-repeat n z) = placed-same place (model .log) h
 
+-- after every list of calls
 falls-after : (limits : Limits) (place : ℕ) (model : Model) (calls : List Call) → Placed place (model .log) → Falls (after limits place model calls .log)
 unfolding after
 falls-after limits place model [] h = h .falls
@@ -123,9 +134,11 @@ last-rest (e ∷ newer) rest t u =
     last-rest newer (e ∷ rest) t (last-tail e newer t u)
     ∙ ap (λ (c : Bool). cond c (e .place) (lastPlace rest t)) (not-yes (λ y. last-entry (e ∷ newer) t u e (List·Memᴰ·head refl) (same-eq (e .transaction) t y)))
 
+-- a last entry's place is the last registration's
 last-at : (newer : List Entry) (r : Entry) (older : List Entry) (t : Transaction) → isLast newer t ≡ true → r .transaction ≡ t → lastPlace (reverseAux newer (r ∷ older)) t ≡ r .place
 last-at newer r older t u z = last-rest newer (r ∷ older) t u ∙ ap (λ (c : Bool). cond c (r .place) (lastPlace older t)) (same-true z)
 
+-- what is listed has its last registration in the rest
 serial-last : (model : Model) (rest newer : List Entry) (t : Transaction) → List·Memᴰ t (serialFrom model newer rest) → (e : Entry) × List·Memᴰ e rest × (lastPlace (reverseAux newer rest) t ≡ e .place)
 unfolding serialFrom
 serial-last model [] newer t m = elim m [ ]
@@ -140,6 +153,7 @@ serial-last model (r ∷ older) newer t m =
     go true y (List·Memᴰ·tail d) h = h d
     go false y d h = h d
 
+-- the order follows the places
 by-last : (model : Model) (rest newer : List Entry) → Falls rest → ByLast (reverseAux newer rest) (serialFrom model newer rest)
 unfolding serialFrom
 by-last model [] newer f = tt
@@ -155,6 +169,7 @@ by-last model (r ∷ older) newer f = go (isLast newer (r .transaction) && commi
         let here : lastPlace log (r .transaction) ≡ r .place = last-at newer r older (r .transaction) (both (isLast newer (r .transaction)) (committed model (r .transaction)) y .0) refl in
         (λ t m. let e = serial-last model older (r ∷ newer) t m in let z = f .0 (e .0) (e .1) in let x : lastPlace log t ≡ e .0 .place = e .2 in omega arith, h)
 
+-- the serial order of a play
 pub sorted-at : (limits : Limits) (calls : List Call) → ByLast (play limits calls .log) (serialOrder (play limits calls))
 unfolding play
 sorted-at limits calls =

@@ -20,6 +20,7 @@ use Rattle.model.proofs.Basics.{eqb-eq, eqb-apart, clash, both, neither
 
 -- ---- Parts of the field checks
 
+-- there are eight shards
 pub shard-below : (p : ℕ) → shardFits p ≡ true → p < 8
 shard-below p e = let h = leb-true p 7 e in omega arith
 
@@ -34,10 +35,12 @@ number-positive genesis t e =
     let d = both (n && leb 1 (t .«input_count»)) (leb (t .«input_count») 4) (b .0) in
     eqb-apart (not-is (both n (leb 1 (t .«input_count»)) (d .0) .0))
 
+-- a shard that takes part is one of the transaction
 pub part-in : (p : ℕ) (t : Transaction) → takesPart p t ≡ true → List·Memᴰ p (shardsOf t)
 unfolding takesPart
 part-in p t e = let r = any-at (eqb p) (shardsOf t) e in Memᴰ·cast (eqb-eq p (r .0) (r .2)) (r .1)
 
+-- a list of length 0 is empty
 nothing : (l : List Known) → length l ≡ 0 → l ≡ []
 nothing [] e = refl
 nothing (k ∷ l) e = absurd (omega arith)
@@ -45,6 +48,7 @@ nothing (k ∷ l) e = absurd (omega arith)
 -- ---- The three tables
 
 module _ (limits : Limits) (me : ℕ) (ledger : Ledger) (receiver : ℕ) where
+  -- a genesis token that passes
   pub record MintPasses (index owner amount : ℕ) : Type 0 where
     pub addressed : receiver ≡ me
     pub receiver-fits : shardFits receiver ≡ true
@@ -52,6 +56,7 @@ module _ (limits : Limits) (me : ℕ) (ledger : Ledger) (receiver : ℕ) where
     pub none-known : ledger .known ≡ []
     pub ungiven : getD (ledger .given) index false ≡ false
 
+  -- what its table says
   pub mint-passes : (index owner amount : ℕ) → firstOf (mintRefusals limits me ledger receiver index owner amount) ≡ 0 → MintPasses index owner amount
   unfolding mintRefusals mintFits indexFits
   mint-passes index owner amount e =
@@ -75,6 +80,7 @@ module _ (limits : Limits) (me : ℕ) (ledger : Ledger) (receiver : ℕ) where
     pub balances : balanced t ≡ true
     pub takes-part : takesPart receiver t ≡ true
 
+  -- a registration that passes
   pub record RegisterPasses (t : Transaction) : Type 0 where
     pub form : FormPasses t
     pub no-other : any (isOther t) (ledger .known) ≡ false
@@ -82,6 +88,7 @@ module _ (limits : Limits) (me : ℕ) (ledger : Ledger) (receiver : ℕ) where
     pub known-room : length (ledger .known) < limits .transactions
     pub token-room : length (ledger .tokens) + reserved me (ledger .known) + length (outputsHere me t) ≤ limits .tokens
 
+  -- what its table says
   pub register-passes : (t : Transaction) → firstOf (registerRefusals limits me ledger receiver t) ≡ 0 → RegisterPasses t
   unfolding registerRefusals
   register-passes t e =
@@ -101,6 +108,7 @@ module _ (limits : Limits) (me : ℕ) (ledger : Ledger) (receiver : ℕ) where
         token-room = ltb-false (limits .tokens) (length (ledger .tokens) + reserved me (ledger .known) + length (outputsHere me t)) (g .1 .1 .1 .1 .1 .1 .1 .1 .1 .0);
       }
 
+  -- a vote that passes
   pub record DeliverPasses (sender verdict : ℕ) (t : Transaction) : Type 0 where
     pub form : FormPasses t
     pub sender-fits : shardFits sender ≡ true
@@ -110,6 +118,7 @@ module _ (limits : Limits) (me : ℕ) (ledger : Ledger) (receiver : ℕ) where
     pub no-other : any (isOther t) (ledger .known) ≡ false
     pub no-clash : otherVerdict (heardFrom sender (entryOf t (ledger .known))) verdict ≡ false
 
+  -- what its table says
   pub deliver-passes : (sender verdict : ℕ) (t : Transaction) → firstOf (deliverRefusals limits me ledger receiver sender verdict t) ≡ 0 → DeliverPasses sender verdict t
   unfolding deliverRefusals deliverForm
   deliver-passes sender verdict t e =

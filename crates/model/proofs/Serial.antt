@@ -32,12 +32,15 @@ use Rattle.model.proofs.Spending.{Spends, spends}
 
 -- ---- Transactions that no newer entry of the log is of
 
+-- no newer entry is of it
 pub last-entry : (newer : List Entry) (t : Transaction) → isLast newer t ≡ true → (e : Entry) → List·Memᴰ e newer → e .transaction ≡ t → ⊥
 last-entry newer t u e m z = clash u (ap not (any-of (logsIt t) m (same-true z)))
 
+-- a transaction that no newer entry is of
 pub last-of : (newer : List Entry) (t : Transaction) → ((e : Entry) → List·Memᴰ e newer → e .transaction ≡ t → ⊥) → isLast newer t ≡ true
 last-of newer t h = ap not (not-yes (λ a. let r = any-at (logsIt t) newer a in h (r .0) (r .1) (same-eq (r .0 .transaction) t (r .2))))
 
+-- and none of fewer entries
 pub last-tail : (r : Entry) (newer : List Entry) (t : Transaction) → isLast (r ∷ newer) t ≡ true → isLast newer t ≡ true
 last-tail r newer t u = last-of newer t (λ e m. last-entry (r ∷ newer) t u e (List·Memᴰ·tail m))
 
@@ -51,11 +54,13 @@ late r newer t u f = go (case (sameTransaction (r .transaction) t))
 
 -- ---- Sources, seen from the rest of the log
 
+-- a source in fewer entries is one in more
 source-mono : (p : ℕ) (genesis : ℕ → ℕ → Option Value) (known : List Known) (a c : List Entry) (x : Input) → ((e : Entry) → List·Memᴰ e a → List·Memᴰ e c) → Source p genesis known a x → Source p genesis known c x
 source-mono p genesis known a c x h (from-genesis g) = from-genesis g
 source-mono p genesis known a c x h (from-commit k e y g all) =
     from-commit k e y g (λ q m. let r = all q m in record { entry = r .entry; logged = h (r .entry) (r .logged); at = r .at; of = r .of })
 
+-- what an entry found available has its source among the older ones
 source-in : (p : ℕ) (genesis : ℕ → ℕ → Option Value) (known : List Known) (r : Entry) (older : List Entry) (x : Input) → Sources p genesis known (r ∷ older)
     → (e : Entry) → List·Memᴰ e (r ∷ older) → e .shard ≡ p → List·Memᴰ x (e .available) → Source p genesis known older x
 source-in p genesis known r [] x src e (List·Memᴰ·head z) at a = src .0 (ap (λ (c : Entry). c .shard) (sym z) ∙ at) x (subst (λ (c : Entry). List·Memᴰ x (c .available)) z a)
@@ -65,9 +70,11 @@ source-in p genesis known r (r₁ ∷ older) x src e (List·Memᴰ·tail d) at a
     source-mono p genesis known older (r₁ ∷ older) x (λ c q. List·Memᴰ·tail q) (source-in p genesis known r₁ older x (src .1) e d at a)
 
 module _ (limits : Limits) (model : Model) (w : Inv limits model) where
+  -- a shard's genesis tokens
   abbrev genesis-at : ℕ → ℕ → ℕ → Option Value
   genesis-at p = genesisAt (model .minted) p
 
+  -- a shard's known transactions
   abbrev known-at : ℕ → List Known
   known-at p = ledgerAt limits (model .shards) p .known
 
@@ -77,24 +84,29 @@ module _ (limits : Limits) (model : Model) (w : Inv limits model) where
   voted-commit : (t : Transaction) → committed model t ≡ true → (q : ℕ) → List·Memᴰ q (shardsOf t) → Voted (model .log) q t 2
   voted-commit t c q m = let r = commit-at limits model w t c in commit-votes limits model w (r .0) t (r .1) q m
 
+  -- a transaction that a shard knows
   record At (q : ℕ) (t : Transaction) : Type 0 where
     entry : Known
     is-known : look (known-at q) (t .number) ≡ some entry
     whole : entry .transaction ≡ t
 
+  -- a shard knows what it registered
   at-entry : (r : Entry) → List·Memᴰ r (model .log) → (q : ℕ) → r .shard ≡ q → (t : Transaction) → r .transaction ≡ t → At q t
   at-entry r m q e t z =
       let h = w .at q .entered r m e in
       record { entry = h .0; is-known = ap (λ (a : Transaction). look (known-at q) (a .number)) (sym z) ∙ h .1; whole = h .2 ∙ z }
 
+  -- each shard of a committed transaction knows it
   at-shard : (t : Transaction) → committed model t ≡ true → (q : ℕ) → List·Memᴰ q (shardsOf t) → At q t
   at-shard t c q m = let v = voted-commit t c q m in at-entry (v .entry) (v .logged) q (v .at) t (v .of)
 
+  -- its number is not 0
   positive-at : (q : ℕ) (t : Transaction) → At q t → t .number ≡ 0 → ⊥
   positive-at q t a = w .at q .core .number (t .number) (a .entry) (a .is-known)
 
   -- ---- The log parted in the newer entries and the rest
 
+  -- what holds of the two parts
   record Split (newer rest : List Entry) : Type 0 where
     sources : (p : ℕ) → Sources p (genesis-at p) (known-at p) rest
     once : Once rest
@@ -103,6 +115,7 @@ module _ (limits : Limits) (model : Model) (w : Inv limits model) where
     newer-in : (e : Entry) → List·Memᴰ e newer → List·Memᴰ e (model .log)
     rest-in : (e : Entry) → List·Memᴰ e rest → List·Memᴰ e (model .log)
 
+  -- one entry passed
   split-next : (newer : List Entry) (r : Entry) (older : List Entry) → Split newer (r ∷ older) → Split (r ∷ newer) older
   split-next newer r older s = record {
     sources = λ p. s .sources p .1;
@@ -135,16 +148,19 @@ module _ (limits : Limits) (model : Model) (w : Inv limits model) where
 
   -- ---- What the committed transactions of the rest take and make
 
+  -- a committed transaction of the rest takes the token
   record Spent (newer : List Entry) (p m i : ℕ) : Type 0 where
     transaction : Transaction
     is-committed : committed model transaction ≡ true
     is-taken : taken p transaction m i ≡ true
     is-last : isLast newer transaction ≡ true
 
+  -- what a known transaction has made, if it is a committed one of the rest
   abbrev byCommitIn : List Entry → ℕ → Option Known → ℕ → ℕ → Option Value
   byCommitIn newer p none m i = none
   byCommitIn newer p (some k) m i = cond (isLast newer (k .transaction) && committed model (k .transaction)) (gain p (k .transaction) m i) none
 
+  -- what was made in the rest
   abbrev madeIn : List Entry → ℕ → ℕ → ℕ → Option Value
   madeIn newer p m i = orElse (genesis-at p m i) (byCommitIn newer p (look (known-at p) m) m i)
 
@@ -183,9 +199,11 @@ module _ (limits : Limits) (model : Model) (w : Inv limits model) where
   -- ---- One entry more
 
   module _ (newer : List Entry) (r : Entry) (older : List Entry) (sp : Split newer (r ∷ older)) (ih : Claim (r ∷ newer) older) where
+    -- the parts with this entry passed
     next : Split (r ∷ newer) older
     next = split-next newer r older sp
 
+    -- what is taken by the older entries is taken by the rest
     spent-tail : (p m i : ℕ) → Spent (r ∷ newer) p m i → Spent newer p m i
     spent-tail p m i d = record { transaction = d .transaction; is-committed = d .is-committed; is-taken = d .is-taken; is-last = last-tail r newer (d .transaction) (d .is-last) }
 
@@ -256,6 +274,7 @@ module _ (limits : Limits) (model : Model) (w : Inv limits model) where
         let g = all (e .shard) (subst (λ (s : Transaction). List·Memᴰ (e .shard) (shardsOf s)) z (w .logged .member e (next .newer-in e m))) in
         next .apart e (g .entry) m (g .logged) (sym (g .at)) (z ∙ sym (g .of)))
 
+    -- what has a source was made in the rest
     source-made-in : (p : ℕ) (x : Input) → Source p (genesis-at p) (known-at p) older x → madeIn (r ∷ newer) p (x .token .creator) (x .token .index) ≡ some (inputValue x)
     source-made-in p x (from-genesis g) =
         ap (λ (o : Option Value). orElse o (byCommitIn (r ∷ newer) p (look (known-at p) (x .token .creator)) (x .token .creator) (x .token .index))) g
@@ -369,6 +388,7 @@ module _ (limits : Limits) (model : Model) (w : Inv limits model) where
         unspent = unspent-new;
       }
 
+    -- one entry more
     claim-step : Claim newer (r ∷ older)
     claim-step = go (case (isLast newer (r .transaction) && committed model (r .transaction)))
       where
@@ -376,10 +396,12 @@ module _ (limits : Limits) (model : Model) (w : Inv limits model) where
         go (yes-case y) = let e = both (isLast newer (r .transaction)) (committed model (r .transaction)) y in claim-emit (e .0) (e .1)
         go (no-case f) = claim-skip f
 
+  -- every rest
   claim : (rest newer : List Entry) → Split newer rest → Claim newer rest
   claim [] newer sp = claim-start newer sp
   claim (r ∷ older) newer sp = claim-step newer r older sp (claim older (r ∷ newer) (split-next newer r older sp))
 
+  -- the whole log is a rest
   whole-log : Split [] (model .log)
   whole-log = record {
     sources = λ p. w .at p .core .sources;
@@ -390,6 +412,7 @@ module _ (limits : Limits) (model : Model) (w : Inv limits model) where
     rest-in = λ e m. m;
   }
 
+  -- the run over the whole log
   whole-claim : Claim [] (model .log)
   whole-claim = claim (model .log) [] whole-log
 
@@ -400,6 +423,7 @@ module _ (limits : Limits) (model : Model) (w : Inv limits model) where
   -- ---- Where every committed transaction is decided at all its shards
 
   module _ (settled : Settled limits model) where
+    -- what is committed is committed at each of its shards
     commits-at : (t : Transaction) → committed model t ≡ true → (q : ℕ) → List·Memᴰ q (shardsOf t) → outcomeAt limits model q t ≡ Commit
     commits-at t c q m =
         let r = commit-at limits model w t c in
@@ -409,6 +433,7 @@ module _ (limits : Limits) (model : Model) (w : Inv limits model) where
     outcome-here : (p n : ℕ) (k : Known) → look (known-at p) n ≡ some k → n ≡ k .transaction .number → committed model (k .transaction) ≡ true → List·Memᴰ p (shardsOf (k .transaction)) → outcomeOf k ≡ Commit
     outcome-here p n k e z c m = sym (outcome-of limits model w p (k .transaction) k (ap (look (known-at p)) (sym z) ∙ e) refl) ∙ commits-at (k .transaction) c p m
 
+    -- what was made by the whole log was made by the shards
     made-all : (p m i : ℕ) → madeIn [] p m i ≡ made p (genesis-at p) (known-at p) m i
     unfolding made
     made-all p m i = ap (λ (o : Option Value). orElse (genesis-at p m i) o) (go (look (known-at p) m) refl)
@@ -434,6 +459,7 @@ module _ (limits : Limits) (model : Model) (w : Inv limits model) where
             cut Abort y false c n = refl
             cut Commit y false c n = there y false c
 
+    -- what the run takes is consumed at its shard
     spent-consumed : (p m i : ℕ) → Spent [] p m i → Consumed p (known-at p) m i
     spent-consumed p m i d =
         let y = taken-by p (d .transaction) m i (d .is-taken) in
@@ -447,6 +473,7 @@ module _ (limits : Limits) (model : Model) (w : Inv limits model) where
           is-taken = subst (λ (s : Transaction). taken p s m i ≡ true) (sym (a .whole)) (d .is-taken);
         }
 
+    -- what is consumed at a shard is taken by the run
     consumed-spent : (p m i : ℕ) → Consumed p (known-at p) m i → Spent [] p m i
     consumed-spent p m i d = record {
       transaction = d .entry .transaction;
@@ -455,6 +482,7 @@ module _ (limits : Limits) (model : Model) (w : Inv limits model) where
       is-last = refl;
     }
 
+    -- the shards hold what the run ends in
     pub one-ledger-at : (id : TokenId) → heldValue limits model id ≡ serial-end .ledger id
     unfolding serial-end
     one-ledger-at id = same-some (heldValue limits model id) (whole-claim .ledger id) up down

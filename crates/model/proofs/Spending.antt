@@ -22,19 +22,23 @@ use Rattle.model.proofs.Invariant.{gain}
 
 -- ---- Taking the inputs
 
+-- gone by one of two tests
 or-gone : (a c : Bool) (o : Option Value) → cond c none (cond a none o) ≡ cond (a || c) none o
 or-gone true true o = refl
 or-gone true false o = refl
 or-gone false c o = refl
 
+-- the input names the id
 abbrev namesIt : TokenId → Input → Bool
 namesIt id x = sameToken (x .token) id
 
+-- the ledger with the inputs taken away
 pub record Taken (l : List Input) (ledger : SerialLedger) : Type 0 where
   pub left : SerialLedger
   pub is-taken : takeInputs l ledger ≡ some left
   pub is-left : (id : TokenId) → left id ≡ cond (any (namesIt id) l) none (ledger id)
 
+-- distinct inputs that are present are taken away
 take-all : (l : List Input) (ledger : SerialLedger) → repeats sameName l ≡ false → ((x : Input) → List·Memᴰ x l → ledger (x .token) ≡ some (inputValue x)) → Taken l ledger
 unfolding takeInputs sameName
 take-all [] ledger d h = record { left = ledger; is-taken = refl; is-left = λ id. refl }
@@ -54,6 +58,7 @@ any-cong : {A : Type 0} (f g : A → Bool) → ((x : A) → f x ≡ g x) → (l 
 any-cong f g h [] = refl
 any-cong f g h (x ∷ l) = λ i. h x i || any-cong f g h l i
 
+-- an id, by its shard and by creator and index
 names-spot : (p m i : ℕ) (x : Input) → sameToken (x .token) (record { shard = p; creator = m; index = i }) ≡ inputHere p x && takesSpot m i x
 unfolding sameToken
 names-spot p m i x =
@@ -67,6 +72,7 @@ names-spot p m i x =
     let b = both (eqb m (x .token .creator)) (eqb i (x .token .index)) (a .1) in
     and-intro (and-intro (a .0) (eqb-yes (sym (eqb-eq m (x .token .creator) (b .0))))) (eqb-yes (sym (eqb-eq i (x .token .index) (b .1)))))
 
+-- an id is named exactly if it is taken at its shard
 named-taken : (t : Transaction) (p m i : ℕ) → any (namesIt (record { shard = p; creator = m; index = i })) (usedInputs t) ≡ taken p t m i
 unfolding taken inputsHere
 named-taken t p m i =
@@ -75,6 +81,7 @@ named-taken t p m i =
 
 -- ---- Adding the outputs
 
+-- what the outputs add under an id
 added : (n j : ℕ) (ys : List Output) (ledger : SerialLedger) (p m i : ℕ)
     → addOutputs n j ys ledger (record { shard = p; creator = m; index = i })
     ≡ orElse (mapOption tokenValue (tokenAt (tokensFrom p n j ys) m i)) (ledger (record { shard = p; creator = m; index = i }))
@@ -100,11 +107,13 @@ added n j (y ∷ ys) ledger p m i = go (eqb (y .shard) p) (eqb n m) (eqb j i) re
 
 -- ---- The whole transaction
 
+-- the ledger with the transaction carried out
 pub record Spends (t : Transaction) (ledger : SerialLedger) : Type 0 where
   pub left : SerialLedger
   pub is-spent : spend t (some ledger) ≡ some left
   pub is-left : (p m i : ℕ) → left (record { shard = p; creator = m; index = i }) ≡ orElse (gain p t m i) (cond (taken p t m i) none (ledger (record { shard = p; creator = m; index = i })))
 
+-- a transaction whose distinct inputs are present is carried out
 pub spends : (t : Transaction) (ledger : SerialLedger) → namedTwice t ≡ false → ((x : Input) → List·Memᴰ x (usedInputs t) → ledger (x .token) ≡ some (inputValue x)) → Spends t ledger
 unfolding spend namedTwice madeHere
 spends t ledger d h =

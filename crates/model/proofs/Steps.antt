@@ -40,6 +40,7 @@ abbrev pub Once : List Entry → Type 0
 Once [] = Unit {0}
 Once (r ∷ older) = ((e : Entry) → List·Memᴰ e older → e .shard ≡ r .shard → e .transaction ≡ r .transaction → ⊥) × Once older
 
+-- what holds of the log
 pub record Logged (log : List Entry) : Type 0 where
   pub once : Once log
   pub member : (r : Entry) → List·Memᴰ r log → List·Memᴰ (r .shard) (shardsOf (r .transaction))
@@ -55,6 +56,7 @@ pub record Logged (log : List Entry) : Type 0 where
 abbrev pub genesisAt : List Genesis → ℕ → ℕ → ℕ → Option Value
 genesisAt minted p m i = genesisLedger minted (record { shard = p; creator = m; index = i })
 
+-- what holds of the model
 pub record Inv (limits : Limits) (model : Model) : Type 0 where
   pub eight : length (model .shards) ≡ 8
   pub at : (p : ℕ) → Ok limits (model .log) p (genesisAt (model .minted) p) (ledgerAt limits (model .shards) p)
@@ -65,10 +67,12 @@ unfoldable pub Grows : List Known → List Known → Type 0
 Grows l l′ = (n : ℕ) (k : Known) → look l n ≡ some k
     → (k′ : Known) × (look l′ n ≡ some k′) × (k′ .transaction ≡ k .transaction) × ((q : ℕ) → (heardFrom q k ≡ 0 → ⊥) → heardFrom q k′ ≡ heardFrom q k)
 
+-- where nothing changes
 grows-refl : (l : List Known) → Grows l l
 unfolding Grows
 grows-refl l n k e = (k, e, refl, λ q h. refl)
 
+-- one change after another
 pub grows-trans : (a b c : List Known) → Grows a b → Grows b c → Grows a c
 unfolding Grows
 grows-trans a b c f g n k e =
@@ -78,6 +82,7 @@ grows-trans a b c f g n k e =
 
 -- ---- Another shard's registration
 
+-- a longer log
 core-more : {log : List Entry} {p : ℕ} {tokens : List Token} {genesis : ℕ → ℕ → Option Value} {known : List Known} (r : Entry)
     → Core log p tokens genesis known → Sources p genesis known (r ∷ log) → Core (r ∷ log) p tokens genesis known
 core-more r c s = record {
@@ -93,6 +98,7 @@ core-more r c s = record {
   sources = s;
 }
 
+-- another shard's registration
 ok-other : {limits : Limits} {log : List Entry} {p : ℕ} {genesis : ℕ → ℕ → Option Value} {l : Ledger} (r : Entry) → (r .shard ≡ p → ⊥) → Ok limits log p genesis l → Ok limits (r ∷ log) p genesis l
 ok-other {log = log} {p} {genesis} {l} r h o = record {
   core = core-more r (o .core) (λ e. absurd (h e), o .core .sources);
@@ -114,6 +120,7 @@ ok-other {log = log} {p} {genesis} {l} r h o = record {
 
 -- ---- What was made has a source
 
+-- what was made has a source
 made-source : {log : List Entry} {p : ℕ} {tokens : List Token} {genesis : ℕ → ℕ → Option Value} {known : List Known} (c : Core log p tokens genesis known) (x : Input)
     → made p genesis known (x .token .creator) (x .token .index) ≡ some (inputValue x) → Source p genesis known log x
 unfolding made
@@ -160,10 +167,12 @@ vote-says p tokens t = (
     yes-of true e = refl
     yes-of false e = absurd (eqb-apart {m = 1} {n = 2} refl e)
 
+-- a verdict is noted as 1 or 2
 noted-cases : (b : Bool) → (noted b ≡ 1) ⊎ (noted b ≡ 2)
 noted-cases true = inr refl
 noted-cases false = inl refl
 
+-- and never as 0
 noted-positive : (b : Bool) → noted b ≡ 0 → ⊥
 noted-positive true e = eqb-apart {m = 2} {n = 0} refl e
 noted-positive false e = eqb-apart {m = 1} {n = 0} refl e
@@ -172,15 +181,19 @@ noted-positive false e = eqb-apart {m = 1} {n = 0} refl e
 
 module _ {limits : Limits} {log : List Entry} {p : ℕ} {genesis : ℕ → ℕ → Option Value} {l : Ledger} (o : Ok limits log p genesis l) (t : Transaction)
     (positive : t .number ≡ 0 → ⊥) (unknown : look (l .known) (t .number) ≡ none) (distinct : namedTwice t ≡ false) (member : List·Memᴰ p (shardsOf t)) (below : p < 8) (place : ℕ) where
+  -- its entry in the log
   abbrev r : Entry
   r = record { place = place; shard = p; transaction = t; available = availableHere p (l .tokens) t }
 
+  -- the transaction as it becomes known
   abbrev k : Known
   k = record { transaction = t; heard = set (replicate 8 0) p (noted (vote p (l .tokens) t)) }
 
+  -- the tokens with the pledges
   abbrev tokens₁ : List Token
   tokens₁ = pledges (t .number) (availableHere p (l .tokens) t) (l .tokens)
 
+  -- the invariant with the longer log
   core₁ : Core (r ∷ log) p (l .tokens) genesis (l .known)
   core₁ = core-more r (o .core) (new, o .core .sources)
     where
@@ -189,6 +202,7 @@ module _ {limits : Limits} {log : List Entry} {p : ℕ} {genesis : ℕ → ℕ �
           let a = available-token (l .tokens) x (o .no-twice) (available-in p (l .tokens) t x m .1) in
           made-source (o .core) x (held-made (o .core) (x .token .creator) (x .token .index) (a .is-there) ∙ ap some (a .is-value))
 
+  -- what the registration enters
   enters₁ : Enters (r ∷ log) p (l .known) k
   enters₁ = record {
     undecided = λ j e y. some≢none e unknown;
@@ -201,11 +215,13 @@ module _ {limits : Limits} {log : List Entry} {p : ℕ} {genesis : ℕ → ℕ �
         (λ q n h. absurd (h (getD-same 8 0 q)));
   }
 
+  -- pledges change no value
   keeps : (m i : ℕ) → mapOption tokenValue (tokenAt tokens₁ m i) ≡ mapOption tokenValue (tokenAt (l .tokens) m i)
   keeps m i =
       ap (mapOption tokenValue) (tok-pledges (t .number) (availableHere p (l .tokens) t) (l .tokens) m i)
       ∙ value-pledged (t .number) (availableHere p (l .tokens) t) (tokenAt (l .tokens) m i)
 
+  -- what was pledged stays pledged
   pledged-more : (m i : ℕ) → Pledged (l .tokens) m i → Pledged tokens₁ m i
   pledged-more m i b = record {
     token = pledgeIf (t .number) (availableHere p (l .tokens) t) (b .token);
@@ -213,6 +229,7 @@ module _ {limits : Limits} {log : List Entry} {p : ℕ} {genesis : ℕ → ℕ �
     is-there = tok-pledges (t .number) (availableHere p (l .tokens) t) (l .tokens) m i ∙ ap (mapOption (pledgeIf (t .number) (availableHere p (l .tokens) t))) (b .is-there);
   }
 
+  -- an available input is pledged
   pledged-new : (x : Input) → List·Memᴰ x (availableHere p (l .tokens) t) → Pledged tokens₁ (x .token .creator) (x .token .index)
   pledged-new x m =
       let a = available-token (l .tokens) x (o .no-twice) (available-in p (l .tokens) t x m .1) in
@@ -224,6 +241,7 @@ module _ {limits : Limits} {log : List Entry} {p : ℕ} {genesis : ℕ → ℕ �
         is-pledged = λ z. positive (sym (pledge-set (t .number) (availableHere p (l .tokens) t) (a .token) x m (n .0) (n .1)) ∙ z);
       }
 
+  -- the shard's ledger after it
   pub register-ok : Ok limits (r ∷ log) p genesis (afterRegister p l t)
   unfolding afterRegister newlyKnown
   register-ok =
@@ -251,6 +269,7 @@ module _ {limits : Limits} {log : List Entry} {p : ℕ} {genesis : ℕ → ℕ �
           bound-more core₁ k tokens₁ enters₁ keeps (x .token .creator) (x .token .index)
           (⊎-elim inl (λ b. inr (pledged-more (x .token .creator) (x .token .index) b)) (o .bound r₀ d at x a))
 
+  -- nothing that was known is forgotten
   pub register-grows : Grows (l .known) (afterRegister p l t .known)
   unfolding Grows afterRegister newlyKnown
   register-grows n j e = (
@@ -270,6 +289,7 @@ module _ {limits : Limits} {log : List Entry} {p : ℕ} {genesis : ℕ → ℕ �
       (λ w. w .is-pledged (ap (λ (u : Token). u .pledge) (some-inj (sym (w .is-there) ∙ e)) ∙ f .is-free))
       (o .bound r₀ d at x₀ a₀)
 
+  -- the log after it
   pub register-logged : Logged log → Logged (r ∷ log)
   register-logged w = record { once = (first-time, w .once); member = mem; unique = uni; disjoint = dis }
     where
@@ -307,24 +327,31 @@ module _ {limits : Limits} {log : List Entry} {p : ℕ} {genesis : ℕ → ℕ �
 module _ {limits : Limits} {log : List Entry} {p : ℕ} {genesis : ℕ → ℕ → Option Value} {l : Ledger} (o : Ok limits log p genesis l) (t : Transaction)
     (known : any (isFor t) (l .known) ≡ true) (q v : ℕ) (below : q < 8)
     (unheard : heardFrom q (entryOf t (l .known)) ≡ 0) (member : List·Memᴰ q (shardsOf t)) (given-vote : Voted log q t (v + 1)) where
+  -- the entry before the vote
   abbrev k₀ : Known
   k₀ = entryOf t (l .known)
 
+  -- and with it
   abbrev k′ : Known
   k′ = hearing q v k₀
 
+  -- it is found by its number
   is-known : look (l .known) (t .number) ≡ some k₀
   is-known = entry-look t (l .known) (o .core .one-each) known .0
 
+  -- it is of this transaction
   whole : k₀ .transaction ≡ t
   whole = entry-look t (l .known) (o .core .one-each) known .1
 
+  -- and has its number
   num : k₀ .transaction .number ≡ t .number
   num = ap (λ (a : Transaction). a .number) whole
 
+  -- the sender has a place in it
   long : q < length (k₀ .heard)
   long = let h : length (k₀ .heard) ≡ 8 = o .core .eight (t .number) k₀ is-known in omega arith
 
+  -- what the vote enters
   enters₂ : Enters log p (l .known) k′
   enters₂ = record {
     undecided = λ j e y.
@@ -340,10 +367,12 @@ module _ {limits : Limits} {log : List Entry} {p : ℕ} {genesis : ℕ → ℕ �
         (λ a n h. o .core .votes (t .number) k₀ is-known a h);
   }
 
+  -- it is put in its place
   set-known : set (l .known) (placeOf t (l .known)) k′ ≡ put k′ (l .known)
   unfolding placeOf
   set-known = set-put t k′ (l .known) (o .core .one-each) num known
 
+  -- the shard's ledger after it
   pub vote-ok : Ok limits log p genesis (afterVote p l q v t)
   unfolding afterVote
   vote-ok =
@@ -366,6 +395,7 @@ module _ {limits : Limits} {log : List Entry} {p : ℕ} {genesis : ℕ → ℕ �
               (k′, look-put-same k′ (l .known) e, ap (λ (j : Known). j .transaction) (some-inj (sym is-known ∙ ap (look (l .known)) (sym num ∙ e) ∙ h .1)) ∙ h .2)
           go h (no-case y) = (h .0, look-put-other k′ (l .known) (eqb-apart y) ∙ h .1, h .2)
 
+  -- what was heard stays heard
   pub vote-grows : Grows (l .known) (afterVote p l q v t .known)
   unfolding Grows afterVote
   vote-grows n j e = go (case (eqb (k₀ .transaction .number) n))
@@ -391,16 +421,20 @@ module _ {limits : Limits} {log : List Entry} {p : ℕ} {genesis : ℕ → ℕ �
 
 module _ {limits : Limits} {log : List Entry} {p : ℕ} {genesis : ℕ → ℕ → Option Value} {l : Ledger} (o : Ok limits log p genesis l) (i owner amount : ℕ)
     (empty : l .known ≡ []) (fits : i < limits .genesis) (ungiven : genesis 0 i ≡ none) where
+  -- no number is known
   nothing : (n : ℕ) → look (l .known) n ≡ none
   nothing n = ap (λ (known : List Known). look known n) empty
 
+  -- this shard registered nothing
   nobody : (r : Entry) → List·Memᴰ r log → r .shard ≡ p → ⊥
   nobody r m at = some≢none (o .entered r m at .1) (nothing (r .transaction .number))
 
+  -- so no input was found available
   vacuous : (g : ℕ → ℕ → Option Value) (r : List Entry) → ((e : Entry) → List·Memᴰ e r → e .shard ≡ p → ⊥) → Sources p g (l .known) r
   vacuous g [] h = tt
   vacuous g (e ∷ r) h = (λ at. absurd (h e (List·Memᴰ·head refl) at), vacuous g r (λ d m. h d (List·Memᴰ·tail m)))
 
+  -- the new token
   abbrev token : Token
   token = genesisToken i owner amount
 
@@ -408,17 +442,21 @@ module _ {limits : Limits} {log : List Entry} {p : ℕ} {genesis : ℕ → ℕ �
   abbrev value : Value
   value = record { owner = owner; amount = amount }
 
+  -- the genesis tokens with it
   abbrev genesis′ : ℕ → ℕ → Option Value
   genesis′ m j = cond (sameToken (record { shard = p; creator = 0; index = i }) (record { shard = p; creator = m; index = j })) (some value) (genesis m j)
 
+  -- its id, at this shard
   spot : (m j : ℕ) → sameToken (record { shard = p; creator = 0; index = i }) (record { shard = p; creator = m; index = j }) ≡ eqb 0 m && eqb i j
   unfolding sameToken
   spot m j = ap (λ (b : Bool). b && eqb 0 m && eqb i j) (eqb-same p)
 
+  -- only genesis tokens were made
   made-plain : (g : ℕ → ℕ → Option Value) (m j : ℕ) → made p g (l .known) m j ≡ g m j
   unfolding made
   made-plain g m j = (λ t. orElse (g m j) (byCommit p (nothing m t) m j)) ∙ orElse-none (g m j)
 
+  -- the new token beside the others
   one-token : (m j : ℕ) → orElse (genesis m j) (mapOption tokenValue (tokenAt (token ∷ []) m j)) ≡ genesis′ m j
   one-token m j = go (eqb 0 m && eqb i j) refl ∙ sym (ap (λ (b : Bool). cond b (some value) (genesis m j)) (spot m j))
     where
@@ -428,6 +466,7 @@ module _ {limits : Limits} {log : List Entry} {p : ℕ} {genesis : ℕ → ℕ �
           ap (λ (v : Option Value). orElse v (some value)) ((λ t. genesis (sym (eqb-eq 0 m (r .0)) t) (sym (eqb-eq i j (r .1)) t)) ∙ ungiven)
       go false e = orElse-none (genesis m j)
 
+  -- the shard's ledger after it
   pub mint-ok : Ok limits log p genesis′ (afterMint l i owner amount)
   unfolding afterMint
   mint-ok = record {
@@ -472,10 +511,12 @@ module _ {limits : Limits} {log : List Entry} {p : ℕ} {genesis : ℕ → ℕ �
 
 -- ---- One call
 
+-- the invariant after a call, and nothing forgotten
 pub record Next (limits : Limits) (model model′ : Model) : Type 0 where
   pub inv : Inv limits model′
   pub grows : (p : ℕ) → Grows (ledgerAt limits (model .shards) p .known) (ledgerAt limits (model′ .shards) p .known)
 
+-- where nothing changes
 stay : {limits : Limits} {model : Model} → Inv limits model → Next limits model model
 stay {limits} {model} w = record { inv = w; grows = λ p. grows-refl (ledgerAt limits (model .shards) p .known) }
 
@@ -491,14 +532,17 @@ gave-vote limits model w q v t e =
     let x = w .at q .core .votes (k .transaction .number) k (mem-look (l .known) (w .at q .core .one-each) (r .1)) q (λ z. let n : v + 1 ≡ 0 = sym c ∙ z in omega arith) in
     subst (λ (a : Transaction). Voted (model .log) q a (v + 1)) (same-eq (k .transaction) t (y .0)) (subst (λ (a : ℕ). Voted (model .log) q (k .transaction) a) c x)
 
+-- not there
 is-none-of : {A : Type 0} (o : Option A) → isSome o ≡ false → o ≡ none
 is-none-of none e = refl
 is-none-of (some a) e = absurd (true≢false e)
 
 module _ (limits : Limits) (place : ℕ) (model : Model) (w : Inv limits model) where
+  -- a shard's ledger
   abbrev at : ℕ → Ledger
   at p = ledgerAt limits (model .shards) p
 
+  -- the eight shards are all there
   in-range : {p : ℕ} → p < 8 → p < length (model .shards)
   in-range h = let e = w .eight in omega arith
 
@@ -507,6 +551,7 @@ module _ (limits : Limits) (place : ℕ) (model : Model) (w : Inv limits model) 
   unfolding genesisLedger sameToken
   genesis-other g q n = λ j m i. sym (ap (λ (b : Bool). cond (b && eqb 0 m && eqb (g .index) i) (some (record { owner = g .owner; amount = g .amount })) (genesisAt (model .minted) q m i)) (eqb-no (λ z. n (sym z)))) j
 
+  -- by cases on what the call did
   pub step-next : (call : Call) (r : Model × Answer) → Effect limits place model call r → Next limits model (r .0)
   step-next call _ (did-refuse h) = stay w
   step-next call _ (did-repeat h z) = stay w
@@ -560,6 +605,7 @@ module _ (limits : Limits) (place : ℕ) (model : Model) (w : Inv limits model) 
 
 -- ---- Every list of calls
 
+-- after any list of calls
 pub after-next : (limits : Limits) (place : ℕ) (model : Model) → Inv limits model → (calls : List Call) → Next limits model (after limits place model calls)
 unfolding after
 after-next limits place model w [] = stay w
@@ -572,9 +618,11 @@ after-next limits place model w (call ∷ calls) =
           (ledgerAt limits (after limits (suc place) (step limits place model call .0) calls .shards) p .known) (one .grows p) (rest .grows p);
     }
 
+-- each shard of the empty cluster is empty
 empty-at : (limits : Limits) (p : ℕ) → ledgerAt limits (emptyShards limits) p ≡ emptyLedger limits
 empty-at limits p = getD-same 8 (emptyLedger limits) p
 
+-- of the empty model
 pub empty-inv : (limits : Limits) → Inv limits (emptyModel limits)
 unfolding made genesisLedger
 empty-inv limits = record {
@@ -601,6 +649,7 @@ empty-inv limits = record {
   logged = record { once = tt; member = λ r m. elim m [ ]; unique = λ r₁ r₂ m. elim m [ ]; disjoint = λ r₁ r₂ m. elim m [ ] };
 }
 
+-- the invariant of a play
 pub play-inv : (limits : Limits) (calls : List Call) → Inv limits (play limits calls)
 unfolding play
 play-inv limits calls = after-next limits 1 (emptyModel limits) (empty-inv limits) calls .inv
@@ -613,6 +662,7 @@ later limits place model w [] more p = after-next limits place model w more .gro
 later limits place model w (call ∷ calls) more p =
     later limits (suc place) (step limits place model call .0) (step-next limits place model w call (step limits place model call) (effect limits place model call) .inv) calls more p
 
+-- nothing is forgotten in a longer play
 pub play-grows : (limits : Limits) (calls more : List Call) (p : ℕ)
     → Grows (ledgerAt limits (play limits calls .shards) p .known) (ledgerAt limits (play limits (calls ++ more) .shards) p .known)
 unfolding play

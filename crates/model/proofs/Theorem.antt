@@ -11,6 +11,7 @@ use Rattle.model.proofs.Decisions.{agree-at, exact-at, final-at}
 use Rattle.model.proofs.Serial.{serial-end, one-ledger-at}
 use Rattle.model.proofs.Order.{listed-at, once-at, sorted-at}
 
+-- the theorem
 pub demand-3 : (limits : Limits) (calls : List Call) → Demand3 limits calls
 demand-3 limits calls = record {
   agreement = agree-at limits (play limits calls) (play-inv limits calls);

@@ -22,6 +22,7 @@ use Rattle.model.proofs.Refusals.{part-in}
 
 -- ---- One shard
 
+-- a noted verdict is heard
 noted-heard : (b : Bool) → not (eqb (noted b) 0) ≡ true
 noted-heard true = refl
 noted-heard false = refl
@@ -57,9 +58,11 @@ sumBelow f (suc n) = f n + sumBelow f n
 abbrev pub shardCount : Transaction → ℕ
 shardCount t = sumBelow (λ q. cond (takesPart q t) 1 0) 8
 
+-- is this shard of the transaction not heard yet
 abbrev pub missingAt : Known → ℕ → ℕ
 missingAt k q = cond (takesPart q (k .transaction) && eqb (heardFrom q k) 0) 1 0
 
+-- how many are not
 abbrev pub missing : Known → ℕ
 missing k = sumBelow (missingAt k) 8
 
@@ -68,6 +71,7 @@ sum-same : (f g : ℕ → ℕ) (n : ℕ) → ((a : ℕ) → a < n → f a ≡ g 
 sum-same f g zero h = refl
 sum-same f g (suc n) h = λ i. h n (omega arith) i + sum-same f g n (λ a l. h a (omega arith)) i
 
+-- two sums that differ at one place
 sum-change : (f g : ℕ → ℕ) (q n : ℕ) → q < n → ((a : ℕ) → (a ≡ q → ⊥) → f a ≡ g a) → sumBelow f n + g q ≡ sumBelow g n + f q
 sum-change f g q zero l h = absurd (omega arith)
 sum-change f g q (suc n) l h = go (case (eqb n q)) (λ d. sum-change f g q n d h)
@@ -163,10 +167,12 @@ abbrev pub hearEach : List (ℕ × ℕ) → Known → Known
 hearEach [] k = k
 hearEach (v ∷ votes) k = hearEach votes (hearing (v .0) (v .1) k)
 
+-- each from a shard of the transaction that was not heard before
 abbrev pub Fresh : List (ℕ × ℕ) → Known → Type 0
 Fresh [] k = Unit {0}
 Fresh (v ∷ votes) k = (takesPart (v .0) (k .transaction) ≡ true) × (heardFrom (v .0) k ≡ 0) × Fresh votes (hearing (v .0) (v .1) k)
 
+-- each fresh vote leaves one fewer
 missing-each : (votes : List (ℕ × ℕ)) (k : Known) → ((q : ℕ) → List·Memᴰ q (shardsOf (k .transaction)) → q < 8) → length (k .heard) ≡ 8 → Fresh votes k
     → (missing (hearEach votes k) + length votes ≡ missing k) × (hearEach votes k .transaction ≡ k .transaction)
 missing-each [] k below long f = (omega arith, refl)

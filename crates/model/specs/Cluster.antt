@@ -24,6 +24,7 @@ ledgerAt limits shards shard = getD shards shard (emptyLedger limits)
 abbrev pub hasGiven : ℕ → ℕ → Transaction → Known → Bool
 hasGiven sender verdict t k = isFor t k && eqb (heardFrom sender k) (verdict + 1)
 
+-- as its own ledger has it
 unfoldable pub gave : Ledger → ℕ → ℕ → Transaction → Bool
 gave ledger sender verdict t = any (hasGiven sender verdict t) (ledger .known)
 

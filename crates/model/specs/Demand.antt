@@ -37,6 +37,7 @@ heardAllIn ledger t = any (isFor t) (ledger .known) && heardAll t (entryOf t (le
 abbrev pub outcomeAt : Limits → Model → ℕ → Transaction → Outcome
 outcomeAt limits model shard t = outcomeIn (ledgerAt limits (model .shards) shard) t
 
+-- has the model's shard of that number heard all votes
 abbrev pub heardAllAt : Limits → Model → ℕ → Transaction → Bool
 heardAllAt limits model shard t = heardAllIn (ledgerAt limits (model .shards) shard) t
 
@@ -46,9 +47,11 @@ isCommit Wait = false
 isCommit Commit = true
 isCommit Abort = false
 
+-- this shard has decided commit
 abbrev pub commits : Transaction → Ledger → Bool
 commits t ledger = isCommit (outcomeIn ledger t)
 
+-- some shard has
 unfoldable pub committed : Model → Transaction → Bool
 committed model t = any (commits t) (model .shards)
 
@@ -67,6 +70,7 @@ Settled limits model =
 
 -- ---- The serial order: the committed transactions by last registration, the latest first
 
+-- the entry is of this transaction
 abbrev pub logsIt : Transaction → Entry → Bool
 logsIt t entry = sameTransaction (entry .transaction) t
 
@@ -82,6 +86,7 @@ serialFrom model newer (entry ∷ older) =
     (entry .transaction ∷ serialFrom model (entry ∷ newer) older)
     (serialFrom model (entry ∷ newer) older)
 
+-- down the whole log
 abbrev pub serialOrder : Model → List Transaction
 serialOrder model = serialFrom model [] (model .log)
 
@@ -95,22 +100,27 @@ abbrev pub ByLast : List Entry → List Transaction → Type 0
 ByLast log [] = Unit {0}
 ByLast log (t ∷ earlier) = ((s : Transaction) → List·Memᴰ s earlier → lastPlace log s < lastPlace log t) × ByLast log earlier
 
+-- no transaction is listed twice
 abbrev pub EachOnce : List Transaction → Type 0
 EachOnce [] = Unit {0}
 EachOnce (t ∷ earlier) = (List·Memᴰ t earlier → ⊥) × EachOnce earlier
 
 -- ---- The serial ledger (the one ledger): from a token's id to its owner and amount, where there is such a token
 
+-- a token's owner and amount
 pub record Value : Type 0 where
   pub owner : ℕ
   pub amount : ℕ
 
+-- what the one ledger has under an id
 abbrev pub SerialLedger : Type 0
 SerialLedger = TokenId → Option Value
 
+-- what an input asks for
 abbrev pub inputValue : Input → Value
 inputValue x = record { owner = x .owner; amount = x .amount }
 
+-- what an output makes
 abbrev pub outputValue : Output → Value
 outputValue y = record { owner = y .owner; amount = y .amount }
 
@@ -118,6 +128,7 @@ outputValue y = record { owner = y .owner; amount = y .amount }
 abbrev pub genesisId : Genesis → TokenId
 genesisId g = record { shard = g .shard; creator = 0; index = g .index }
 
+-- the ledger of these genesis tokens
 unfoldable pub genesisLedger : List Genesis → SerialLedger
 genesisLedger [] id = none
 genesisLedger (g ∷ gs) id = cond (sameToken (genesisId g) id) (some (record { owner = g .owner; amount = g .amount })) (genesisLedger gs id)
@@ -126,12 +137,15 @@ genesisLedger (g ∷ gs) id = cond (sameToken (genesisId g) id) (some (record { 
 abbrev pub hasValue : Input → Value → Bool
 hasValue x v = eqb (v .owner) (x .owner) && eqb (v .amount) (x .amount)
 
+-- the input's token is there with that owner and amount
 abbrev pub present : SerialLedger → Input → Bool
 present ledger x = passes (hasValue x) (ledger (x .token))
 
+-- the ledger without the input's token
 abbrev pub without : SerialLedger → Input → SerialLedger
 without ledger x id = cond (sameToken (x .token) id) none (ledger id)
 
+-- the ledger with the inputs taken away, where each is present at its turn
 unfoldable pub takeInputs : List Input → SerialLedger → Option SerialLedger
 takeInputs [] ledger = some ledger
 takeInputs (x ∷ xs) ledger = cond (present ledger x) (takeInputs xs (without ledger x)) none
@@ -140,11 +154,13 @@ takeInputs (x ∷ xs) ledger = cond (present ledger x) (takeInputs xs (without l
 abbrev pub outputId : ℕ → ℕ → Output → TokenId
 outputId number index y = record { shard = y .shard; creator = number; index = index }
 
+-- the ledger with the outputs added; `index` is the first one's
 unfoldable pub addOutputs : ℕ → ℕ → List Output → SerialLedger → SerialLedger
 addOutputs number index [] ledger id = ledger id
 addOutputs number index (y ∷ ys) ledger id =
     cond (sameToken (outputId number index y) id) (some (outputValue y)) (addOutputs number (suc index) ys ledger id)
 
+-- one transaction, on the ledger that the earlier ones left
 unfoldable pub spend : Transaction → Option SerialLedger → Option SerialLedger
 spend t none = none
 spend t (some ledger) = mapOption (addOutputs (t .number) 0 (usedOutputs t)) (takeInputs (usedInputs t) ledger)
@@ -158,21 +174,26 @@ serialRun ledger (t ∷ earlier) = spend t (serialRun ledger earlier)
 abbrev pub hasSpot : ℕ → ℕ → Token → Bool
 hasSpot creator index token = eqb (token .creator) creator && eqb (token .index) index
 
+-- the token of a creator and an index
 abbrev pub tokenAt : List Token → ℕ → ℕ → Option Token
 tokenAt tokens creator index = lookup (hasSpot creator index) tokens
 
+-- its owner and amount
 abbrev pub tokenValue : Token → Value
 tokenValue token = record { owner = token .owner; amount = token .amount }
 
+-- what the shard of an id holds under it
 abbrev pub heldValue : Limits → Model → TokenId → Option Value
 heldValue limits model id =
     mapOption tokenValue (tokenAt (ledgerAt limits (model .shards) (id .shard) .tokens) (id .creator) (id .index))
 
+-- two tokens of one creator and index
 abbrev pub sameSpot : Token → Token → Bool
 sameSpot a b = hasSpot (a .creator) (a .index) b
 
 -- ---- Demand 3
 
+-- the ledger in which the serial run ends
 pub record SerialEnd (model : Model) : Type 0 where
   pub ledger : SerialLedger
   pub runs : serialRun (genesisLedger (model .minted)) (serialOrder model) ≡ some ledger
@@ -182,6 +203,7 @@ module _ (limits : Limits) (calls : List Call) where
   abbrev model : Model
   model = play limits calls
 
+  -- the statement
   pub record Demand3 : Type 0 where
     -- no two shards ever decide one transaction differently
     pub agreement : (p q : ℕ) (t : Transaction) → outcomeAt limits model p t ≢ Wait → outcomeAt limits model q t ≢ Wait

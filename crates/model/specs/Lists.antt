@@ -24,6 +24,7 @@ abbrev pub mapOption : {A B : Type 0} → (A → B) → Option A → Option B
 mapOption f none = none
 mapOption f (some a) = some (f a)
 
+-- what is there passes a test
 abbrev pub passes : {A : Type 0} → (A → Bool) → Option A → Bool
 passes f none = false
 passes f (some a) = f a

@@ -30,6 +30,7 @@ pub record Model : Type 0 where
   pub log : List Entry
   pub minted : List Genesis
 
+-- at first
 abbrev pub emptyModel : Limits → Model
 emptyModel limits = record { shards = emptyShards limits; log = []; minted = [] }
 
@@ -37,6 +38,7 @@ emptyModel limits = record { shards = emptyShards limits; log = []; minted = [] 
 abbrev pub noteIf : {A : Type 0} → Answer → A → List A → List A
 noteIf answer note notes = cond (carriedOut answer) (note ∷ notes) notes
 
+-- a registration's entry, from the ledgers before it
 abbrev pub entryFor : Limits → ℕ → List Ledger → ℕ → Transaction → Entry
 entryFor limits place shards receiver t = record {
   place = place;
@@ -45,11 +47,13 @@ entryFor limits place shards receiver t = record {
   available = availableHere receiver (ledgerAt limits shards receiver .tokens) t;
 }
 
+-- a registration that is carried out is logged
 unfoldable pub logAfter : Limits → ℕ → Model → Call → Answer → List Entry
 logAfter limits place model (mint receiver index owner amount) answer = model .log
 logAfter limits place model (register receiver t) answer = noteIf answer (entryFor limits place (model .shards) receiver t) (model .log)
 logAfter limits place model (deliver receiver sender verdict t) answer = model .log
 
+-- an opening that is carried out is noted
 unfoldable pub mintedAfter : Model → Call → Answer → List Genesis
 mintedAfter model (mint receiver index owner amount) answer =
     noteIf answer (record { shard = receiver; index = index; owner = owner; amount = amount }) (model .minted)
@@ -67,6 +71,7 @@ unfoldable pub after : Limits → ℕ → Model → List Call → Model
 after limits place model [] = model
 after limits place model (call ∷ calls) = after limits (suc place) (step limits place model call .0) calls
 
+-- and what they are answered
 unfoldable pub answers : Limits → ℕ → Model → List Call → List Answer
 answers limits place model [] = []
 answers limits place model (call ∷ calls) =
@@ -76,5 +81,6 @@ answers limits place model (call ∷ calls) =
 unfoldable pub play : Limits → List Call → Model
 play limits calls = after limits 1 (emptyModel limits) calls
 
+-- its answers
 unfoldable pub playAnswers : Limits → List Call → List Answer
 playAnswers limits calls = answers limits 1 (emptyModel limits) calls

@@ -27,6 +27,7 @@ pub data Call : Type 0 where
 abbrev pub hasNumber : Transaction → Known → Bool
 hasNumber t k = eqb (k .transaction .number) (t .number)
 
+-- is it another transaction of this number
 abbrev pub isOther : Transaction → Known → Bool
 isOther t k = hasNumber t k && not (isFor t k)
 
@@ -36,9 +37,11 @@ ifUndecided Wait n = n
 ifUndecided Commit n = 0
 ifUndecided Abort n = 0
 
+-- the outputs here of a known transaction, while it is undecided
 unfoldable pub reservedBy : ℕ → Known → ℕ
 reservedBy me k = ifUndecided (outcomeOf k) (length (outputsHere me (k .transaction)))
 
+-- the outputs here of all undecided transactions
 unfoldable pub reserved : ℕ → List Known → ℕ
 reserved me known = total (reservedBy me) known
 
@@ -46,6 +49,7 @@ reserved me known = total (reservedBy me) known
 abbrev pub otherVerdict : ℕ → ℕ → Bool
 otherVerdict heard verdict = not (eqb heard 0) && not (eqb heard (verdict + 1))
 
+-- kind 3: 3, 13, 14
 unfoldable pub mintRefusals : Limits → ℕ → Ledger → ℕ → ℕ → ℕ → ℕ → List (Bool × ℕ)
 mintRefusals limits me ledger receiver index owner amount =
     (not (eqb receiver me), 3)
@@ -54,6 +58,7 @@ mintRefusals limits me ledger receiver index owner amount =
     ∷ (getD (ledger .given) index false, 14)
     ∷ []
 
+-- kind 1: 3, 4, 5, 6, 7, 8, 9, 10
 unfoldable pub registerRefusals : Limits → ℕ → Ledger → ℕ → Transaction → List (Bool × ℕ)
 registerRefusals limits me ledger receiver t =
     (not (eqb receiver me), 3)
@@ -78,6 +83,7 @@ deliverForm limits me receiver sender verdict t =
     ∷ (not (takesPart sender t), 6)
     ∷ []
 
+-- kind 2 at a lone shard: 3, 4, 5, 6, 11, 7, 12
 unfoldable pub deliverRefusals : Limits → ℕ → Ledger → ℕ → ℕ → ℕ → Transaction → List (Bool × ℕ)
 deliverRefusals limits me ledger receiver sender verdict t =
     deliverForm limits me receiver sender verdict t
@@ -100,6 +106,7 @@ hear me ledger sender verdict t =
     (afterVote me ledger sender verdict t, Heard (outcomeOf (hearing sender verdict k)))
     (ledger, Again (outcomeOf k))
 
+-- the whole call
 unfoldable pub shardStep : Limits → ℕ → Ledger → Call → Ledger × Answer
 shardStep limits me ledger (mint receiver index owner amount) =
     unless (firstOf (mintRefusals limits me ledger receiver index owner amount)) ledger

@@ -22,6 +22,7 @@ pub record Limits : Type 0 where
   pub transactions : ℕ
   pub genesis : ℕ
 
+-- a house's figures
 abbrev pub house : Limits
 house = record { tokens = 128; transactions = 32; genesis = 128 }
 
@@ -31,14 +32,17 @@ pub record Ledger : Type 0 where
   pub given : List Bool
   pub known : List Known
 
+-- nothing held, given or known
 abbrev pub emptyLedger : Limits → Ledger
 emptyLedger limits = record { tokens = []; given = replicate (limits .genesis) false; known = [] }
 
 -- ---- Opening: the shard holds the token (itself, 0, index)
 
+-- the token of an opening, pledged to no transaction
 abbrev pub genesisToken : ℕ → ℕ → ℕ → Token
 genesisToken index owner amount = record { creator = 0; index = index; owner = owner; amount = amount; pledge = 0 }
 
+-- the ledger after an opening
 unfoldable pub afterMint : Ledger → ℕ → ℕ → ℕ → Ledger
 afterMint ledger index owner amount = record {
   tokens = ledger .tokens ++ (genesisToken index owner amount ∷ []);
@@ -48,6 +52,7 @@ afterMint ledger index owner amount = record {
 
 -- ---- Registration: the inputs here, the available ones among them, the pledges, the message
 
+-- the input is at this shard
 abbrev pub inputHere : ℕ → Input → Bool
 inputHere me x = eqb (x .token .shard) me
 
@@ -59,6 +64,7 @@ inputsHere me t = keep (inputHere me) (usedInputs t)
 abbrev pub names : Input → Token → Bool
 names x token = eqb (token .creator) (x .token .creator) && eqb (token .index) (x .token .index)
 
+-- the token is named by the input
 abbrev pub namedBy : Token → Input → Bool
 namedBy token x = names x token
 
@@ -74,10 +80,12 @@ available tokens x = any (freeFor x) tokens
 unfoldable pub availableHere : ℕ → List Token → Transaction → List Input
 availableHere me tokens t = keep (available tokens) (inputsHere me t)
 
+-- the token with its pledge
 abbrev pub pledgedTo : ℕ → Token → Token
 pledgedTo number token =
     record { creator = token .creator; index = token .index; owner = token .owner; amount = token .amount; pledge = number }
 
+-- pledged if one of the inputs names it
 abbrev pub pledgeIf : ℕ → List Input → Token → Token
 pledgeIf number inputs token = cond (any (namedBy token) inputs) (pledgedTo number token) token
 
@@ -99,37 +107,47 @@ newlyKnown me tokens t = record { transaction = t; heard = set (replicate 8 0) m
 
 -- ---- Vote: it is noted for its sender
 
+-- the verdict heard from a sender, 0 for none
 abbrev pub heardFrom : ℕ → Known → ℕ
 heardFrom sender k = getD (k .heard) sender 0
 
+-- the known transaction with the sender's verdict (1 yes, 0 no) noted
 abbrev pub hearing : ℕ → ℕ → Known → Known
 hearing sender verdict k = record { transaction = k .transaction; heard = set (k .heard) sender (verdict + 1) }
 
 -- ---- Decision: when votes of all the transaction's shards are heard, commit if all are yes, else abort
 
+-- the shard's vote is heard
 abbrev pub isHeard : List ℕ → ℕ → Bool
 isHeard heard shard = not (eqb (getD heard shard 0) 0)
 
+-- and it is yes
 abbrev pub isYes : List ℕ → ℕ → Bool
 isYes heard shard = eqb (getD heard shard 0) 2
 
+-- votes of all the transaction's shards are heard
 abbrev pub heardAll : Transaction → List ℕ → Bool
 heardAll t heard = all (isHeard heard) (shardsOf t)
 
+-- all are yes
 abbrev pub allYes : Transaction → List ℕ → Bool
 allYes t heard = all (isYes heard) (shardsOf t)
 
+-- the decision
 unfoldable pub decide : Transaction → List ℕ → Outcome
 decide t heard = cond (heardAll t heard) (cond (allYes t heard) Commit Abort) Wait
 
+-- the outcome of a known transaction
 abbrev pub outcomeOf : Known → Outcome
 outcomeOf k = decide (k .transaction) (k .heard)
 
 -- ---- Commit destroys the inputs here and makes the outputs here; abort changes no token
 
+-- the output is at this shard
 abbrev pub outputHere : ℕ → Output → Bool
 outputHere me y = eqb (y .shard) me
 
+-- the outputs at this shard
 unfoldable pub outputsHere : ℕ → Transaction → List Output
 outputsHere me t = keep (outputHere me) (usedOutputs t)
 
@@ -143,15 +161,19 @@ tokensFrom me number index [] = []
 tokensFrom me number index (y ∷ ys) =
     cond (outputHere me y) (tokenOf number index y ∷ tokensFrom me number (suc index) ys) (tokensFrom me number (suc index) ys)
 
+-- the tokens that the transaction makes here
 unfoldable pub madeHere : ℕ → Transaction → List Token
 madeHere me t = tokensFrom me (t .number) 0 (usedOutputs t)
 
+-- no input here names the token
 abbrev pub stays : List Input → Token → Bool
 stays inputs token = not (any (namedBy token) inputs)
 
+-- the tokens after a commit
 unfoldable pub commit : ℕ → Transaction → List Token → List Token
 commit me t tokens = keep (stays (inputsHere me t)) tokens ++ madeHere me t
 
+-- the tokens after an outcome
 abbrev pub settle : Outcome → ℕ → Transaction → List Token → List Token
 settle Wait me t tokens = tokens
 settle Commit me t tokens = commit me t tokens
@@ -159,6 +181,7 @@ settle Abort me t tokens = tokens
 
 -- ---- What a registration and a fresh vote leave behind, with the decision that they bring
 
+-- the ledger after a registration
 unfoldable pub afterRegister : ℕ → Ledger → Transaction → Ledger
 afterRegister me ledger t =
     let k = newlyKnown me (ledger .tokens) t in
@@ -173,12 +196,15 @@ isFor t k = sameTransaction (k .transaction) t
 abbrev pub nothingKnown : Known
 nothingKnown = record { transaction = blankTransaction; heard = [] }
 
+-- its place among the known ones
 unfoldable pub placeOf : Transaction → List Known → ℕ
 placeOf t known = find (isFor t) known
 
+-- and the known transaction there
 unfoldable pub entryOf : Transaction → List Known → Known
 entryOf t known = getD known (placeOf t known) nothingKnown
 
+-- the ledger after a fresh vote
 unfoldable pub afterVote : ℕ → Ledger → ℕ → ℕ → Transaction → Ledger
 afterVote me ledger sender verdict t =
     let k = hearing sender verdict (entryOf t (ledger .known)) in
