@@ -1,0 +1,132 @@
+-- From the contracts of an engine's calls to demand 3 about its runs.
+use Prim.Native.Nat.{ℕ, suc}
+use mathlib.Core.Path.{_≡_, refl, ap, sym, _∙_, subst}
+use mathlib.Core.Logic.{_↔_, _≢_}
+use mathlib.Core.Bool.{Bool, true, false}
+use mathlib.Core.List.{List, [], _∷_, _++_, List·Memᴰ}
+use Rattle.transaction.specs.declared.TokenId.{TokenId}
+use Rattle.transaction.specs.declared.Input.{Input}
+use Rattle.transaction.specs.declared.Transaction.{Transaction}
+use Rattle.transaction.specs.Lists.{any, repeats}
+use Rattle.transaction.specs.Tokens.{usedInputs, shardsOf}
+use Rattle.model.specs.declared.Outcome.{Outcome}
+use Rattle.model.specs.declared.Outcome.the-variants.{Wait, Commit, Abort}
+use Rattle.model.specs.declared.Answer.{Answer}
+use Rattle.model.specs.Lists.{mapOption}
+use Rattle.model.specs.Steps.{Limits, Ledger}
+use Rattle.model.specs.Shard.{Call}
+use Rattle.model.specs.Cluster.{emptyShards, ledgerAt, clusterStep}
+use Rattle.model.specs.Model.{Model, emptyModel, step, after, answers, play, playAnswers}
+use Rattle.model.specs.Demand.{outcomeIn, heardAllIn, WasAvailable, commits, committed, SerialLedger, tokenAt, tokenValue, sameSpot, Demand3}
+use Rattle.model.proofs.Theorem.{demand-3}
+
+-- the model's step is the cluster's step, with the model's notes
+pub step-cluster : (limits : Limits) (place : ℕ) (model : Model) (call : Call)
+    → _≡_ {A = List Ledger × Answer} (step limits place model call .0 .shards, step limits place model call .1) (clusterStep limits (model .shards) call)
+unfolding step
+step-cluster limits place model call = refl
+
+-- An engine: states, a `view` of a state as ledgers, what the contracts require of a state and ensure of the next (`Sound`),
+-- and the relation that the contracts of its calls state (`Does`). Its first state is empty, and each call ensures the cluster step's equation.
+pub record Engine (limits : Limits) : Type 1 where
+  -- the engine's states
+  pub State : Type 0
+  pub view : State → List Ledger
+  pub Sound : State → Type 0
+  pub Does : State → Call → State → Answer → Type 0
+  pub first : State
+  pub first-sound : Sound first
+  pub first-empty : view first ≡ emptyShards limits
+  pub keeps : (s s′ : State) (c : Call) (a : Answer) → Sound s → Does s c s′ a → Sound s′
+  pub same-answer : (s s′ : State) (c : Call) (a : Answer) → Sound s → Does s c s′ a → a ≡ clusterStep limits (view s) c .1
+  pub same-ledgers : (s s′ : State) (c : Call) (a : Answer) → Sound s → Does s c s′ a → view s′ ≡ clusterStep limits (view s) c .0
+
+module _ {limits : Limits} (engine : Engine limits) where
+  abbrev State : Type 0
+  State = engine .State
+
+  -- the ledger that a state shows for a shard
+  abbrev ledger : State → ℕ → Ledger
+  ledger s p = ledgerAt limits (engine .view s) p
+
+  -- A run: each call gets the state that the one before it returned. Calls and answers stand in order, the first one first.
+  pub data Run : State → List Call → List Answer → State → Type 0 where
+    done : {s : State} → Run s [] [] s
+    then : {s s′ s″ : State} {c : Call} {a : Answer} {calls : List Call} {replies : List Answer}
+        → engine .Does s c s′ a → Run s′ calls replies s″ → Run s (c ∷ calls) (a ∷ replies) s″
+
+  -- what a run gives beside the model's play
+  record Follows (place : ℕ) (model : Model) (calls : List Call) (replies : List Answer) (s : State) : Type 0 where
+    answered : replies ≡ answers limits place model calls
+    viewed : engine .view s ≡ after limits place model calls .shards
+
+  -- a run follows the play from the model that its first state shows
+  run-from : (place : ℕ) (model : Model) {s s′ : State} {calls : List Call} {replies : List Answer} → engine .Sound s → engine .view s ≡ model .shards
+      → Run s calls replies s′ → Follows place model calls replies s′
+  unfolding after answers
+  run-from place model g e done = record { answered = refl; viewed = e }
+  run-from place model {s = s} g e (then {s′ = s₁} {c = c} {a = a} x rest) =
+      let z = step-cluster limits place model c in
+      let one : a ≡ step limits place model c .1 =
+      engine .same-answer s s₁ c a g x ∙ ap (λ (l : List Ledger). clusterStep limits l c .1) e ∙ sym (ap (λ (y : List Ledger × Answer). y .1) z) in
+      let h = run-from (suc place) (step limits place model c .0) (engine .keeps s s₁ c a g x)
+      (engine .same-ledgers s s₁ c a g x ∙ ap (λ (l : List Ledger). clusterStep limits l c .0) e ∙ sym (ap (λ (y : List Ledger × Answer). y .0) z)) rest in
+      record { answered = λ j. one j ∷ h .answered j; viewed = h .viewed }
+
+  -- Demand 3, of a run of the engine from its first state: the answers and the ledgers are the model's, and of the model the rest holds.
+  pub record RunDemand (calls : List Call) (replies : List Answer) (s : State) : Type 0 where
+    pub answered : replies ≡ playAnswers limits calls
+    pub viewed : engine .view s ≡ play limits calls .shards
+    pub demand : Demand3 limits calls
+
+  -- demand 3, whole, of every run
+  pub run-demand-3 : {s : State} {calls : List Call} {replies : List Answer} → Run (engine .first) calls replies s → RunDemand calls replies s
+  unfolding play playAnswers
+  run-demand-3 {calls = calls} x =
+      let h = run-from 1 (emptyModel limits) (engine .first-sound) (engine .first-empty) x in
+      record { answered = h .answered; viewed = h .viewed; demand = demand-3 limits calls }
+
+  -- ---- What demand 3 says of the shards, read off the engine's own states
+
+  -- a run that goes on
+  run-append : {s s′ s″ : State} {calls more : List Call} {replies others : List Answer} → Run s calls replies s′ → Run s′ more others s″ → Run s (calls ++ more) (replies ++ others) s″
+  run-append done y = y
+  run-append (then x rest) y = then x (run-append rest y)
+
+  -- no two shards of the engine decide one transaction differently
+  pub run-agreement : {s : State} {calls : List Call} {replies : List Answer} → Run (engine .first) calls replies s → (p q : ℕ) (t : Transaction)
+      → outcomeIn (ledger s p) t ≢ Wait → outcomeIn (ledger s q) t ≢ Wait → outcomeIn (ledger s p) t ≡ outcomeIn (ledger s q) t
+  run-agreement x p q t =
+      let d = run-demand-3 x in
+      subst
+      (λ (l : List Ledger). outcomeIn (ledgerAt limits l p) t ≢ Wait → outcomeIn (ledgerAt limits l q) t ≢ Wait → outcomeIn (ledgerAt limits l p) t ≡ outcomeIn (ledgerAt limits l q) t)
+      (sym (d .viewed)) (d .demand .agreement p q t)
+
+  -- no shard of the engine changes its decision while the run goes on
+  pub run-finality : {s s′ : State} {calls more : List Call} {replies others : List Answer} → Run (engine .first) calls replies s → Run s more others s′ → (p : ℕ) (t : Transaction)
+      → outcomeIn (ledger s p) t ≢ Wait → outcomeIn (ledger s′ p) t ≡ outcomeIn (ledger s p) t
+  run-finality {more = more} x y p t h =
+      let d = run-demand-3 x in
+      let outcome : List Ledger → Outcome = λ l. outcomeIn (ledgerAt limits l p) t in
+      ap outcome (run-demand-3 (run-append x y) .viewed) ∙ d .demand .finality more p t (λ z. h (ap outcome (d .viewed) ∙ z)) ∙ sym (ap outcome (d .viewed))
+
+  -- the commit rule of the engine's shards
+  pub run-commit-rule : {s : State} {calls : List Call} {replies : List Answer} → Run (engine .first) calls replies s → (p : ℕ) (t : Transaction)
+      → heardAllIn (ledger s p) t ≡ true → (outcomeIn (ledger s p) t ≡ Commit) ↔ ((x : Input) → List·Memᴰ x (usedInputs t) → WasAvailable (play limits calls .log) t x)
+  run-commit-rule {calls = calls} x p t =
+      let d = run-demand-3 x in
+      subst
+      (λ (l : List Ledger). heardAllIn (ledgerAt limits l p) t ≡ true
+      → (outcomeIn (ledgerAt limits l p) t ≡ Commit) ↔ ((x : Input) → List·Memᴰ x (usedInputs t) → WasAvailable (play limits calls .log) t x))
+      (sym (d .viewed)) (d .demand .commit-rule p t)
+
+  -- the engine's shards hold what the serial ledger holds, where every committed transaction is decided at all its shards
+  pub run-one-ledger : {s : State} {calls : List Call} {replies : List Answer} (x : Run (engine .first) calls replies s)
+      → ((t : Transaction) → any (commits t) (engine .view s) ≡ true → (p : ℕ) → List·Memᴰ p (shardsOf t) → outcomeIn (ledger s p) t ≢ Wait)
+      → (id : TokenId) → mapOption tokenValue (tokenAt (ledger s (id .shard) .tokens) (id .creator) (id .index)) ≡ demand-3 limits calls .serial .ledger id
+  run-one-ledger {calls = calls} x =
+      let d = run-demand-3 x in
+      subst
+      (λ (l : List Ledger). ((t : Transaction) → any (commits t) l ≡ true → (p : ℕ) → List·Memᴰ p (shardsOf t) → outcomeIn (ledgerAt limits l p) t ≢ Wait)
+      → (id : TokenId) → mapOption tokenValue (tokenAt (ledgerAt limits l (id .shard) .tokens) (id .creator) (id .index)) ≡ demand-3 limits calls .serial .ledger id)
+      (sym (d .viewed)) (unfold committed in demand-3 limits calls .one-ledger)

@@ -1,0 +1,283 @@
+-- A shard's limits: what holds of every ledger that the calls build, at a lone shard and in a cluster. Held tokens plus reserved outputs never pass
+-- the limit, known transactions never pass theirs, and what is stored passed the field checks.
+use Prim.Native.Nat.{ℕ, zero, suc, _+_, _<_, _≤_}
+use native.Mathlib.Omega.{arith}
+use mathlib.Core.Path.{_≡_, refl, ap, sym, _∙_, subst}
+use mathlib.Core.Logic.{_⊎_, inl, inr, ⊎-elim}
+use mathlib.Core.Bool.{Bool, true, false, cond, _&&_, _||_, not, true≢false, false≢true}
+use mathlib.Core.List.{List, [], _∷_, _++_, map, List·Memᴰ, List·Memᴰ·head, List·Memᴰ·tail, List·Memᴰ·append-cases, List·Memᴰ·eq-of-singleton}
+use lib.Dec.{eqb}
+use lib.ListN.{length, getD, set, replicate, length-append, length-map, length-set, length-replicate}
+use Rattle.transaction.specs.declared.Output.{Output}
+use Rattle.transaction.specs.declared.Transaction.{Transaction}
+use Rattle.transaction.specs.Lists.{any, total}
+use Rattle.transaction.specs.Tokens.{usedOutputs, shardsOf, takesPart}
+use Rattle.transaction.specs.Checks.{fieldsFit, namedTwice, balanced, causeOf}
+use Rattle.model.specs.declared.Token.{Token}
+use Rattle.model.specs.declared.Known.{Known}
+use Rattle.model.specs.declared.Outcome.{Outcome}
+use Rattle.model.specs.declared.Outcome.the-variants.{Wait, Commit, Abort}
+use Rattle.model.specs.declared.Answer.{Answer}
+use Rattle.model.specs.Lists.{keep, find}
+use Rattle.model.specs.Steps.{Limits, Ledger, emptyLedger, genesisToken, inputsHere, availableHere, pledges, vote, noted, newlyKnown, heardFrom, hearing, outcomeOf, outputHere, outputsHere, tokenOf, tokensFrom, madeHere, stays, commit, settle, isFor, nothingKnown, placeOf, entryOf, afterMint, afterRegister, afterVote}
+use Rattle.model.specs.Shard.{Call, ifUndecided, reservedBy, reserved}
+use Rattle.model.specs.Cluster.{emptyShards, ledgerAt}
+use Rattle.model.specs.Model.{Entry, Model, emptyModel, step, after, play}
+use Rattle.model.proofs.Basics.{clash, Case, yes-case, no-case, case, both, find-at, set-elim, getD-same}
+use Rattle.model.proofs.Entries.{same-eq, whole-known, outcome-heard}
+use Rattle.model.proofs.Refusals.{shard-below, part-in, MintPasses, FormPasses, RegisterPasses, DeliverPasses}
+use Rattle.model.proofs.Effects.{ShardEffect, shard-refused, shard-minted, shard-registered, shard-heard, shard-again, Effect, did-refuse, did-mint, did-register, did-hear, did-repeat, effect}
+use Rattle.model.proofs.Steps.{Inv, Next, step-next, empty-inv}
+
+-- ---- Lengths and sums
+
+-- what is kept is no longer than the list
+pub keep-length : {A : Type 0} (f : A → Bool) (l : List A) → length (keep f l) ≤ length l
+keep-length f [] = omega arith
+keep-length f (x ∷ l) = go (f x) (keep-length f l)
+  where
+    go : (b : Bool) → length (keep f l) ≤ length l → length (cond b (x ∷ keep f l) (keep f l)) ≤ suc (length l)
+    go true h = omega arith
+    go false h = omega arith
+
+-- the sum over two lists
+pub total-append : {A : Type 0} (f : A → ℕ) (a b : List A) → total f (a ++ b) ≡ total f a + total f b
+total-append f [] b = omega arith
+total-append f (x ∷ a) b = let h = total-append f a b in omega arith
+
+-- a sum after one element was replaced
+pub total-set : {A : Type 0} (f : A → ℕ) (l : List A) (i : ℕ) (a d : A) → i < length l → total f (set l i a) + f (getD l i d) ≡ total f l + f a
+total-set f [] i a d h = absurd (omega arith)
+total-set f (x ∷ l) zero a d h = omega arith
+total-set f (x ∷ l) (suc i) a d h = let r = total-set f l i a d (omega arith) in omega arith
+
+-- a found place is within the list
+pub find-below : {A : Type 0} (f : A → Bool) (l : List A) → any f l ≡ true → find f l < length l
+find-below f [] e = absurd (false≢true e)
+find-below f (x ∷ l) e = go (f x) e (find-below f l)
+  where
+    go : (b : Bool) → b || any f l ≡ true → (any f l ≡ true → find f l < length l) → cond b 0 (suc (find f l)) < suc (length l)
+    go true e h = omega arith
+    go false e h = let r = h e in omega arith
+
+-- an element of a list with one replaced is the new one or an old one
+pub mem-set : {A : Type 0} (l : List A) (i : ℕ) (a : A) {x : A} → List·Memᴰ x (set l i a) → (x ≡ a) ⊎ List·Memᴰ x l
+mem-set [] i a m = elim m [ ]
+mem-set (y ∷ l) zero a (List·Memᴰ·head e) = inl e
+mem-set (y ∷ l) zero a (List·Memᴰ·tail m) = inr (List·Memᴰ·tail m)
+mem-set (y ∷ l) (suc i) a (List·Memᴰ·head e) = inr (List·Memᴰ·head e)
+mem-set (y ∷ l) (suc i) a (List·Memᴰ·tail m) = ⊎-elim (λ e. inl e) (λ d. inr (List·Memᴰ·tail d)) (mem-set l i a m)
+
+-- the flags that are set
+abbrev pub isSet : Bool → Bool
+isSet flag = flag
+
+-- how many flags are set
+abbrev pub counted : List Bool → ℕ
+counted flags = length (keep isSet flags)
+
+-- a flag newly set counts one more
+counted-set : (l : List Bool) (i : ℕ) → i < length l → getD l i false ≡ false → counted (set l i true) ≡ counted l + 1
+counted-set [] i h e = absurd (omega arith)
+counted-set (b ∷ l) zero h e = go b e
+  where
+    go : (b : Bool) → b ≡ false → suc (counted l) ≡ length (cond b (b ∷ keep isSet l) (keep isSet l)) + 1
+    go true e = absurd (true≢false e)
+    go false e = omega arith
+counted-set (b ∷ l) (suc i) h e = go b (counted-set l i (omega arith) e)
+  where
+    go : (b : Bool) → counted (set l i true) ≡ counted l + 1 → length (cond b (b ∷ keep isSet (set l i true)) (keep isSet (set l i true))) ≡ length (cond b (b ∷ keep isSet l) (keep isSet l)) + 1
+    go true r = omega arith
+    go false r = r
+
+-- as many tokens are made here as there are outputs here
+pub made-length : (me : ℕ) (t : Transaction) → length (madeHere me t) ≡ length (outputsHere me t)
+unfolding madeHere outputsHere
+made-length me t = from 0 (usedOutputs t)
+  where
+    from : (i : ℕ) (ys : List Output) → length (tokensFrom me (t .number) i ys) ≡ length (keep (outputHere me) ys)
+    from i [] = refl
+    from i (y ∷ ys) = go (outputHere me y) (from (suc i) ys)
+      where
+        go : (b : Bool) → length (tokensFrom me (t .number) (suc i) ys) ≡ length (keep (outputHere me) ys)
+            → length (cond b (tokenOf (t .number) i y ∷ tokensFrom me (t .number) (suc i) ys) (tokensFrom me (t .number) (suc i) ys)) ≡ length (cond b (y ∷ keep (outputHere me) ys) (keep (outputHere me) ys))
+        go true h = ap suc h
+        go false h = h
+
+-- a commit leaves at most the tokens held and the outputs here
+commit-length : (me : ℕ) (t : Transaction) (tokens : List Token) → length (commit me t tokens) ≤ length tokens + length (outputsHere me t)
+unfolding commit
+commit-length me t tokens =
+    let a = length-append (keep (stays (inputsHere me t)) tokens) (madeHere me t) in
+    let b = keep-length (stays (inputsHere me t)) tokens in
+    let c = made-length me t in
+    omega arith
+
+-- what an outcome does to the tokens and to the reserved outputs takes no more room than the outputs here
+settle-room : (o : Outcome) (me : ℕ) (t : Transaction) (tokens : List Token)
+    → length (settle o me t tokens) + ifUndecided o (length (outputsHere me t)) ≤ length tokens + length (outputsHere me t)
+settle-room Wait me t tokens = omega arith
+settle-room Commit me t tokens = let h = commit-length me t tokens in omega arith
+settle-room Abort me t tokens = omega arith
+
+-- ---- What holds of a ledger
+
+-- a fit ledger
+pub record Fit (limits : Limits) (me : ℕ) (ledger : Ledger) : Type 0 where
+  -- the limits
+  pub token-room : length (ledger .tokens) + reserved me (ledger .known) ≤ limits .tokens
+  pub known-room : length (ledger .known) ≤ limits .transactions
+  -- one flag for each genesis index; while no transaction is known, each token was given
+  pub flags : length (ledger .given) ≡ limits .genesis
+  pub only-given : ledger .known ≡ [] → length (ledger .tokens) ≤ counted (ledger .given)
+  -- known transactions passed 3, 4 and 5, and have a place for each sender
+  pub checked : (k : Known) → List·Memᴰ k (ledger .known) → causeOf (limits .genesis) (k .transaction) ≡ 0
+  pub eight : (k : Known) → List·Memᴰ k (ledger .known) → length (k .heard) ≡ 8
+
+-- the empty ledger is fit
+pub empty-fit : (limits : Limits) (me : ℕ) → Fit limits me (emptyLedger limits)
+unfolding reserved
+empty-fit limits me = record {
+  token-room = omega arith;
+  known-room = omega arith;
+  flags = length-replicate (limits .genesis) false;
+  only-given = λ e. omega arith;
+  checked = λ k m. elim m [ ];
+  eight = λ k m. elim m [ ];
+}
+
+-- the checks passed, as one cause
+form-checked : (genesis : ℕ) (t : Transaction) → fieldsFit genesis t ≡ true → namedTwice t ≡ false → balanced t ≡ true → causeOf genesis t ≡ 0
+unfolding causeOf
+form-checked genesis t a b c = rw (a, b, c) refl
+
+-- a list with one more element is not empty
+not-nothing : (l : List Known) (k : Known) → l ++ (k ∷ []) ≡ [] → ⊥
+not-nothing l k e = let h = length-append l (k ∷ []) in let z : length (l ++ (k ∷ [])) ≡ 0 = ap length e in omega arith
+
+module _ (limits : Limits) (sized : limits .genesis ≤ limits .tokens) (me : ℕ) (ledger : Ledger) (f : Fit limits me ledger) where
+  -- a genesis token keeps a ledger fit
+  mint-fit : {receiver index owner amount : ℕ} → MintPasses limits me ledger receiver index owner amount → Fit limits me (afterMint ledger index owner amount)
+  unfolding afterMint reserved
+  mint-fit {index = index} {owner = owner} {amount = amount} h =
+      let held = length-append (ledger .tokens) (genesisToken index owner amount ∷ []) in
+      let long : length (ledger .given) ≡ limits .genesis = f .flags in
+      let i : index < length (ledger .given) = let z = h .index-fits in omega arith in
+      let more : counted (set (ledger .given) index true) ≡ counted (ledger .given) + 1 = counted-set (ledger .given) index i (h .ungiven) in
+      let most = keep-length isSet (set (ledger .given) index true) in
+      let same = length-set (ledger .given) index true in
+      let before = f .only-given (h .none-known) in
+      let nothing : reserved me (ledger .known) ≡ 0 = ap (reserved me) (h .none-known) in
+      record {
+        token-room = omega arith;
+        known-room = f .known-room;
+        flags = same ∙ long;
+        only-given = λ e. omega arith;
+        checked = f .checked;
+        eight = f .eight;
+      }
+
+  -- a registration keeps it fit
+  register-fit : {receiver : ℕ} {t : Transaction} → RegisterPasses limits me ledger receiver t → Fit limits me (afterRegister me ledger t)
+  unfolding afterRegister newlyKnown reserved reservedBy pledges
+  register-fit {t = t} h =
+      let k : Known = newlyKnown me (ledger .tokens) t in
+      let tokens : List Token = pledges (t .number) (availableHere me (ledger .tokens) t) (ledger .tokens) in
+      let held : length tokens ≡ length (ledger .tokens) = length-map (ledger .tokens) _ in
+      let room = h .token-room in
+      let after = settle-room (outcomeOf k) me t tokens in
+      let sum = total-append (reservedBy me) (ledger .known) (k ∷ []) in
+      let count = length-append (ledger .known) (k ∷ []) in
+      let below = h .known-room in
+      record {
+        token-room = omega arith;
+        known-room = omega arith;
+        flags = f .flags;
+        only-given = λ e. absurd (not-nothing (ledger .known) k e);
+        checked = λ j m. ⊎-elim (f .checked j) (λ d. ap (λ (a : Known). causeOf (limits .genesis) (a .transaction)) (List·Memᴰ·eq-of-singleton d) ∙ form-checked (limits .genesis) t (h .form .fields) (h .form .distinct) (h .form .balances)) (List·Memᴰ·append-cases (ledger .known) m);
+        eight = λ j m. ⊎-elim (f .eight j) (λ d. ap (λ (a : Known). length (a .heard)) (List·Memᴰ·eq-of-singleton d) ∙ length-set (replicate 8 0) me (noted (vote me (ledger .tokens) t))) (List·Memᴰ·append-cases (ledger .known) m);
+      }
+
+  -- a fresh vote keeps it fit
+  vote-fit : {receiver sender verdict : ℕ} {t : Transaction} → DeliverPasses limits me ledger receiver sender verdict t → heardFrom sender (entryOf t (ledger .known)) ≡ 0
+      → Fit limits me (afterVote me ledger sender verdict t)
+  unfolding afterVote reserved reservedBy entryOf placeOf
+  vote-fit {sender = sender} {verdict = verdict} {t = t} h fresh =
+      let known : List Known = ledger .known in
+      let there : any (isFor t) known ≡ true = whole-known t known (h .number-known) (h .no-other) in
+      let k : Known = entryOf t known in
+      let k′ : Known = hearing sender verdict k in
+      let at = find-at (isFor t) known nothingKnown there in
+      let whole : k .transaction ≡ t = same-eq (k .transaction) t (at .1) in
+      let below = find-below (isFor t) known there in
+      let waits : outcomeOf k ≡ Wait = waiting k sender (subst (λ (s : Transaction). List·Memᴰ sender (shardsOf s)) (sym whole) (part-in sender t (h .sender-part))) fresh in
+      let sum = total-set (reservedBy me) known (find (isFor t) known) k′ nothingKnown below in
+      let old : reservedBy me k ≡ length (outputsHere me (k .transaction)) = ap (λ (o : Outcome). ifUndecided o (length (outputsHere me (k .transaction)))) waits in
+      let room = f .token-room in
+      let after = settle-room (outcomeOf k′) me (k .transaction) (ledger .tokens) in
+      let count = length-set known (find (isFor t) known) k′ in
+      let most = f .known-room in
+      record {
+        token-room = omega arith;
+        known-room = omega arith;
+        flags = f .flags;
+        only-given = λ e. let z : length (set known (find (isFor t) known) k′) ≡ 0 = ap length e in absurd (omega arith);
+        checked = λ j m. ⊎-elim (λ e. ap (λ (a : Known). causeOf (limits .genesis) (a .transaction)) e ∙ f .checked k (at .0)) (f .checked j) (mem-set known (find (isFor t) known) k′ m);
+        eight = λ j m. ⊎-elim (λ e. ap (λ (a : Known). length (a .heard)) e ∙ length-set (k .heard) sender (verdict + 1) ∙ f .eight k (at .0)) (f .eight j) (mem-set known (find (isFor t) known) k′ m);
+      }
+    where
+      -- where a vote is missing, nothing is decided
+      waiting : (k : Known) (q : ℕ) → List·Memᴰ q (shardsOf (k .transaction)) → heardFrom q k ≡ 0 → outcomeOf k ≡ Wait
+      waiting k q m e = go (outcomeOf k) refl
+        where
+          go : (o : Outcome) → outcomeOf k ≡ o → o ≡ Wait
+          go Wait z = refl
+          go Commit z = absurd (outcome-heard k (λ w. let n : _≡_ {A = ℕ} 0 1 = cc in absurd (omega arith)) q m e)
+          go Abort z = absurd (outcome-heard k (λ w. let n : _≡_ {A = ℕ} 0 1 = cc in absurd (omega arith)) q m e)
+
+  -- a call at a lone shard keeps it
+  pub shard-fit : (call : Call) (r : Ledger × Answer) → ShardEffect limits me ledger call r → Fit limits me (r .0)
+  shard-fit call _ (shard-refused h) = f
+  shard-fit call _ (shard-minted h) = mint-fit h
+  shard-fit call _ (shard-registered h) = register-fit h
+  shard-fit call _ (shard-heard h e z) = vote-fit h z
+  shard-fit call _ (shard-again h z) = f
+
+-- ---- In a cluster
+
+module _ (limits : Limits) (sized : limits .genesis ≤ limits .tokens) where
+  -- a call at the cluster keeps every shard's ledger fit
+  step-fit : (place : ℕ) (model : Model) → Inv limits model → ((p : ℕ) → Fit limits p (ledgerAt limits (model .shards) p))
+      → (call : Call) (r : Model × Answer) → Effect limits place model call r → (p : ℕ) → Fit limits p (ledgerAt limits (r .0 .shards) p)
+  step-fit place model w f call _ (did-refuse h) = f
+  step-fit place model w f call _ (did-repeat h z) = f
+  step-fit place model w f call _ (did-mint {p = p} h) =
+      set-elim (λ q l. Fit limits q l) (model .shards) (emptyLedger limits) p _ (let e = w .eight in let b = shard-below p (h .receiver-fits) in omega arith)
+      (mint-fit limits sized p (ledgerAt limits (model .shards) p) (f p) h) (λ q n. f q)
+  step-fit place model w f call _ (did-register {p = p} h) =
+      set-elim (λ q l. Fit limits q l) (model .shards) (emptyLedger limits) p _ (let e = w .eight in let b = shard-below p (h .form .receiver-fits) in omega arith)
+      (register-fit limits sized p (ledgerAt limits (model .shards) p) (f p) h) (λ q n. f q)
+  step-fit place model w f call _ (did-hear {p = p} h g z) =
+      set-elim (λ q l. Fit limits q l) (model .shards) (emptyLedger limits) p _ (let e = w .eight in let b = shard-below p (h .form .receiver-fits) in omega arith)
+      (vote-fit limits sized p (ledgerAt limits (model .shards) p) (f p) h z) (λ q n. f q)
+
+  -- and so does every list of calls
+  after-fit : (place : ℕ) (model : Model) → Inv limits model → ((p : ℕ) → Fit limits p (ledgerAt limits (model .shards) p))
+      → (calls : List Call) (p : ℕ) → Fit limits p (ledgerAt limits (after limits place model calls .shards) p)
+  unfolding after
+  after-fit place model w f [] = f
+  after-fit place model w f (call ∷ calls) =
+      let e = effect limits place model call in
+      after-fit (suc place) (step limits place model call .0) (step-next limits place model w call (step limits place model call) e .inv) (step-fit place model w f call (step limits place model call) e) calls
+
+  -- every shard of every play keeps its limits
+  pub play-fit : (calls : List Call) (p : ℕ) → Fit limits p (ledgerAt limits (play limits calls .shards) p)
+  unfolding play
+  play-fit calls =
+      after-fit 1 (emptyModel limits) (empty-inv limits)
+      (λ p. subst (Fit limits p) (sym (getD-same 8 (emptyLedger limits) p)) (empty-fit limits p)) calls
+
+  -- held tokens plus reserved outputs never pass the limit
+  pub never-passes : (calls : List Call) (p : ℕ)
+      → length (ledgerAt limits (play limits calls .shards) p .tokens) + reserved p (ledgerAt limits (play limits calls .shards) p .known) ≤ limits .tokens
+  never-passes calls p = play-fit calls p .token-room

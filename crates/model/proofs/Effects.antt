@@ -1,0 +1,144 @@
+-- What one call does to the model: it is refused and changes nothing, or it has passed its table and does its step.
+use Prim.Native.Nat.{ℕ, _+_}
+use mathlib.Core.Path.{_≡_, refl, ap, sym, _∙_, subst}
+use mathlib.Core.Bool.{Bool, true, false, cond, _&&_, not}
+use mathlib.Core.List.{List, [], _∷_}
+use lib.Dec.{eqb}
+use lib.ListN.{set}
+use lib.Seq.{set-getD}
+use Rattle.transaction.specs.declared.Transaction.{Transaction}
+use Rattle.transaction.specs.Lists.{firstOf}
+use Rattle.model.specs.declared.Answer.{Answer}
+use Rattle.model.specs.declared.Answer.the-variants.{Refused, Minted, Registered, Heard, Again}
+use Rattle.model.specs.Steps.{Limits, Ledger, emptyLedger, vote, newlyKnown, entryOf, heardFrom, hearing, outcomeOf, afterMint, afterRegister, afterVote}
+use Rattle.model.specs.Shard.{Call, mint, register, deliver, mintRefusals, registerRefusals, deliverForm, deliverRefusals, hear, shardStep}
+use Rattle.model.specs.Cluster.{ledgerAt, gave, notGiven, atShard, clusterStep}
+use Rattle.model.specs.Model.{Entry, Genesis, Model, entryFor, logAfter, mintedAfter, step}
+use Rattle.model.proofs.Basics.{eqb-eq, eqb-yes, eqb-apart, clash, both, and-intro, not-yes, not-no, Case, yes-case, no-case, case}
+use Rattle.model.proofs.Refusals.{MintPasses, mint-passes, RegisterPasses, register-passes, DeliverPasses, deliver-passes, form-passes}
+
+-- ---- At one shard
+
+module _ (limits : Limits) (me : ℕ) (ledger : Ledger) where
+  -- what a call can do at a shard, with its answer
+  pub data ShardEffect : Call → Ledger × Answer → Type 0 where
+    shard-refused : {call : Call} {n : ℕ} → (n ≡ 0 → ⊥) → ShardEffect call (ledger, Refused n)
+    shard-minted : {receiver index owner amount : ℕ} → MintPasses limits me ledger receiver index owner amount
+        → ShardEffect (mint receiver index owner amount) (afterMint ledger index owner amount, Minted)
+    shard-registered : {receiver : ℕ} {t : Transaction} → RegisterPasses limits me ledger receiver t
+        → ShardEffect (register receiver t) (afterRegister me ledger t, Registered (vote me (ledger .tokens) t) (outcomeOf (newlyKnown me (ledger .tokens) t)))
+    shard-heard : {receiver sender verdict : ℕ} {t : Transaction} → DeliverPasses limits me ledger receiver sender verdict t
+        → firstOf (deliverForm limits me receiver sender verdict t) ≡ 0
+        → heardFrom sender (entryOf t (ledger .known)) ≡ 0
+        → ShardEffect (deliver receiver sender verdict t) (afterVote me ledger sender verdict t, Heard (outcomeOf (hearing sender verdict (entryOf t (ledger .known)))))
+    shard-again : {receiver sender verdict : ℕ} {t : Transaction} → DeliverPasses limits me ledger receiver sender verdict t
+        → (heardFrom sender (entryOf t (ledger .known)) ≡ 0 → ⊥)
+        → ShardEffect (deliver receiver sender verdict t) (ledger, Again (outcomeOf (entryOf t (ledger .known))))
+
+  -- every call does one of these
+  pub shard-effect : (call : Call) → ShardEffect call (shardStep limits me ledger call)
+  unfolding shardStep hear
+  shard-effect (mint receiver index owner amount) = go (eqb (firstOf (mintRefusals limits me ledger receiver index owner amount)) 0) refl
+    where
+      go : (b : Bool) → eqb (firstOf (mintRefusals limits me ledger receiver index owner amount)) 0 ≡ b
+          → ShardEffect (mint receiver index owner amount) (cond b (afterMint ledger index owner amount, Minted) (ledger, Refused (firstOf (mintRefusals limits me ledger receiver index owner amount))))
+      go true e = shard-minted (mint-passes limits me ledger receiver index owner amount (eqb-eq (firstOf (mintRefusals limits me ledger receiver index owner amount)) 0 e))
+      go false e = shard-refused (eqb-apart e)
+  shard-effect (register receiver t) = go (eqb (firstOf (registerRefusals limits me ledger receiver t)) 0) refl
+    where
+      go : (b : Bool) → eqb (firstOf (registerRefusals limits me ledger receiver t)) 0 ≡ b
+          → ShardEffect (register receiver t) (cond b (afterRegister me ledger t, Registered (vote me (ledger .tokens) t) (outcomeOf (newlyKnown me (ledger .tokens) t))) (ledger, Refused (firstOf (registerRefusals limits me ledger receiver t))))
+      go true e = shard-registered (register-passes limits me ledger receiver t (eqb-eq (firstOf (registerRefusals limits me ledger receiver t)) 0 e))
+      go false e = shard-refused (eqb-apart e)
+  shard-effect (deliver receiver sender verdict t) =
+      go (eqb (firstOf (deliverRefusals limits me ledger receiver sender verdict t)) 0) refl (eqb (heardFrom sender (entryOf t (ledger .known))) 0) refl
+    where
+      go : (b : Bool) → eqb (firstOf (deliverRefusals limits me ledger receiver sender verdict t)) 0 ≡ b
+          → (c : Bool) → eqb (heardFrom sender (entryOf t (ledger .known))) 0 ≡ c
+          → ShardEffect (deliver receiver sender verdict t) (cond b
+          (cond c (afterVote me ledger sender verdict t, Heard (outcomeOf (hearing sender verdict (entryOf t (ledger .known))))) (ledger, Again (outcomeOf (entryOf t (ledger .known)))))
+          (ledger, Refused (firstOf (deliverRefusals limits me ledger receiver sender verdict t))))
+      go true e true f =
+          let z = eqb-eq (firstOf (deliverRefusals limits me ledger receiver sender verdict t)) 0 e in
+          shard-heard (deliver-passes limits me ledger receiver sender verdict t z) (form-passes limits me ledger receiver sender verdict t z) (eqb-eq (heardFrom sender (entryOf t (ledger .known))) 0 f)
+      go true e false f =
+          let z = eqb-eq (firstOf (deliverRefusals limits me ledger receiver sender verdict t)) 0 e in
+          shard-again (deliver-passes limits me ledger receiver sender verdict t z) (eqb-apart f)
+      go false e c f = shard-refused (eqb-apart e)
+
+-- ---- At the cluster, with the model's notes
+
+module _ (limits : Limits) (place : ℕ) (model : Model) where
+  -- a shard's ledger
+  abbrev pub at : ℕ → Ledger
+  at shard = ledgerAt limits (model .shards) shard
+
+  -- the model with one shard's ledger replaced
+  abbrev pub replaced : ℕ → Ledger → List Entry → List Genesis → Model
+  replaced shard ledger log minted = record { shards = set (model .shards) shard ledger; log = log; minted = minted }
+
+  -- what a call can do to the model, with its answer
+  pub data Effect : Call → Model × Answer → Type 0 where
+    did-refuse : {call : Call} {n : ℕ} → (n ≡ 0 → ⊥) → Effect call (model, Refused n)
+    did-mint : {p index owner amount : ℕ} → MintPasses limits p (at p) p index owner amount
+        → Effect (mint p index owner amount)
+        (replaced p (afterMint (at p) index owner amount) (model .log) (record { shard = p; index = index; owner = owner; amount = amount } ∷ model .minted), Minted)
+    did-register : {p : ℕ} {t : Transaction} → RegisterPasses limits p (at p) p t
+        → Effect (register p t)
+        (replaced p (afterRegister p (at p) t) (entryFor limits place (model .shards) p t ∷ model .log) (model .minted), Registered (vote p (at p .tokens) t) (outcomeOf (newlyKnown p (at p .tokens) t)))
+    did-hear : {p sender verdict : ℕ} {t : Transaction} → DeliverPasses limits p (at p) p sender verdict t
+        → gave (at sender) sender verdict t ≡ true → heardFrom sender (entryOf t (at p .known)) ≡ 0
+        → Effect (deliver p sender verdict t)
+        (replaced p (afterVote p (at p) sender verdict t) (model .log) (model .minted), Heard (outcomeOf (hearing sender verdict (entryOf t (at p .known)))))
+    did-repeat : {p sender verdict : ℕ} {t : Transaction} → DeliverPasses limits p (at p) p sender verdict t
+        → (heardFrom sender (entryOf t (at p .known)) ≡ 0 → ⊥)
+        → Effect (deliver p sender verdict t) (model, Again (outcomeOf (entryOf t (at p .known))))
+
+  -- a ledger put back where it was changes nothing
+  put-back : (p : ℕ) → replaced p (at p) (model .log) (model .minted) ≡ model
+  put-back p = λ i. record { shards = set-getD (model .shards) p (emptyLedger limits) i; log = model .log; minted = model .minted }
+
+  -- an effect that leaves the model, put back
+  back : {call : Call} (p : ℕ) {answer : Answer} → Effect call (model, answer) → Effect call (replaced p (at p) (model .log) (model .minted), answer)
+  back {call} p {answer} h = subst (λ (m : Model). Effect call (m, answer)) (sym (put-back p)) h
+
+  -- the model's step from the receiving shard's
+  abbrev noted-at : ℕ → Call → Ledger × Answer → Model × Answer
+  noted-at p call done = (replaced p (done .0) (logAfter limits place model call (done .1)) (mintedAfter model call (done .1)), done .1)
+
+  -- a genesis token's effect from that at its shard
+  mint-effect : (p index owner amount : ℕ) (r : Ledger × Answer) → ShardEffect limits p (at p) (mint p index owner amount) r
+      → Effect (mint p index owner amount) (noted-at p (mint p index owner amount) r)
+  unfolding logAfter mintedAfter
+  mint-effect p index owner amount _ (shard-refused h) = back p (did-refuse h)
+  mint-effect p index owner amount _ (shard-minted h) = did-mint h
+
+  -- a registration's effect from that at its shard
+  register-effect : (p : ℕ) (t : Transaction) (r : Ledger × Answer) → ShardEffect limits p (at p) (register p t) r → Effect (register p t) (noted-at p (register p t) r)
+  unfolding logAfter mintedAfter
+  register-effect p t _ (shard-refused h) = back p (did-refuse h)
+  register-effect p t _ (shard-registered h) = did-register h
+
+  -- a vote's effect from that at its shard
+  deliver-effect : (p sender verdict : ℕ) (t : Transaction) → notGiven limits (model .shards) p sender verdict t ≡ false
+      → (r : Ledger × Answer) → ShardEffect limits p (at p) (deliver p sender verdict t) r → Effect (deliver p sender verdict t) (noted-at p (deliver p sender verdict t) r)
+  unfolding logAfter mintedAfter notGiven
+  deliver-effect p sender verdict t g _ (shard-refused h) = back p (did-refuse h)
+  deliver-effect p sender verdict t g _ (shard-heard h f z) =
+      did-hear h (not-no (gave (at sender) sender verdict t) (not-yes (λ n. clash (and-intro (eqb-yes f) n) g))) z
+  deliver-effect p sender verdict t g _ (shard-again h z) = back p (did-repeat h z)
+
+  -- every call does one of these
+  pub effect : (call : Call) → Effect call (step limits place model call)
+  unfolding step clusterStep atShard logAfter mintedAfter
+  effect (mint p index owner amount) = mint-effect p index owner amount _ (shard-effect limits p (at p) (mint p index owner amount))
+  effect (register p t) = register-effect p t _ (shard-effect limits p (at p) (register p t))
+  effect (deliver p sender verdict t) = go (notGiven limits (model .shards) p sender verdict t) refl
+    where
+      done : List Ledger × Answer
+      done = atShard limits (model .shards) p (deliver p sender verdict t)
+
+      go : (b : Bool) → notGiven limits (model .shards) p sender verdict t ≡ b
+          → Effect (deliver p sender verdict t) (record { shards = cond {A = List Ledger × Answer} b (model .shards, Refused 16) done .0; log = model .log; minted = model .minted }, cond {A = List Ledger × Answer} b (model .shards, Refused 16) done .1)
+      go true e = did-refuse (eqb-apart {m = 16} {n = 0} refl)
+      go false e = deliver-effect p sender verdict t e _ (shard-effect limits p (at p) (deliver p sender verdict t))

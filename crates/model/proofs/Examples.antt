@@ -1,0 +1,189 @@
+-- Document 01's example, and cases of 'Swaps at the edge' about registrations and votes, played through the model: each a fact by computation.
+use Prim.Native.Nat.{ℕ, zero, suc}
+use mathlib.Core.Path.{_≡_, refl}
+use mathlib.Core.Bool.{Bool, true, false}
+use mathlib.Core.Option.{Option, none, some}
+use mathlib.Core.List.{List, [], _∷_, _++_}
+use lib.ListN.{length, take, replicate}
+use Rattle.transaction.specs.declared.TokenId.{TokenId}
+use Rattle.transaction.specs.declared.Input.{Input}
+use Rattle.transaction.specs.declared.Output.{Output}
+use Rattle.transaction.specs.declared.Transaction.{Transaction}
+use Rattle.transaction.specs.Tokens.{zeroInput, zeroOutput, takesPart, sameToken, sameInput, sameOutput, sameTransaction}
+use Rattle.transaction.specs.Checks.{indexFits, valueFits, inputFits, outputFits, countsFit, fieldsFit, sameName, namedTwice, balanced, mintFits}
+use Rattle.model.specs.declared.Token.{Token}
+use Rattle.model.specs.declared.Outcome.the-variants.{Wait, Commit, Abort}
+use Rattle.model.specs.declared.Answer.{Answer}
+use Rattle.model.specs.declared.Answer.the-variants.{Refused, Minted, Registered, Heard, Again}
+use Rattle.model.specs.Steps.{Limits, house, Ledger, inputsHere, available, availableHere, pledges, vote, newlyKnown, decide, outputsHere, madeHere, commit, afterMint, afterRegister, afterVote, placeOf, entryOf}
+use Rattle.model.specs.Shard.{Call, mint, register, deliver, reservedBy, reserved, mintRefusals, registerRefusals, deliverForm, deliverRefusals, hear, shardStep}
+use Rattle.model.specs.Cluster.{ledgerAt, gave, notGiven, atShard, clusterStep}
+use Rattle.model.specs.Model.{Entry, logAfter, mintedAfter, step, after, answers, play, playAnswers}
+use Rattle.model.specs.Demand.{outcomeIn, committed, serialFrom, serialOrder}
+
+-- ---- Small transactions
+
+-- the token of a shard, creator and index, with its owner and amount; an output to a shard
+input : ℕ → ℕ → ℕ → ℕ → ℕ → Input
+input shard creator index owner amount = record { token = record { shard = shard; creator = creator; index = index }; owner = owner; amount = amount }
+
+-- an output to a shard
+output : ℕ → ℕ → ℕ → Output
+output shard owner amount = record { shard = shard; owner = owner; amount = amount }
+
+-- the transaction of a number, its inputs and its outputs, with unused slots zero
+make : ℕ → List Input → List Output → Transaction
+make number xs ys = record {
+  number = number;
+  «input_count» = length xs;
+  «output_count» = length ys;
+  inputs = take 4 (xs ++ replicate 4 zeroInput);
+  outputs = take 4 (ys ++ replicate 4 zeroOutput);
+}
+
+-- the tokens that a shard holds after the calls, and what each of the calls is answered
+tokensAfter : List Call → ℕ → List Token
+tokensAfter calls shard = ledgerAt house (play house calls .shards) shard .tokens
+
+-- a held token
+token : ℕ → ℕ → ℕ → ℕ → ℕ → Token
+token creator index owner amount pledge = record { creator = creator; index = index; owner = owner; amount = amount; pledge = pledge }
+
+-- document 01's swap 5: both tokens change hands
+both : Transaction
+both = make 5 (input 0 0 0 10 3 ∷ input 1 0 0 20 2 ∷ []) (output 1 10 3 ∷ output 0 20 2 ∷ [])
+
+-- the first four calls of document 01's list, and its last three
+known-at-both : List Call
+known-at-both = mint 0 0 10 3 ∷ mint 1 0 20 2 ∷ register 0 both ∷ register 1 both ∷ []
+
+-- the last three of document 01's calls
+votes : List Call
+votes = deliver 0 1 1 both ∷ deliver 1 0 1 both ∷ deliver 1 0 1 both ∷ []
+
+-- transactions of shard 0 alone, of the token that it is given first, rightly and with another owner; of that token and one that is not there
+alone : ℕ → Transaction
+alone number = make number (input 0 0 0 10 3 ∷ []) (output 0 11 3 ∷ [])
+
+-- the token with another owner
+wrong : Transaction
+wrong = make 6 (input 0 0 0 99 3 ∷ []) (output 0 11 3 ∷ [])
+
+-- that token and one that is not there
+half : Transaction
+half = make 6 (input 0 0 0 10 3 ∷ input 0 0 1 10 1 ∷ []) (output 0 11 4 ∷ [])
+
+-- another transaction numbered 5, and one like document 01's in all but an owner
+other5 : Transaction
+other5 = make 5 (input 0 0 0 10 3 ∷ []) (output 1 10 3 ∷ [])
+
+-- like document 01's in all but an owner
+near5 : Transaction
+near5 = make 5 (input 0 0 0 10 3 ∷ input 1 0 0 20 2 ∷ []) (output 1 10 3 ∷ output 0 21 2 ∷ [])
+
+-- one numbered 7 between two shards, the token of the first for a token at the second
+pass : ℕ → ℕ → Transaction
+pass from to = make 7 (input from 0 0 10 3 ∷ []) (output to 20 3 ∷ [])
+
+-- shard 0's token is there and shard 1's is not
+torn : Transaction
+torn = make 8 (input 0 0 0 10 3 ∷ input 1 0 0 20 2 ∷ []) (output 1 10 3 ∷ output 0 20 2 ∷ [])
+
+-- it is registered at both, and both votes are delivered
+torn-apart : List Call
+torn-apart = mint 0 0 10 3 ∷ register 0 torn ∷ register 1 torn ∷ deliver 0 1 0 torn ∷ deliver 1 0 1 torn ∷ []
+
+-- limits of two tokens and two transactions
+small : Limits
+small = record { tokens = 2; transactions = 2; genesis = 2 }
+
+-- ---- What the model says of them
+
+-- the facts
+pub record Examples : Type 0 where
+  -- document 01's seven calls, and what the shards then hold
+  seven-answers : playAnswers house (known-at-both ++ votes) ≡ Minted ∷ Minted ∷ Registered true Wait ∷ Registered true Wait ∷ Heard Commit ∷ Heard Commit ∷ Again Commit ∷ []
+  seven-0 : tokensAfter (known-at-both ++ votes) 0 ≡ token 5 1 20 2 0 ∷ []
+  seven-1 : tokensAfter (known-at-both ++ votes) 1 ≡ token 5 0 10 3 0 ∷ []
+  seven-order : serialOrder (play house (known-at-both ++ votes)) ≡ both ∷ []
+  -- cut after line 5: shard 1 still holds its token, pledged
+  cut-0 : tokensAfter (known-at-both ++ (deliver 0 1 1 both ∷ [])) 0 ≡ token 5 1 20 2 0 ∷ []
+  cut-1 : tokensAfter (known-at-both ++ (deliver 0 1 1 both ∷ [])) 1 ≡ token 0 0 20 2 5 ∷ []
+  -- two transactions name one held token rightly: the first registered votes yes, the other no
+  two-claims : playAnswers house (mint 0 0 10 3 ∷ register 0 (alone 1) ∷ register 0 (alone 2) ∷ []) ≡ Minted ∷ Registered true Commit ∷ Registered false Abort ∷ []
+  two-claims-held : tokensAfter (mint 0 0 10 3 ∷ register 0 both ∷ register 0 (alone 2) ∷ []) 0 ≡ token 0 0 10 3 5 ∷ []
+  -- right token, wrong owner: no, and nothing is pledged
+  wrong-owner : playAnswers house (mint 0 0 10 3 ∷ register 0 wrong ∷ []) ≡ Minted ∷ Registered false Abort ∷ []
+  wrong-owner-held : tokensAfter (mint 0 0 10 3 ∷ register 0 wrong ∷ []) 0 ≡ token 0 0 10 3 0 ∷ []
+  -- one input available, one not: no, and the first stays pledged
+  half-there : playAnswers house (mint 0 0 10 3 ∷ register 0 half ∷ register 0 (alone 1) ∷ []) ≡ Minted ∷ Registered false Abort ∷ Registered false Abort ∷ []
+  half-there-held : tokensAfter (mint 0 0 10 3 ∷ register 0 half ∷ register 0 (alone 1) ∷ []) 0 ≡ token 0 0 10 3 6 ∷ []
+  -- registered again: 8; another of that number: 7; also once it is decided
+  again-8 : playAnswers house (mint 0 0 10 3 ∷ register 0 both ∷ register 0 both ∷ register 0 other5 ∷ []) ≡ Minted ∷ Registered true Wait ∷ Refused 8 ∷ Refused 7 ∷ []
+  decided-8 : playAnswers house (known-at-both ++ (deliver 0 1 1 both ∷ register 0 both ∷ register 0 other5 ∷ []))
+      ≡ Minted ∷ Minted ∷ Registered true Wait ∷ Registered true Wait ∷ Heard Commit ∷ Refused 8 ∷ Refused 7 ∷ []
+  -- two transactions numbered 7, one of shards 0 and 1, one of 2 and 3: both commit
+  two-sevens : playAnswers house (
+      mint 0 0 10 3
+      ∷ mint 2 0 10 3
+      ∷ register 0 (pass 0 1)
+      ∷ register 1 (pass 0 1)
+      ∷ register 2 (pass 2 3)
+      ∷ register 3 (pass 2 3)
+      ∷ deliver 1 0 1 (pass 0 1)
+      ∷ deliver 3 2 1 (pass 2 3)
+      ∷ []
+      )
+      ≡ Minted ∷ Minted ∷ Registered true Wait ∷ Registered true Wait ∷ Registered true Wait ∷ Registered true Wait ∷ Heard Commit ∷ Heard Commit ∷ []
+  -- one no among the votes: abort at both shards, and the pledge stays, so that a later transaction finds nothing
+  one-no : playAnswers house (torn-apart ++ (register 0 (alone 1) ∷ [])) ≡ Minted ∷ Registered true Wait ∷ Registered false Wait ∷ Heard Abort ∷ Heard Abort ∷ Registered false Abort ∷ []
+  one-no-held : tokensAfter torn-apart 0 ≡ token 0 0 10 3 8 ∷ []
+  -- a genesis token after a transaction is known: 13; an index given twice: 14
+  late-mint : playAnswers house (mint 0 0 10 3 ∷ mint 0 0 10 3 ∷ register 0 both ∷ mint 0 1 10 3 ∷ []) ≡ Minted ∷ Refused 14 ∷ Registered true Wait ∷ Refused 13 ∷ []
+  -- a vote that was not given: 16, also on a transaction that differs in one field; given, and the receiver does not know it: 11
+  not-given : playAnswers house (mint 0 0 10 3 ∷ register 0 both ∷ deliver 0 1 1 both ∷ deliver 1 0 0 both ∷ deliver 1 0 1 near5 ∷ deliver 1 0 1 both ∷ [])
+      ≡ Minted ∷ Registered true Wait ∷ Refused 16 ∷ Refused 16 ∷ Refused 16 ∷ Refused 11 ∷ []
+  -- given, and the receiver knows its number for a transaction that differs in one field: 7
+  near-vote : playAnswers house (mint 0 0 10 3 ∷ mint 1 0 20 2 ∷ register 0 near5 ∷ register 1 both ∷ deliver 0 1 1 both ∷ [])
+      ≡ Minted ∷ Minted ∷ Registered true Wait ∷ Registered true Wait ∷ Refused 7 ∷ []
+  -- a vote to the shard itself: its own is a repeat, the other is not given
+  own-vote : playAnswers house (mint 0 0 10 3 ∷ register 0 both ∷ deliver 0 0 1 both ∷ deliver 0 0 0 both ∷ []) ≡ Minted ∷ Registered true Wait ∷ Again Wait ∷ Refused 16 ∷ []
+  -- at a lone shard: a record for another shard is 3, and the other verdict from one sender is 12
+  lone-3 : shardStep house 0 (ledgerAt house (play house known-at-both .shards) 0) (register 1 both) .1 ≡ Refused 3
+  lone-12 : shardStep house 0 (ledgerAt house (play house (known-at-both ++ votes) .shards) 0) (deliver 0 1 0 both) .1 ≡ Refused 12
+  -- a full shard: 9 and 10 at the stated counts only
+  full-9 : playAnswers small (mint 0 0 10 3 ∷ register 0 (alone 1) ∷ register 0 (alone 2) ∷ register 0 (alone 3) ∷ []) ≡ Minted ∷ Registered true Commit ∷ Registered false Abort ∷ Refused 9 ∷ []
+  full-10 : playAnswers small (mint 0 0 10 3 ∷ register 0 (alone 1) ∷ []) ≡ Minted ∷ Registered true Commit ∷ []
+  over-10 : playAnswers small (mint 0 0 10 3 ∷ mint 0 1 10 3 ∷ register 0 (alone 1) ∷ []) ≡ Minted ∷ Minted ∷ Refused 10 ∷ []
+
+-- each of them by computation
+pub examples : Examples
+unfolding input output make tokensAfter token both known-at-both votes alone wrong half other5 near5 pass torn torn-apart small takesPart sameToken sameInput sameOutput sameTransaction indexFits valueFits inputFits outputFits countsFit fieldsFit sameName namedTwice balanced mintFits inputsHere available availableHere pledges vote newlyKnown decide outputsHere madeHere commit afterMint afterRegister afterVote placeOf entryOf reservedBy reserved mintRefusals registerRefusals deliverForm deliverRefusals hear shardStep gave notGiven atShard clusterStep logAfter mintedAfter step after answers play playAnswers outcomeIn committed serialFrom
+examples = record {
+  seven-answers = refl;
+  seven-0 = refl;
+  seven-1 = refl;
+  seven-order = refl;
+  cut-0 = refl;
+  cut-1 = refl;
+  two-claims = refl;
+  two-claims-held = refl;
+  wrong-owner = refl;
+  wrong-owner-held = refl;
+  half-there = refl;
+  half-there-held = refl;
+  again-8 = refl;
+  decided-8 = refl;
+  two-sevens = refl;
+  one-no = refl;
+  one-no-held = refl;
+  late-mint = refl;
+  not-given = refl;
+  near-vote = refl;
+  own-vote = refl;
+  lone-3 = refl;
+  lone-12 = refl;
+  full-9 = refl;
+  full-10 = refl;
+  over-10 = refl;
+}

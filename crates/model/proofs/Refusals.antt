@@ -1,0 +1,150 @@
+-- What a table of refusals that answers 0 says: every test of it has passed.
+use Prim.Native.Nat.{ℕ, _+_, _≤_, _<_}
+use native.Mathlib.Omega.{arith}
+use mathlib.Core.Path.{_≡_, refl, ap, sym, _∙_, subst}
+use mathlib.Core.Logic.{_⊎_, inl, inr}
+use mathlib.Core.Bool.{Bool, true, false, cond, _&&_, _||_, not}
+use mathlib.Core.List.{List, [], _∷_, _++_, List·Memᴰ, Memᴰ·cast}
+use borrow.Author.Tests.{leb-true, leb-false, ltb-true, ltb-false}
+use lib.Dec.{eqb, leb, ltb}
+use lib.ListN.{length, getD}
+use Rattle.transaction.specs.declared.Transaction.{Transaction}
+use Rattle.transaction.specs.Lists.{any, firstOf}
+use Rattle.transaction.specs.Tokens.{shardsOf, takesPart}
+use Rattle.transaction.specs.Checks.{shardFits, indexFits, valueFits, countsFit, fieldsFit, namedTwice, balanced, mintFits}
+use Rattle.transaction.proofs.Causes.{counts}
+use Rattle.model.specs.declared.Known.{Known}
+use Rattle.model.specs.Steps.{Limits, Ledger, isFor, entryOf, heardFrom, outputsHere}
+use Rattle.model.specs.Shard.{hasNumber, isOther, reserved, otherVerdict, mintRefusals, registerRefusals, deliverForm, deliverRefusals}
+use Rattle.model.proofs.Basics.{eqb-eq, eqb-apart, clash, both, neither, not-no, not-is, passed, first-append, any-at}
+
+-- ---- Parts of the field checks
+
+-- there are eight shards
+pub shard-below : (p : ℕ) → shardFits p ≡ true → p < 8
+shard-below p e = let h = leb-true p 7 e in omega arith
+
+-- a transaction's number is not 0
+pub number-positive : (genesis : ℕ) (t : Transaction) → fieldsFit genesis t ≡ true → t .number ≡ 0 → ⊥
+unfolding countsFit
+number-positive genesis t e =
+    let c = counts genesis t e in
+    let n : Bool = not (eqb (t .number) 0) in
+    let a = both (n && leb 1 (t .«input_count») && leb (t .«input_count») 4 && leb 1 (t .«output_count»)) (leb (t .«output_count») 4) c in
+    let b = both (n && leb 1 (t .«input_count») && leb (t .«input_count») 4) (leb 1 (t .«output_count»)) (a .0) in
+    let d = both (n && leb 1 (t .«input_count»)) (leb (t .«input_count») 4) (b .0) in
+    eqb-apart (not-is (both n (leb 1 (t .«input_count»)) (d .0) .0))
+
+-- a shard that takes part is one of the transaction
+pub part-in : (p : ℕ) (t : Transaction) → takesPart p t ≡ true → List·Memᴰ p (shardsOf t)
+unfolding takesPart
+part-in p t e = let r = any-at (eqb p) (shardsOf t) e in Memᴰ·cast (eqb-eq p (r .0) (r .2)) (r .1)
+
+-- a list of length 0 is empty
+nothing : (l : List Known) → length l ≡ 0 → l ≡ []
+nothing [] e = refl
+nothing (k ∷ l) e = absurd (omega arith)
+
+-- ---- The three tables
+
+module _ (limits : Limits) (me : ℕ) (ledger : Ledger) (receiver : ℕ) where
+  -- a genesis token that passes
+  pub record MintPasses (index owner amount : ℕ) : Type 0 where
+    pub addressed : receiver ≡ me
+    pub receiver-fits : shardFits receiver ≡ true
+    pub index-fits : index < limits .genesis
+    pub none-known : ledger .known ≡ []
+    pub ungiven : getD (ledger .given) index false ≡ false
+
+  -- what its table says
+  pub mint-passes : (index owner amount : ℕ) → firstOf (mintRefusals limits me ledger receiver index owner amount) ≡ 0 → MintPasses index owner amount
+  unfolding mintRefusals mintFits indexFits
+  mint-passes index owner amount e =
+      let g = passed (mintRefusals limits me ledger receiver index owner amount) refl e in
+      let f = both (shardFits receiver && indexFits (limits .genesis) 0 index) (valueFits owner amount) (not-no (mintFits (limits .genesis) receiver index owner amount) (g .1 .0)) in
+      let h = both (shardFits receiver) (indexFits (limits .genesis) 0 index) (f .0) in
+      record {
+        addressed = eqb-eq receiver me (not-no (eqb receiver me) (g .0));
+        receiver-fits = h .0;
+        index-fits = ltb-true index (limits .genesis) (h .1);
+        none-known = nothing (ledger .known) (eqb-eq (length (ledger .known)) 0 (not-no (eqb (length (ledger .known)) 0) (g .1 .1 .0)));
+        ungiven = g .1 .1 .1 .0;
+      }
+
+  -- what both kinds of record that carry a transaction have passed
+  pub record FormPasses (t : Transaction) : Type 0 where
+    pub addressed : receiver ≡ me
+    pub receiver-fits : shardFits receiver ≡ true
+    pub fields : fieldsFit (limits .genesis) t ≡ true
+    pub distinct : namedTwice t ≡ false
+    pub balances : balanced t ≡ true
+    pub takes-part : takesPart receiver t ≡ true
+
+  -- a registration that passes
+  pub record RegisterPasses (t : Transaction) : Type 0 where
+    pub form : FormPasses t
+    pub no-other : any (isOther t) (ledger .known) ≡ false
+    pub unknown : any (isFor t) (ledger .known) ≡ false
+    pub known-room : length (ledger .known) < limits .transactions
+    pub token-room : length (ledger .tokens) + reserved me (ledger .known) + length (outputsHere me t) ≤ limits .tokens
+
+  -- what its table says
+  pub register-passes : (t : Transaction) → firstOf (registerRefusals limits me ledger receiver t) ≡ 0 → RegisterPasses t
+  unfolding registerRefusals
+  register-passes t e =
+      let g = passed (registerRefusals limits me ledger receiver t) refl e in
+      record {
+        form = record {
+          addressed = eqb-eq receiver me (not-no (eqb receiver me) (g .0));
+          receiver-fits = not-no (shardFits receiver) (g .1 .0);
+          fields = not-no (fieldsFit (limits .genesis) t) (g .1 .1 .0);
+          distinct = g .1 .1 .1 .0;
+          balances = not-no (balanced t) (g .1 .1 .1 .1 .0);
+          takes-part = not-no (takesPart receiver t) (g .1 .1 .1 .1 .1 .0);
+        };
+        no-other = g .1 .1 .1 .1 .1 .1 .0;
+        unknown = g .1 .1 .1 .1 .1 .1 .1 .0;
+        known-room = leb-false (limits .transactions) (length (ledger .known)) (g .1 .1 .1 .1 .1 .1 .1 .1 .0);
+        token-room = ltb-false (limits .tokens) (length (ledger .tokens) + reserved me (ledger .known) + length (outputsHere me t)) (g .1 .1 .1 .1 .1 .1 .1 .1 .1 .0);
+      }
+
+  -- a vote that passes
+  pub record DeliverPasses (sender verdict : ℕ) (t : Transaction) : Type 0 where
+    pub form : FormPasses t
+    pub sender-fits : shardFits sender ≡ true
+    pub verdict-fits : verdict ≤ 1
+    pub sender-part : takesPart sender t ≡ true
+    pub number-known : any (hasNumber t) (ledger .known) ≡ true
+    pub no-other : any (isOther t) (ledger .known) ≡ false
+    pub no-clash : otherVerdict (heardFrom sender (entryOf t (ledger .known))) verdict ≡ false
+
+  -- what its table says
+  pub deliver-passes : (sender verdict : ℕ) (t : Transaction) → firstOf (deliverRefusals limits me ledger receiver sender verdict t) ≡ 0 → DeliverPasses sender verdict t
+  unfolding deliverRefusals deliverForm
+  deliver-passes sender verdict t e =
+      let g = passed (deliverRefusals limits me ledger receiver sender verdict t) refl e in
+      record {
+        form = record {
+          addressed = eqb-eq receiver me (not-no (eqb receiver me) (g .0));
+          receiver-fits = not-no (shardFits receiver) (g .1 .0);
+          fields = not-no (fieldsFit (limits .genesis) t) (g .1 .1 .1 .1 .0);
+          distinct = g .1 .1 .1 .1 .1 .0;
+          balances = not-no (balanced t) (g .1 .1 .1 .1 .1 .1 .0);
+          takes-part = not-no (takesPart receiver t) (g .1 .1 .1 .1 .1 .1 .1 .0);
+        };
+        sender-fits = not-no (shardFits sender) (g .1 .1 .0);
+        verdict-fits = leb-true verdict 1 (not-no (leb verdict 1) (g .1 .1 .1 .0));
+        sender-part = not-no (takesPart sender t) (g .1 .1 .1 .1 .1 .1 .1 .1 .0);
+        number-known = not-no (any (hasNumber t) (ledger .known)) (g .1 .1 .1 .1 .1 .1 .1 .1 .1 .0);
+        no-other = g .1 .1 .1 .1 .1 .1 .1 .1 .1 .1 .0;
+        no-clash = g .1 .1 .1 .1 .1 .1 .1 .1 .1 .1 .1 .0;
+      }
+
+  -- a vote that no test of a lone shard refuses has passed 3 to 6
+  pub form-passes : (sender verdict : ℕ) (t : Transaction) → firstOf (deliverRefusals limits me ledger receiver sender verdict t) ≡ 0
+      → firstOf (deliverForm limits me receiver sender verdict t) ≡ 0
+  unfolding deliverRefusals deliverForm
+  form-passes sender verdict t e =
+      first-append (deliverForm limits me receiver sender verdict t)
+      ((not (any (hasNumber t) (ledger .known)), 11) ∷ (any (isOther t) (ledger .known), 7) ∷ (otherVerdict (heardFrom sender (entryOf t (ledger .known))) verdict, 12) ∷ [])
+      refl e

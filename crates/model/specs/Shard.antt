@@ -1,0 +1,115 @@
+-- Document 01, 'Causes of refusal', at one shard: for each kind of call one table of tests and numbers in the paper's order, and the whole call.
+-- Arguments are raw: any number, any count, any slots. A record addressed to another shard is part of check 3.
+use Prim.Native.Nat.{ℕ, _+_}
+use mathlib.Core.Bool.{Bool, false, cond, not, _&&_}
+use mathlib.Core.List.{List, [], _∷_, _++_}
+use lib.Dec.{eqb, leb, ltb}
+use lib.ListN.{length, getD}
+use Rattle.transaction.specs.declared.Transaction.{Transaction}
+use Rattle.transaction.specs.Lists.{any, total, firstOf}
+use Rattle.transaction.specs.Tokens.{takesPart}
+use Rattle.transaction.specs.Checks.{registerChecks, voteChecks, mintChecks}
+use Rattle.model.specs.declared.Known.{Known}
+use Rattle.model.specs.declared.Outcome.{Outcome}
+use Rattle.model.specs.declared.Outcome.the-variants.{Wait, Commit, Abort}
+use Rattle.model.specs.declared.Answer.{Answer}
+use Rattle.model.specs.declared.Answer.the-variants.{Refused, Minted, Registered, Heard, Again}
+use Rattle.model.specs.Steps.{Limits, Ledger, vote, newlyKnown, heardFrom, hearing, outcomeOf, outputsHere, isFor, entryOf, afterMint, afterRegister, afterVote}
+
+-- The calls: an opening (receiver, index, owner, amount), a registration (receiver, transaction),
+-- a vote (receiver, sender, verdict with 1 for yes and 0 for no, transaction).
+pub data Call : Type 0 where
+  mint : ℕ → ℕ → ℕ → ℕ → Call
+  register : ℕ → Transaction → Call
+  deliver : ℕ → ℕ → ℕ → Transaction → Call
+
+-- has a known transaction this number; is it another one of this number
+abbrev pub hasNumber : Transaction → Known → Bool
+hasNumber t k = eqb (k .transaction .number) (t .number)
+
+-- is it another transaction of this number
+abbrev pub isOther : Transaction → Known → Bool
+isOther t k = hasNumber t k && not (isFor t k)
+
+-- outputs here of undecided transactions
+abbrev pub ifUndecided : Outcome → ℕ → ℕ
+ifUndecided Wait n = n
+ifUndecided Commit n = 0
+ifUndecided Abort n = 0
+
+-- the outputs here of a known transaction, while it is undecided
+unfoldable pub reservedBy : ℕ → Known → ℕ
+reservedBy me k = ifUndecided (outcomeOf k) (length (outputsHere me (k .transaction)))
+
+-- the outputs here of all undecided transactions
+unfoldable pub reserved : ℕ → List Known → ℕ
+reserved me known = total (reservedBy me) known
+
+-- a vote is heard from this sender, and it is the other one
+abbrev pub otherVerdict : ℕ → ℕ → Bool
+otherVerdict heard verdict = not (eqb heard 0) && not (eqb heard (verdict + 1))
+
+-- kind 3: 3, 13, 14
+unfoldable pub mintRefusals : Limits → ℕ → Ledger → ℕ → ℕ → ℕ → ℕ → List (Bool × ℕ)
+mintRefusals limits me ledger receiver index owner amount =
+    (not (eqb receiver me), 3)
+    ∷ mintChecks (limits .genesis) receiver index owner amount
+    ++ (not (eqb (length (ledger .known)) 0), 13)
+    ∷ (getD (ledger .given) index false, 14)
+    ∷ []
+
+-- kind 1: 3, 4, 5, 6, 7, 8, 9, 10
+unfoldable pub registerRefusals : Limits → ℕ → Ledger → ℕ → Transaction → List (Bool × ℕ)
+registerRefusals limits me ledger receiver t =
+    (not (eqb receiver me), 3)
+    ∷ registerChecks (limits .genesis) receiver t
+    ++ (not (takesPart receiver t), 6)
+    ∷ (any (isOther t) (ledger .known), 7)
+    ∷ (any (isFor t) (ledger .known), 8)
+    ∷ (leb (limits .transactions) (length (ledger .known)), 9)
+    ∷ (ltb (limits .tokens) (length (ledger .tokens) + reserved me (ledger .known) + length (outputsHere me t)), 10)
+    ∷ []
+
+-- 3 to 6 of a vote, which a cluster checks before 16
+unfoldable pub deliverForm : Limits → ℕ → ℕ → ℕ → ℕ → Transaction → List (Bool × ℕ)
+deliverForm limits me receiver sender verdict t =
+    (not (eqb receiver me), 3)
+    ∷ voteChecks (limits .genesis) receiver sender verdict t
+    ++ (not (takesPart receiver t), 6)
+    ∷ (not (takesPart sender t), 6)
+    ∷ []
+
+-- kind 2 at a lone shard: 3, 4, 5, 6, 11, 7, 12
+unfoldable pub deliverRefusals : Limits → ℕ → Ledger → ℕ → ℕ → ℕ → Transaction → List (Bool × ℕ)
+deliverRefusals limits me ledger receiver sender verdict t =
+    deliverForm limits me receiver sender verdict t
+    ++ (not (any (hasNumber t) (ledger .known)), 11)
+    ∷ (any (isOther t) (ledger .known), 7)
+    ∷ (otherVerdict (heardFrom sender (entryOf t (ledger .known))) verdict, 12)
+    ∷ []
+
+-- ---- One call at a lone shard
+
+-- refused with the first number that fits, and all left as it was; else carried out
+abbrev pub unless : {A : Type 0} → ℕ → A → A × Answer → A × Answer
+unless cause before done = cond (eqb cause 0) done (before, Refused cause)
+
+-- a vote that passes: fresh, or the same one heard again
+unfoldable pub hear : ℕ → Ledger → ℕ → ℕ → Transaction → Ledger × Answer
+hear me ledger sender verdict t =
+    let k = entryOf t (ledger .known) in
+    cond (eqb (heardFrom sender k) 0)
+    (afterVote me ledger sender verdict t, Heard (outcomeOf (hearing sender verdict k)))
+    (ledger, Again (outcomeOf k))
+
+-- the whole call
+unfoldable pub shardStep : Limits → ℕ → Ledger → Call → Ledger × Answer
+shardStep limits me ledger (mint receiver index owner amount) =
+    unless (firstOf (mintRefusals limits me ledger receiver index owner amount)) ledger
+    (afterMint ledger index owner amount, Minted)
+shardStep limits me ledger (register receiver t) =
+    unless (firstOf (registerRefusals limits me ledger receiver t)) ledger
+    (afterRegister me ledger t, Registered (vote me (ledger .tokens) t) (outcomeOf (newlyKnown me (ledger .tokens) t)))
+shardStep limits me ledger (deliver receiver sender verdict t) =
+    unless (firstOf (deliverRefusals limits me ledger receiver sender verdict t)) ledger
+    (hear me ledger sender verdict t)

@@ -1,0 +1,215 @@
+-- Document 01, 'The steps' (document 000, core Cerberus), at one shard (pantry): what a shard notes, and what each step does to it.
+-- `me` is the shard's own number. Registration goes in document 000's order, in four definitions.
+use Prim.Native.Nat.{ℕ, suc, _+_}
+use mathlib.Core.Bool.{Bool, true, false, cond, not, _&&_}
+use mathlib.Core.List.{List, [], _∷_, _++_, map}
+use lib.Dec.{eqb}
+use lib.ListN.{length, getD, set, replicate}
+use Rattle.transaction.specs.declared.Input.{Input}
+use Rattle.transaction.specs.declared.Output.{Output}
+use Rattle.transaction.specs.declared.Transaction.{Transaction}
+use Rattle.transaction.specs.Lists.{any, all}
+use Rattle.transaction.specs.Tokens.{usedInputs, usedOutputs, shardsOf, sameTransaction, blankTransaction}
+use Rattle.model.specs.declared.Token.{Token}
+use Rattle.model.specs.declared.Known.{Known}
+use Rattle.model.specs.declared.Outcome.{Outcome}
+use Rattle.model.specs.declared.Outcome.the-variants.{Wait, Commit, Abort}
+use Rattle.model.specs.Lists.{keep, find}
+
+-- How many tokens a shard holds, how many transactions it knows, and how many genesis indices (opening positions) it has.
+pub record Limits : Type 0 where
+  pub tokens : ℕ
+  pub transactions : ℕ
+  pub genesis : ℕ
+
+-- a house's figures
+abbrev pub house : Limits
+house = record { tokens = 128; transactions = 32; genesis = 128 }
+
+-- What a shard notes: the tokens held, each with its pledge; the genesis indices given; the known transactions with the verdicts heard.
+pub record Ledger : Type 0 where
+  pub tokens : List Token
+  pub given : List Bool
+  pub known : List Known
+
+-- nothing held, given or known
+abbrev pub emptyLedger : Limits → Ledger
+emptyLedger limits = record { tokens = []; given = replicate (limits .genesis) false; known = [] }
+
+-- ---- Opening: the shard holds the token (itself, 0, index)
+
+-- the token of an opening, pledged to no transaction
+abbrev pub genesisToken : ℕ → ℕ → ℕ → Token
+genesisToken index owner amount = record { creator = 0; index = index; owner = owner; amount = amount; pledge = 0 }
+
+-- the ledger after an opening
+unfoldable pub afterMint : Ledger → ℕ → ℕ → ℕ → Ledger
+afterMint ledger index owner amount = record {
+  tokens = ledger .tokens ++ (genesisToken index owner amount ∷ []);
+  given = set (ledger .given) index true;
+  known = ledger .known;
+}
+
+-- ---- Registration: the inputs here, the available ones among them, the pledges, the message
+
+-- the input is at this shard
+abbrev pub inputHere : ℕ → Input → Bool
+inputHere me x = eqb (x .token .shard) me
+
+-- first, the inputs at this shard
+unfoldable pub inputsHere : ℕ → Transaction → List Input
+inputsHere me t = keep (inputHere me) (usedInputs t)
+
+-- the input names the token, of this shard
+abbrev pub names : Input → Token → Bool
+names x token = eqb (token .creator) (x .token .creator) && eqb (token .index) (x .token .index)
+
+-- the token is named by the input
+abbrev pub namedBy : Token → Input → Bool
+namedBy token x = names x token
+
+-- it is that token with that owner and that amount, and it is pledged to no transaction
+abbrev pub freeFor : Input → Token → Bool
+freeFor x token = names x token && eqb (token .owner) (x .owner) && eqb (token .amount) (x .amount) && eqb (token .pledge) 0
+
+-- an input at this shard is available if the shard holds such a token
+unfoldable pub available : List Token → Input → Bool
+available tokens x = any (freeFor x) tokens
+
+-- second, the available ones among the inputs here
+unfoldable pub availableHere : ℕ → List Token → Transaction → List Input
+availableHere me tokens t = keep (available tokens) (inputsHere me t)
+
+-- the token with its pledge
+abbrev pub pledgedTo : ℕ → Token → Token
+pledgedTo number token =
+    record { creator = token .creator; index = token .index; owner = token .owner; amount = token .amount; pledge = number }
+
+-- pledged if one of the inputs names it
+abbrev pub pledgeIf : ℕ → List Input → Token → Token
+pledgeIf number inputs token = cond (any (namedBy token) inputs) (pledgedTo number token) token
+
+-- third, the pledges: the tokens of these inputs are pledged to the transaction of that number
+unfoldable pub pledges : ℕ → List Input → List Token → List Token
+pledges number inputs tokens = map (pledgeIf number inputs) tokens
+
+-- fourth, the message, the vote: yes if all inputs here are available, so yes where there are outputs only
+unfoldable pub vote : ℕ → List Token → Transaction → Bool
+vote me tokens t = all (available tokens) (inputsHere me t)
+
+-- a verdict as it is noted
+abbrev pub noted : Bool → ℕ
+noted verdict = cond verdict 2 1
+
+-- the transaction as it becomes known: the vote counts as heard from this shard
+unfoldable pub newlyKnown : ℕ → List Token → Transaction → Known
+newlyKnown me tokens t = record { transaction = t; heard = set (replicate 8 0) me (noted (vote me tokens t)) }
+
+-- ---- Vote: it is noted for its sender
+
+-- the verdict heard from a sender, 0 for none
+abbrev pub heardFrom : ℕ → Known → ℕ
+heardFrom sender k = getD (k .heard) sender 0
+
+-- the known transaction with the sender's verdict (1 yes, 0 no) noted
+abbrev pub hearing : ℕ → ℕ → Known → Known
+hearing sender verdict k = record { transaction = k .transaction; heard = set (k .heard) sender (verdict + 1) }
+
+-- ---- Decision: when votes of all the transaction's shards are heard, commit if all are yes, else abort
+
+-- the shard's vote is heard
+abbrev pub isHeard : List ℕ → ℕ → Bool
+isHeard heard shard = not (eqb (getD heard shard 0) 0)
+
+-- and it is yes
+abbrev pub isYes : List ℕ → ℕ → Bool
+isYes heard shard = eqb (getD heard shard 0) 2
+
+-- votes of all the transaction's shards are heard
+abbrev pub heardAll : Transaction → List ℕ → Bool
+heardAll t heard = all (isHeard heard) (shardsOf t)
+
+-- all are yes
+abbrev pub allYes : Transaction → List ℕ → Bool
+allYes t heard = all (isYes heard) (shardsOf t)
+
+-- the decision
+unfoldable pub decide : Transaction → List ℕ → Outcome
+decide t heard = cond (heardAll t heard) (cond (allYes t heard) Commit Abort) Wait
+
+-- the outcome of a known transaction
+abbrev pub outcomeOf : Known → Outcome
+outcomeOf k = decide (k .transaction) (k .heard)
+
+-- ---- Commit destroys the inputs here and makes the outputs here; abort changes no token
+
+-- the output is at this shard
+abbrev pub outputHere : ℕ → Output → Bool
+outputHere me y = eqb (y .shard) me
+
+-- the outputs at this shard
+unfoldable pub outputsHere : ℕ → Transaction → List Output
+outputsHere me t = keep (outputHere me) (usedOutputs t)
+
+-- the token of an output: its index is the output's place among all outputs
+abbrev pub tokenOf : ℕ → ℕ → Output → Token
+tokenOf number index y = record { creator = number; index = index; owner = y .owner; amount = y .amount; pledge = 0 }
+
+-- the tokens of those of the outputs that are here; `index` is the first one's
+abbrev pub tokensFrom : ℕ → ℕ → ℕ → List Output → List Token
+tokensFrom me number index [] = []
+tokensFrom me number index (y ∷ ys) =
+    cond (outputHere me y) (tokenOf number index y ∷ tokensFrom me number (suc index) ys) (tokensFrom me number (suc index) ys)
+
+-- the tokens that the transaction makes here
+unfoldable pub madeHere : ℕ → Transaction → List Token
+madeHere me t = tokensFrom me (t .number) 0 (usedOutputs t)
+
+-- no input here names the token
+abbrev pub stays : List Input → Token → Bool
+stays inputs token = not (any (namedBy token) inputs)
+
+-- the tokens after a commit
+unfoldable pub commit : ℕ → Transaction → List Token → List Token
+commit me t tokens = keep (stays (inputsHere me t)) tokens ++ madeHere me t
+
+-- the tokens after an outcome
+abbrev pub settle : Outcome → ℕ → Transaction → List Token → List Token
+settle Wait me t tokens = tokens
+settle Commit me t tokens = commit me t tokens
+settle Abort me t tokens = tokens
+
+-- ---- What a registration and a fresh vote leave behind, with the decision that they bring
+
+-- the ledger after a registration
+unfoldable pub afterRegister : ℕ → Ledger → Transaction → Ledger
+afterRegister me ledger t =
+    let k = newlyKnown me (ledger .tokens) t in
+    let tokens = pledges (t .number) (availableHere me (ledger .tokens) t) (ledger .tokens) in
+    record { tokens = settle (outcomeOf k) me t tokens; given = ledger .given; known = ledger .known ++ (k ∷ []) }
+
+-- is it this transaction, every field of it
+abbrev pub isFor : Transaction → Known → Bool
+isFor t k = sameTransaction (k .transaction) t
+
+-- the known transaction and its place; nobody asks for one that is not known
+abbrev pub nothingKnown : Known
+nothingKnown = record { transaction = blankTransaction; heard = [] }
+
+-- its place among the known ones
+unfoldable pub placeOf : Transaction → List Known → ℕ
+placeOf t known = find (isFor t) known
+
+-- and the known transaction there
+unfoldable pub entryOf : Transaction → List Known → Known
+entryOf t known = getD known (placeOf t known) nothingKnown
+
+-- the ledger after a fresh vote
+unfoldable pub afterVote : ℕ → Ledger → ℕ → ℕ → Transaction → Ledger
+afterVote me ledger sender verdict t =
+    let k = hearing sender verdict (entryOf t (ledger .known)) in
+    record {
+      tokens = settle (outcomeOf k) me (k .transaction) (ledger .tokens);
+      given = ledger .given;
+      known = set (ledger .known) (placeOf t (ledger .known)) k;
+    }
