@@ -1,0 +1,94 @@
+-- Four slots and a count, slot by slot: keep and all, beside the laws of the transaction crate's proofs/Slots.
+use Prim.Native.Nat.{ℕ, zero, suc, _+_, _<_, _≤_}
+use mathlib.Core.Path.{_≡_, refl, sym, ap, _∙_}
+use mathlib.Core.Bool.{Bool, true, false, cond, _&&_, and-assoc, and-true}
+use mathlib.Core.List.{List, [], _∷_, _++_, append-assoc, append-nil}
+use native.Mathlib.Omega.{arith}
+use borrow.Author.Tests.{lt-ltb, ne-eqb}
+use lib.Dec.{eqb, ltb, eqb·suc-suc}
+use lib.ListN.{length, getD, take, drop}
+use lib.Seq.{take-nil}
+use Rattle.transaction.specs.Lists.{all}
+use Rattle.transaction.proofs.Slots.{four, slots-by}
+use Rattle.model.specs.Lists.{keep}
+
+-- the element, where it is wanted
+abbrev pub oneIf : {A : Type 0} → Bool → A → List A
+oneIf wanted x = cond wanted (x ∷ []) []
+
+keep-one : {A : Type 0} (f : A → Bool) (a : A) (l : List A) → keep f (a ∷ l) ≡ oneIf (f a) a ++ keep f l
+keep-one f a l = go (f a)
+  where
+    go : (b : Bool) → cond b (a ∷ keep f l) (keep f l) ≡ oneIf b a ++ keep f l
+    go true = refl
+    go false = refl
+
+above : (n k : ℕ) → k < 4 → ltb k (suc (suc (suc (suc n)))) ≡ true
+above n k h = lt-ltb k (suc (suc (suc (suc n)))) (omega arith)
+
+nest : {A : Type 0} (p q r s : List A) → p ++ (q ++ (r ++ (s ++ []))) ≡ p ++ q ++ r ++ s
+nest p q r s = simp (append-nil, append-assoc)
+
+-- one element more in front of what was kept
+keep-more : {A : Type 0} (f : A → Bool) (a : A) (l : List A) {kept : List A} → keep f l ≡ kept → keep f (a ∷ l) ≡ oneIf (f a) a ++ kept
+keep-more f a l e = keep-one f a l ∙ ap (λ (k : List _). oneIf (f a) a ++ k) e
+
+module _ {A : Type 0} (f : A → Bool) (a b c e : A) where
+  keep-of : (n : ℕ)
+      → keep f (take n (a ∷ b ∷ c ∷ e ∷ []))
+      ≡ oneIf (ltb 0 n && f a) a ++ oneIf (ltb 1 n && f b) b ++ oneIf (ltb 2 n && f c) c ++ oneIf (ltb 3 n && f e) e
+  keep-of zero = refl
+  keep-of (suc zero) = keep-more f a [] refl ∙ nest (oneIf (f a) a) [] [] []
+  keep-of (suc (suc zero)) = keep-more f a (b ∷ []) (keep-more f b [] refl) ∙ nest (oneIf (f a) a) (oneIf (f b) b) [] []
+  keep-of (suc (suc (suc zero))) =
+      keep-more f a (b ∷ c ∷ []) (keep-more f b (c ∷ []) (keep-more f c [] refl))
+      ∙ nest (oneIf (f a) a) (oneIf (f b) b) (oneIf (f c) c) []
+  keep-of (suc (suc (suc (suc n)))) =
+      rw (above n 0 (omega arith), above n 1 (omega arith), above n 2 (omega arith), above n 3 (omega arith))
+      (rw (take-nil {A = A} n)
+      (keep-more f a (b ∷ c ∷ e ∷ []) (keep-more f b (c ∷ e ∷ []) (keep-more f c (e ∷ []) (keep-more f e [] refl)))
+      ∙ nest (oneIf (f a) a) (oneIf (f b) b) (oneIf (f c) c) (oneIf (f e) e)))
+
+module _ {A : Type 0} (d : A) (x : List A) (long : length x ≡ 4) where
+  -- those of the used slots that pass, each added behind the ones before it
+  pub keep-by : (f : A → Bool) (n : ℕ) {p q r s t : List A} → p ≡ []
+      → q ≡ p ++ oneIf (ltb 0 n && f (getD x 0 d)) (getD x 0 d) → r ≡ q ++ oneIf (ltb 1 n && f (getD x 1 d)) (getD x 1 d)
+      → s ≡ r ++ oneIf (ltb 2 n && f (getD x 2 d)) (getD x 2 d) → t ≡ s ++ oneIf (ltb 3 n && f (getD x 3 d)) (getD x 3 d)
+      → t ≡ keep f (take n x)
+  keep-by f n ep eq er es et =
+      et ∙ rw (es, er, eq, ep)
+      (sym (keep-of f (getD x 0 d) (getD x 1 d) (getD x 2 d) (getD x 3 d) n) ∙ ap (λ (l : List A). keep f (take n l)) (four d x long))
+
+  -- each of the used slots passes
+  pub all-by : (f : A → Bool) (n : ℕ) {p q r s : Bool}
+      → p ≡ cond (ltb 0 n) (f (getD x 0 d)) true → q ≡ cond (ltb 1 n) (f (getD x 1 d)) true
+      → r ≡ cond (ltb 2 n) (f (getD x 2 d)) true → s ≡ cond (ltb 3 n) (f (getD x 3 d)) true
+      → p && q && r && s ≡ all f (take n x)
+  all-by f n ep eq er es =
+      slots-by d x long f (λ (a : A). true) n ep eq er es ∙ rw (always (drop n x)) (and-true (all f (take n x)))
+    where
+      always : (l : List A) → all (λ (a : A). true) l ≡ true
+      always [] = refl
+      always (a ∷ l) = always l
+
+-- as many pass as there are: each passes
+keep-within : {A : Type 0} (f : A → Bool) (l : List A) → length (keep f l) ≤ length l
+keep-within f [] = omega arith
+keep-within f (a ∷ l) = go (f a) (keep-within f l)
+  where
+    go : (b : Bool) → length (keep f l) ≤ length l → length (cond b (a ∷ keep f l) (keep f l)) ≤ suc (length l)
+    go true h = omega arith
+    go false h = omega arith
+
+pub all-kept : {A : Type 0} (f : A → Bool) (l : List A) → eqb (length (keep f l)) (length l) ≡ all f l
+all-kept f [] = refl
+all-kept f (a ∷ l) = go (f a) (all-kept f l)
+  where
+    go : (b : Bool) → eqb (length (keep f l)) (length l) ≡ all f l
+        → eqb (length (cond b (a ∷ keep f l) (keep f l))) (suc (length l)) ≡ b && all f l
+    go true h = eqb·suc-suc (length (keep f l)) (length l) ∙ h
+    go false h = ne-eqb (length (keep f l)) (suc (length l)) (λ e. omega (arith, keep-within f l))
+
+pub all-append : {A : Type 0} (f : A → Bool) (x y : List A) → all f (x ++ y) ≡ all f x && all f y
+all-append f [] y = refl
+all-append f (a ∷ x) y = ap (λ (b : Bool). f a && b) (all-append f x y) ∙ sym (and-assoc (f a) (all f x) (all f y))
