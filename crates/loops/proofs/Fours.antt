@@ -11,10 +11,7 @@ use lib.Seq.{take-nil}
 use Rattle.transaction.specs.Lists.{all}
 use Rattle.transaction.proofs.Slots.{four, slots-by}
 use Rattle.model.specs.Lists.{keep}
-
--- the element, where it is wanted
-abbrev pub oneIf : {A : Type 0} → Bool → A → List A
-oneIf wanted x = cond wanted (x ∷ []) []
+use Rattle.loops.specs.Lists.{oneIf}
 
 keep-one : {A : Type 0} (f : A → Bool) (a : A) (l : List A) → keep f (a ∷ l) ≡ oneIf (f a) a ++ keep f l
 keep-one f a l = go (f a)
@@ -26,7 +23,7 @@ keep-one f a l = go (f a)
 above : (n k : ℕ) → k < 4 → ltb k (suc (suc (suc (suc n)))) ≡ true
 above n k h = lt-ltb k (suc (suc (suc (suc n)))) (omega arith)
 
-nest : {A : Type 0} (p q r s : List A) → p ++ (q ++ (r ++ (s ++ []))) ≡ p ++ q ++ r ++ s
+pub nest : {A : Type 0} (p q r s : List A) → p ++ (q ++ (r ++ (s ++ []))) ≡ p ++ q ++ r ++ s
 nest p q r s = simp (append-nil, append-assoc)
 
 -- one element more in front of what was kept

@@ -1,0 +1,124 @@
+// The first two steps of a registration: the inputs at this shard, then the available ones among them.
+ghost use mathlib.Core.Path.{_≡_};
+ghost use mathlib.Core.Bool.{_&&_};
+ghost use mathlib.Core.List.{[], _++_};
+ghost use Prim.Native.Nat.{_+_, _≤_, _<_};
+ghost use lib.ListN.{take};
+ghost use Rattle.model.specs.Steps.{names, freeFor, available, inputsHere, availableHere};
+ghost use Rattle.model.specs.Lists.{keep};
+ghost use Rattle.holdings.specs.Arrays.{inputsOf};
+ghost use Rattle.loops.specs.Lists.{oneIf};
+use crate::Inputs;
+use model::Token;
+use transaction::Input;
+use transaction::TokenId;
+use transaction::Transaction;
+
+// The input names this token of its shard.
+pub fn names_token(x: Input, token: Token) -> bool
+    ensures { λ r. ⌜ r ≡ names x token ⌝ }
+{
+    let id = x.token;
+    (token.creator == id.creator) & (token.index == id.index)
+}
+
+// It is that token with that owner and that amount, and it is pledged to no transaction.
+fn is_free_for(x: Input, token: Token) -> bool
+    ensures { λ r. ⌜ r ≡ freeFor x token ⌝ }
+{
+    names_token(x, token)
+        & (token.owner == x.owner)
+        & (token.amount == x.amount)
+        & (token.pledge == 0)
+}
+
+// The shard holds such a token.
+pub fn is_available(tokens: [Token; 128], held: usize, x: Input) -> bool
+    requires { ⌜ held ≤ 128 ⌝ }
+    ensures { λ r. ⌜ r ≡ available (take held tokens) x ⌝ }
+{
+    let mut k = 0;
+    while k < held {
+        let token = tokens[k];
+        if is_free_for(x, token) {
+            return true;
+        }
+        k += 1;
+    }
+    false
+}
+
+fn no_inputs() -> Inputs
+    ensures { λ r. ⌜ (inputsOf r ≡ []) × (r .count ≡ 0) ⌝ }
+{
+    let none = Input {
+        token: TokenId {
+            shard: 0,
+            creator: 0,
+            index: 0,
+        },
+        owner: 0,
+        amount: 0,
+    };
+    Inputs {
+        count: 0,
+        list: [none; 4],
+    }
+}
+
+// One input more, where it is wanted.
+fn push_if(before: Inputs, wanted: bool, x: Input) -> Inputs
+    requires { ⌜ before .count < 4 ⌝ }
+    ensures { λ r. ⌜ (inputsOf r ≡ inputsOf before ++ oneIf wanted x) × (r .count ≤ before .count + 1) ⌝ }
+{
+    if !wanted {
+        return before;
+    }
+    let n = before.count;
+    let mut list = before.list;
+    list[n] = x;
+    Inputs {
+        count: n + 1,
+        list: list,
+    }
+}
+
+// First, the inputs at this shard.
+pub fn inputs_here(me: u8, t: Transaction) -> Inputs
+    ensures { λ r. ⌜ (inputsOf r ≡ inputsHere me t) × (r .count ≤ 4) ⌝ }
+{
+    let n = t.input_count;
+    let x = t.inputs;
+    let a = x[0];
+    let b = x[1];
+    let c = x[2];
+    let d = x[3];
+    let one = push_if(no_inputs(), (0 < n) & (a.token.shard == me), a);
+    let two = push_if(one, (1 < n) & (b.token.shard == me), b);
+    let three = push_if(two, (2 < n) & (c.token.shard == me), c);
+    push_if(three, (3 < n) & (d.token.shard == me), d)
+}
+
+fn push_available(before: Inputs, tokens: [Token; 128], held: usize, used: bool, x: Input) -> Inputs
+    requires { ⌜ (before .count < 4) × (held ≤ 128) ⌝ }
+    ensures { λ r. ⌜ (inputsOf r ≡ inputsOf before ++ oneIf (used && available (take held tokens) x) x) × (r .count ≤ before .count + 1) ⌝ }
+{
+    if !used {
+        return before;
+    }
+    let wanted = is_available(tokens, held, x);
+    push_if(before, wanted, x)
+}
+
+// Second, the available ones among the inputs here.
+pub fn available_of(tokens: [Token; 128], held: usize, here: Inputs) -> Inputs
+    requires { ⌜ held ≤ 128 ⌝ }
+    ensures { λ r. ⌜ (inputsOf r ≡ keep (available (take held tokens)) (inputsOf here)) × (r .count ≤ 4) ⌝ }
+{
+    let n = here.count;
+    let x = here.list;
+    let one = push_available(no_inputs(), tokens, held, 0 < n, x[0]);
+    let two = push_available(one, tokens, held, 1 < n, x[1]);
+    let three = push_available(two, tokens, held, 2 < n, x[2]);
+    push_available(three, tokens, held, 3 < n, x[3])
+}

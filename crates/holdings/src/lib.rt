@@ -1,0 +1,19 @@
+// The tokens that a shard holds, and what a registration and a commit do to them: document 01, 'The steps'.
+use model::Token;
+use transaction::Input;
+
+pub mod availability; // the inputs at a shard, and the available ones among them
+pub mod pledging; // the pledges
+pub mod committing; // tokens destroyed and made
+
+// Up to four inputs, in order.
+pub struct Inputs {
+    pub count: usize,
+    pub list: [Input; 4],
+}
+
+// Up to 128 tokens, in order.
+pub struct Holdings {
+    pub count: usize,
+    pub list: [Token; 128],
+}
