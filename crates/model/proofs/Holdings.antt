@@ -148,7 +148,7 @@ no-twice-pledges n xs tokens s =
 -- ---- Tokens made
 
 -- a made token has the transaction's number, its shard is that of an output, and its index is not below the first one
-made-from : (p n j : ℕ) (l : List Output) (m i : ℕ) {t : Token} → tokenAt (tokensFrom p n j l) m i ≡ some t → (m ≡ n) × List·Memᴰ p (map outputShard l) × (j ≤ i)
+pub made-from : (p n j : ℕ) (l : List Output) (m i : ℕ) {t : Token} → tokenAt (tokensFrom p n j l) m i ≡ some t → (m ≡ n) × List·Memᴰ p (map outputShard l) × (j ≤ i)
 made-from p n j [] m i e = some≢none e refl
 made-from p n j (o ∷ l) m i {t} e = go (eqb (o .shard) p) refl e (made-from p n (suc j) l m i)
   where

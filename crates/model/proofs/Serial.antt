@@ -17,7 +17,7 @@ use Rattle.model.specs.declared.Token.{Token}
 use Rattle.model.specs.declared.Known.{Known}
 use Rattle.model.specs.declared.Outcome.{Outcome}
 use Rattle.model.specs.declared.Outcome.the-variants.{Wait, Commit, Abort}
-use Rattle.model.specs.Lists.{lookup, mapOption}
+use Rattle.model.specs.Lists.{lookup, mapOption, andThen}
 use Rattle.model.specs.Steps.{Limits, inputsHere, outcomeOf, madeHere}
 use Rattle.model.specs.Cluster.{ledgerAt}
 use Rattle.model.specs.Model.{Entry, Model}
@@ -313,8 +313,31 @@ module _ (limits : Limits) (model : Model) (w : Inv limits model) where
       is-distinct : namedTwice t ≡ false
       is-distinct = subst (λ (s : Transaction). namedTwice s ≡ false) (own-at .whole) (w .at (r .shard) .core .distinct (t .number) (own-at .entry) (own-at .is-known))
 
+      -- nothing was made under its number before
+      is-free : (p m i : ℕ) (k : Token) → tokenAt (madeHere p t) m i ≡ some k → ih .ledger (record { shard = p; creator = m; index = i }) ≡ none
+      is-free p m i k z = go (caseO (ih .ledger (record { shard = p; creator = m; index = i })))
+        where
+          a : At p t
+          a = at-shard t c p (made-shard p t m i z)
+
+          e : m ≡ t .number
+          e = made-number p t m i z
+
+          passed : isLast (r ∷ newer) t ≡ false
+          passed = not-yes (λ y. last-entry (r ∷ newer) t y r (List·Memᴰ·head refl) refl)
+
+          unmade : madeIn (r ∷ newer) p m i ≡ none
+          unmade =
+              (λ j. orElse (w .at p .core .zero-only m i (λ z. positive-at p t a (sym e ∙ z)) j) (byCommitIn (r ∷ newer) p ((ap (look (known-at p)) e ∙ a .is-known) j) m i))
+              ∙ (λ j. cond (isLast (r ∷ newer) (a .whole j) && committed model (a .whole j)) (gain p (a .whole j) m i) none)
+              ∙ (λ j. cond (passed j && committed model t) (gain p t m i) none)
+
+          go : CaseO (ih .ledger (record { shard = p; creator = m; index = i })) → ih .ledger (record { shard = p; creator = m; index = i }) ≡ none
+          go (is-none y) = y
+          go (is-some v y) = ih .unspent p m i (λ d. some≢none y (ih .spent p m i d)) ∙ unmade
+
       spending : Spends t (ih .ledger)
-      spending = spends t (ih .ledger) is-distinct is-present
+      spending = spends t (ih .ledger) is-distinct is-present is-free
 
       -- what it makes is not taken by a committed transaction of the rest
       no-gain : (p m i : ℕ) → Spent newer p m i → gain p t m i ≡ none
@@ -383,7 +406,7 @@ module _ (limits : Limits) (model : Model) (w : Inv limits model) where
       claim-emit = record {
         ledger = spending .left;
         runs = ap (λ (b : Bool). serialRun (genesisLedger (model .minted)) (cond b (t ∷ serialFrom model (r ∷ newer) older) (serialFrom model (r ∷ newer) older))) (and-intro u c)
-            ∙ ap (spend t) (ih .runs) ∙ spending .is-spent;
+            ∙ ap (andThen (spend t)) (ih .runs) ∙ spending .is-spent;
         spent = spent-new;
         unspent = unspent-new;
       }

@@ -28,3 +28,12 @@ mapOption f (some a) = some (f a)
 abbrev pub passes : {A : Type 0} → (A → Bool) → Option A → Bool
 passes f none = false
 passes f (some a) = f a
+
+-- nothing is there; what is there goes on, and where nothing is there nothing goes on
+abbrev pub isNone : {A : Type 0} → Option A → Bool
+isNone none = true
+isNone (some a) = false
+
+abbrev pub andThen : {A B : Type 0} → (A → Option B) → Option A → Option B
+andThen f none = none
+andThen f (some a) = f a
