@@ -41,6 +41,21 @@ pub record Engine (limits : Limits) : Type 1 where
   pub same-answer : (s s′ : State) (c : Call) (a : Answer) → Sound s → Does s c s′ a → a ≡ clusterStep limits (view s) c .1
   pub same-ledgers : (s s′ : State) (c : Call) (a : Answer) → Sound s → Does s c s′ a → view s′ ≡ clusterStep limits (view s) c .0
 
+-- the ledgers themselves are an engine, so the hypotheses can be met
+pub reference : (limits : Limits) → Engine limits
+reference limits = record {
+  State = List Ledger;
+  view = λ s. s;
+  Sound = λ s. Unit {0};
+  Does = λ s c s′ a. (a ≡ clusterStep limits s c .1) × (s′ ≡ clusterStep limits s c .0);
+  first = emptyShards limits;
+  first-sound = tt;
+  first-empty = refl;
+  keeps = λ s s′ c a g d. tt;
+  same-answer = λ s s′ c a g d. d .0;
+  same-ledgers = λ s s′ c a g d. d .1;
+}
+
 module _ {limits : Limits} (engine : Engine limits) where
   abbrev State : Type 0
   State = engine .State

@@ -15,4 +15,5 @@ pub mod Bridge
 pub mod Votes
 pub mod Capacity
 pub mod Laws
+pub mod Tables
 pub mod Examples
