@@ -2,22 +2,22 @@
 use Prim.Native.Nat.{ℕ, suc}
 use mathlib.Core.Path.{_≡_, refl, ap, sym, _∙_, subst}
 use mathlib.Core.Logic.{_↔_, _≢_}
-use mathlib.Core.Bool.{Bool, true, false}
+use mathlib.Core.Bool.{true}
 use mathlib.Core.List.{List, [], _∷_, _++_, List·Memᴰ}
 use Rattle.transaction.specs.declared.TokenId.{TokenId}
 use Rattle.transaction.specs.declared.Input.{Input}
 use Rattle.transaction.specs.declared.Transaction.{Transaction}
-use Rattle.transaction.specs.Lists.{any, repeats}
+use Rattle.transaction.specs.Lists.{any}
 use Rattle.transaction.specs.Tokens.{usedInputs, shardsOf}
 use Rattle.model.specs.declared.Outcome.{Outcome}
-use Rattle.model.specs.declared.Outcome.the-variants.{Wait, Commit, Abort}
+use Rattle.model.specs.declared.Outcome.the-variants.{Wait, Commit}
 use Rattle.model.specs.declared.Answer.{Answer}
 use Rattle.model.specs.Lists.{mapOption}
 use Rattle.model.specs.Steps.{Limits, Ledger}
 use Rattle.model.specs.Shard.{Call}
 use Rattle.model.specs.Cluster.{emptyShards, ledgerAt, clusterStep}
 use Rattle.model.specs.Model.{Model, emptyModel, step, after, answers, play, playAnswers}
-use Rattle.model.specs.Demand.{outcomeIn, heardAllIn, WasAvailable, commits, committed, SerialLedger, tokenAt, tokenValue, sameSpot, Demand3}
+use Rattle.model.specs.Demand.{outcomeIn, heardAllIn, WasAvailable, commits, committed, tokenAt, tokenValue, Demand3}
 use Rattle.model.proofs.Theorem.{demand-3}
 
 -- the model's step is the cluster's step, with the model's notes

@@ -1,9 +1,9 @@
 -- The known transactions of a shard: looked up by number, entered, and the outcomes that their votes bring.
-use Prim.Native.Nat.{ℕ, zero, suc}
+use Prim.Native.Nat.{ℕ, suc}
 use mathlib.Core.Path.{_≡_, refl, ap, sym, _∙_, subst}
-use mathlib.Core.Bool.{Bool, true, false, cond, _&&_, _||_, not, true≢false, false≢true}
+use mathlib.Core.Bool.{Bool, true, false, cond, _||_, not, false≢true}
 use mathlib.Core.Option.{Option, none, some}
-use mathlib.Core.List.{List, [], _∷_, _++_, List·Memᴰ, List·Memᴰ·head, List·Memᴰ·tail}
+use mathlib.Core.List.{List, [], _∷_, _++_, List·Memᴰ}
 use lib.Dec.{eqb}
 use lib.ListN.{getD, set}
 use Rattle.transaction.specs.declared.Transaction.{Transaction}
@@ -11,12 +11,11 @@ use Rattle.transaction.specs.Lists.{any, all}
 use Rattle.transaction.specs.Tokens.{shardsOf, sameTransaction}
 use Rattle.transaction.proofs.Same.{same-exactly}
 use Rattle.model.specs.declared.Known.{Known}
-use Rattle.model.specs.declared.Outcome.{Outcome}
 use Rattle.model.specs.declared.Outcome.the-variants.{Wait, Commit, Abort}
 use Rattle.model.specs.Lists.{find, lookup}
 use Rattle.model.specs.Steps.{isFor, nothingKnown, placeOf, entryOf, heardFrom, isHeard, isYes, heardAll, allYes, decide, outcomeOf}
 use Rattle.model.specs.Shard.{hasNumber, isOther}
-use Rattle.model.proofs.Basics.{eqb-eq, eqb-same, eqb-yes, eqb-no, eqb-apart, not-yes, not-no, clash, Case, yes-case, no-case, case, both, and-intro, neither, some≢none, some-inj, CaseO, is-some, is-none, caseO, all-at, all-of, all-cong, any-at, any-of, any-none, any-no, find-at}
+use Rattle.model.proofs.Basics.{eqb-eq, eqb-same, eqb-yes, eqb-no, eqb-apart, not-yes, not-no, clash, and-intro, some≢none, some-inj, all-at, all-cong, any-at, any-of, any-none, any-no, find-at}
 use Rattle.model.proofs.Lookups.{lookup-passes, lookup-mem, lookup-no, Alone, alone-lookup}
 
 -- the test of whole-field equality, both ways

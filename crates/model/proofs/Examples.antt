@@ -1,7 +1,7 @@
 -- Document 01's example, and cases of 'Swaps at the edge' about registrations and votes, played through the model: each a fact by computation.
-use Prim.Native.Nat.{ℕ, zero, suc}
+use Prim.Native.Nat.{ℕ}
 use mathlib.Core.Path.{_≡_, refl}
-use mathlib.Core.Bool.{Bool, true, false}
+use mathlib.Core.Bool.{true, false}
 use mathlib.Core.Option.{Option, none, some}
 use mathlib.Core.List.{List, [], _∷_, _++_}
 use lib.ListN.{length, take, replicate}
@@ -13,13 +13,12 @@ use Rattle.transaction.specs.Tokens.{zeroInput, zeroOutput, takesPart, sameToke
 use Rattle.transaction.specs.Checks.{indexFits, valueFits, inputFits, outputFits, countsFit, fieldsFit, sameName, namedTwice, balanced, mintFits}
 use Rattle.model.specs.declared.Token.{Token}
 use Rattle.model.specs.declared.Outcome.the-variants.{Wait, Commit, Abort}
-use Rattle.model.specs.declared.Answer.{Answer}
 use Rattle.model.specs.declared.Answer.the-variants.{Refused, Minted, Registered, Heard, Again}
 use Rattle.model.specs.Lists.{andThen}
-use Rattle.model.specs.Steps.{Limits, house, Ledger, inputsHere, available, availableHere, pledges, vote, newlyKnown, decide, outputsHere, madeHere, commit, afterMint, afterRegister, afterVote, placeOf, entryOf}
+use Rattle.model.specs.Steps.{Limits, house, inputsHere, available, availableHere, pledges, vote, newlyKnown, decide, outputsHere, madeHere, commit, afterMint, afterRegister, afterVote, placeOf, entryOf}
 use Rattle.model.specs.Shard.{Call, mint, register, deliver, reservedBy, reserved, mintRefusals, registerRefusals, deliverForm, deliverRefusals, hear, shardStep}
 use Rattle.model.specs.Cluster.{ledgerAt, gave, notGiven, atShard, clusterStep}
-use Rattle.model.specs.Model.{Entry, logAfter, mintedAfter, step, after, answers, play, playAnswers}
+use Rattle.model.specs.Model.{logAfter, mintedAfter, step, after, answers, play, playAnswers}
 use Rattle.model.specs.Demand.{outcomeIn, committed, serialFrom, serialOrder, Value, genesisLedger, takeInputs, addOutputs, spend, serialRun}
 
 -- ---- Small transactions

@@ -1,10 +1,10 @@
 -- The tokens of a shard: looked up by creator and index, pledged, destroyed and made.
-use Prim.Native.Nat.{ℕ, zero, suc, _+_, _≤_}
+use Prim.Native.Nat.{ℕ, suc, _≤_}
 use native.Mathlib.Omega.{arith}
-use mathlib.Core.Path.{_≡_, refl, ap, sym, _∙_, subst}
-use mathlib.Core.Bool.{Bool, true, false, cond, _&&_, _||_, not, true≢false, false≢true}
+use mathlib.Core.Path.{_≡_, refl, ap, sym, _∙_}
+use mathlib.Core.Bool.{Bool, true, false, cond, _&&_, not}
 use mathlib.Core.Option.{Option, none, some}
-use mathlib.Core.List.{List, [], _∷_, _++_, map, List·Memᴰ, List·Memᴰ·head, List·Memᴰ·tail, Memᴰ·append-left, Memᴰ·append-right, Memᴰ·map, Memᴰ·cast}
+use mathlib.Core.List.{List, [], _∷_, map, List·Memᴰ, List·Memᴰ·head, List·Memᴰ·tail, Memᴰ·append-left, Memᴰ·append-right, Memᴰ·map, Memᴰ·cast}
 use lib.Dec.{eqb}
 use Rattle.transaction.specs.declared.Input.{Input}
 use Rattle.transaction.specs.declared.Output.{Output}
@@ -12,10 +12,10 @@ use Rattle.transaction.specs.declared.Transaction.{Transaction}
 use Rattle.transaction.specs.Lists.{any}
 use Rattle.transaction.specs.Tokens.{usedInputs, usedOutputs, inputShard, outputShard, shardsOf}
 use Rattle.model.specs.declared.Token.{Token}
-use Rattle.model.specs.Lists.{keep, lookup, mapOption}
-use Rattle.model.specs.Steps.{inputHere, inputsHere, names, namedBy, freeFor, available, pledgedTo, pledgeIf, pledges, outputHere, tokenOf, tokensFrom, madeHere, stays, commit}
-use Rattle.model.specs.Demand.{Value, inputValue, tokenValue, hasSpot, tokenAt, sameSpot}
-use Rattle.model.proofs.Basics.{eqb-eq, eqb-same, eqb-yes, eqb-no, eqb-apart, not-yes, clash, Case, yes-case, no-case, case, both, and-intro, orElse, some≢none, some-inj, CaseO, is-some, is-none, caseO, none-of, any-at, any-of, keep-in, keep-out}
+use Rattle.model.specs.Lists.{keep, mapOption}
+use Rattle.model.specs.Steps.{inputHere, inputsHere, names, namedBy, freeFor, available, pledgedTo, pledgeIf, pledges, tokenOf, tokensFrom, madeHere, stays, commit}
+use Rattle.model.specs.Demand.{inputValue, tokenValue, hasSpot, tokenAt, sameSpot}
+use Rattle.model.proofs.Basics.{eqb-eq, eqb-same, eqb-yes, both, and-intro, orElse, some≢none, CaseO, is-some, is-none, caseO, any-at, any-of, keep-in, keep-out}
 use Rattle.model.proofs.Lookups.{lookup-passes, lookup-append, lookup-map, lookup-keep, Alone, alone-append, alone-map, alone-keep, alone-lookup}
 
 -- no two tokens of a shard have one creator and index

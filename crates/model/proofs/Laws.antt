@@ -19,7 +19,7 @@ use Rattle.model.specs.Shard.{Call, mint, register, deliver, shardStep}
 use Rattle.model.specs.Cluster.{ledgerAt, notGiven, atShard, clusterStep}
 use Rattle.model.specs.Model.{Entry, Model, emptyModel, entryFor, step, after, play}
 use Rattle.model.specs.Demand.{committed}
-use Rattle.model.proofs.Basics.{eqb-eq, both}
+use Rattle.model.proofs.Basics.{eqb-eq}
 use Rattle.model.proofs.Lookups.{alone-repeats}
 use Rattle.model.proofs.Entries.{sameNumber}
 use Rattle.model.proofs.Effects.{ShardEffect, shard-refused, shard-minted, shard-registered, shard-heard, shard-again, shard-effect, Effect, did-refuse, did-mint, did-register, did-hear, did-repeat, effect}

@@ -1,12 +1,11 @@
 -- Demand 3, the serial ledger: the committed transactions one by one, by last registration, from the genesis tokens.
 -- The run succeeds in every state; where every committed transaction is decided at all its shards, it ends in what the shards hold.
-use Prim.Native.Nat.{ℕ, zero, suc, _<_}
+use Prim.Native.Nat.{ℕ}
 use mathlib.Core.Path.{_≡_, refl, ap, sym, _∙_, subst}
-use mathlib.Core.Logic.{_↔_, _≢_, _⊎_, inl, inr, ⊎-elim}
-use mathlib.Core.Bool.{Bool, true, false, cond, _&&_, _||_, not, true≢false, false≢true}
+use mathlib.Core.Logic.{_⊎_, inl, inr, ⊎-elim}
+use mathlib.Core.Bool.{Bool, true, false, cond, _&&_, _||_, not}
 use mathlib.Core.Option.{Option, none, some}
-use mathlib.Core.List.{List, [], _∷_, _++_, List·Memᴰ, List·Memᴰ·head, List·Memᴰ·tail}
-use lib.Dec.{eqb}
+use mathlib.Core.List.{List, [], _∷_, List·Memᴰ, List·Memᴰ·head, List·Memᴰ·tail}
 use Rattle.transaction.specs.declared.TokenId.{TokenId}
 use Rattle.transaction.specs.declared.Input.{Input}
 use Rattle.transaction.specs.declared.Transaction.{Transaction}
@@ -17,17 +16,17 @@ use Rattle.model.specs.declared.Token.{Token}
 use Rattle.model.specs.declared.Known.{Known}
 use Rattle.model.specs.declared.Outcome.{Outcome}
 use Rattle.model.specs.declared.Outcome.the-variants.{Wait, Commit, Abort}
-use Rattle.model.specs.Lists.{lookup, mapOption, andThen}
+use Rattle.model.specs.Lists.{mapOption, andThen}
 use Rattle.model.specs.Steps.{Limits, inputsHere, outcomeOf, madeHere}
 use Rattle.model.specs.Cluster.{ledgerAt}
 use Rattle.model.specs.Model.{Entry, Model}
-use Rattle.model.specs.Demand.{outcomeAt, committed, Settled, logsIt, isLast, serialFrom, serialOrder, EachOnce, Value, SerialLedger, inputValue, tokenValue, tokenAt, genesisLedger, spend, serialRun, heldValue, SerialEnd}
-use Rattle.model.proofs.Basics.{eqb-eq, eqb-yes, eqb-apart, not-yes, not-no, both, and-intro, clash, Case, yes-case, no-case, case, orElse, orElse-none, some≢none, some-inj, CaseO, is-some, is-none, caseO, same-some, any-at, any-of}
+use Rattle.model.specs.Demand.{outcomeAt, committed, Settled, logsIt, isLast, serialFrom, Value, SerialLedger, inputValue, tokenValue, tokenAt, genesisLedger, spend, serialRun, heldValue, SerialEnd}
+use Rattle.model.proofs.Basics.{not-yes, both, and-intro, clash, Case, yes-case, no-case, case, orElse, orElse-none, some≢none, some-inj, CaseO, is-some, is-none, caseO, same-some, any-at, any-of}
 use Rattle.model.proofs.Entries.{same-eq, same-true, look, commit≢wait}
 use Rattle.model.proofs.Holdings.{taken, Takes, taken-by, here-shard, in-here, made-number, made-shard}
-use Rattle.model.proofs.Invariant.{Voted, voted-available, Registration, Complete, onCommit, gain, byCommit, made, Consumed, Source, from-genesis, from-commit, Sources, Core, Ok}
-use Rattle.model.proofs.Steps.{Once, Logged, genesisAt, Inv}
-use Rattle.model.proofs.Decisions.{Knows, knows, outcome-of, agree-at, commit-votes, commit-at, committed-of}
+use Rattle.model.proofs.Invariant.{Voted, voted-available, Complete, onCommit, gain, byCommit, made, Consumed, Source, from-genesis, from-commit, Sources}
+use Rattle.model.proofs.Steps.{Once, genesisAt, Inv}
+use Rattle.model.proofs.Decisions.{outcome-of, agree-at, commit-votes, commit-at, committed-of}
 use Rattle.model.proofs.Spending.{Spends, spends}
 
 -- ---- Transactions that no newer entry of the log is of

@@ -1,8 +1,8 @@
 -- One transaction on the serial ledger: where each input is present, it is taken away once, and the outputs are added.
-use Prim.Native.Nat.{ℕ, zero, suc, _≤_}
+use Prim.Native.Nat.{ℕ, suc, _≤_}
 use native.Mathlib.Omega.{arith}
-use mathlib.Core.Path.{_≡_, refl, ap, sym, _∙_, subst}
-use mathlib.Core.Bool.{Bool, true, false, cond, _&&_, _||_, not}
+use mathlib.Core.Path.{_≡_, refl, ap, sym, _∙_}
+use mathlib.Core.Bool.{Bool, true, false, cond, _&&_, _||_}
 use mathlib.Core.Option.{Option, none, some}
 use mathlib.Core.List.{List, [], _∷_, List·Memᴰ, List·Memᴰ·head, List·Memᴰ·tail}
 use lib.Dec.{eqb}
@@ -14,10 +14,10 @@ use Rattle.transaction.specs.Lists.{any, repeats}
 use Rattle.transaction.specs.Tokens.{usedInputs, usedOutputs, sameToken}
 use Rattle.transaction.specs.Checks.{sameName, namedTwice}
 use Rattle.model.specs.declared.Token.{Token}
-use Rattle.model.specs.Lists.{keep, lookup, mapOption, passes, isNone, andThen}
+use Rattle.model.specs.Lists.{mapOption, passes, isNone, andThen}
 use Rattle.model.specs.Steps.{inputHere, inputsHere, outputHere, tokenOf, tokensFrom, madeHere}
-use Rattle.model.specs.Demand.{Value, SerialLedger, inputValue, outputValue, tokenValue, hasSpot, tokenAt, hasValue, present, without, takeInputs, outputId, withToken, addOutputs, spend}
-use Rattle.model.proofs.Basics.{eqb-eq, eqb-same, eqb-yes, eqb-no, eqb-apart, both, neither, and-intro, clash, same-test, orElse, none-of, CaseO, is-some, is-none, caseO, any-none, any-keep}
+use Rattle.model.specs.Demand.{Value, SerialLedger, inputValue, outputValue, tokenValue, tokenAt, hasValue, present, without, takeInputs, outputId, withToken, addOutputs, spend}
+use Rattle.model.proofs.Basics.{eqb-eq, eqb-same, eqb-yes, eqb-no, both, neither, and-intro, clash, same-test, orElse, none-of, CaseO, is-some, is-none, caseO, any-none, any-keep}
 use Rattle.model.proofs.Holdings.{takesSpot, taken, made-from}
 use Rattle.model.proofs.Invariant.{gain}
 

@@ -4,7 +4,6 @@ use native.Mathlib.Omega.{arith}
 use mathlib.Core.Path.{_≡_, refl, ap, sym, _∙_, subst}
 use mathlib.Core.Logic.{_≢_}
 use mathlib.Core.Bool.{Bool, true, false, cond, _&&_, not}
-use mathlib.Core.Option.{none}
 use mathlib.Core.List.{List, [], _∷_, _++_}
 use lib.Dec.{eqb}
 use lib.ListN.{set}
@@ -17,7 +16,7 @@ use Rattle.model.specs.declared.Answer.the-variants.{Refused, Heard, Aga
 use Rattle.model.specs.Steps.{Limits, Ledger, emptyLedger, heardFrom, hearing, outcomeOf, isFor, entryOf, afterVote}
 use Rattle.model.specs.Shard.{Call, deliver, hasNumber, isOther, otherVerdict, deliverForm, deliverRefusals, unless, hear, shardStep}
 use Rattle.model.specs.Cluster.{ledgerAt, gave, notGiven, atShard, clusterStep}
-use Rattle.model.specs.Model.{Model, step, play}
+use Rattle.model.specs.Model.{Model, play}
 use Rattle.model.proofs.Basics.{eqb-yes, eqb-no, eqb-apart, both, and-intro, not-yes, not-no, not-is, clash, isNumber, passed, first-behind}
 use Rattle.model.proofs.Entries.{whole-known, entry-look}
 use Rattle.model.proofs.Invariant.{Voted}

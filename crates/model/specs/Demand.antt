@@ -14,7 +14,6 @@ use Rattle.transaction.specs.declared.Transaction.{Transaction}
 use Rattle.transaction.specs.Lists.{any, repeats}
 use Rattle.transaction.specs.Tokens.{usedInputs, usedOutputs, shardsOf, sameToken, sameTransaction}
 use Rattle.model.specs.declared.Token.{Token}
-use Rattle.model.specs.declared.Known.{Known}
 use Rattle.model.specs.declared.Outcome.{Outcome}
 use Rattle.model.specs.declared.Outcome.the-variants.{Wait, Commit, Abort}
 use Rattle.model.specs.Lists.{lookup, mapOption, passes, isNone, andThen}
