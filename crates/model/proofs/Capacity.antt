@@ -19,13 +19,13 @@ use Rattle.model.specs.declared.Outcome.the-variants.{Wait, Commit, Abor
 use Rattle.model.specs.declared.Answer.{Answer}
 use Rattle.model.specs.Lists.{keep, find}
 use Rattle.model.specs.Steps.{Limits, Ledger, emptyLedger, genesisToken, inputsHere, availableHere, pledges, vote, noted, newlyKnown, heardFrom, hearing, outcomeOf, outputHere, outputsHere, tokenOf, tokensFrom, madeHere, stays, commit, settle, isFor, nothingKnown, placeOf, entryOf, afterMint, afterRegister, afterVote}
-use Rattle.model.specs.Shard.{Call, ifUndecided, reservedBy, reserved}
+use Rattle.model.specs.Shard.{Call, ifUndecided, reservedBy, reserved, shardStep}
 use Rattle.model.specs.Cluster.{ledgerAt}
 use Rattle.model.specs.Model.{Model, emptyModel, step, after, play}
 use Rattle.model.proofs.Basics.{find-at, set-elim, getD-same}
 use Rattle.model.proofs.Entries.{same-eq, whole-known, outcome-heard}
 use Rattle.model.proofs.Refusals.{shard-below, part-in, MintPasses, RegisterPasses, DeliverPasses}
-use Rattle.model.proofs.Effects.{ShardEffect, shard-refused, shard-minted, shard-registered, shard-heard, shard-again, Effect, did-refuse, did-mint, did-register, did-hear, did-repeat, effect}
+use Rattle.model.proofs.Effects.{ShardEffect, shard-refused, shard-minted, shard-registered, shard-heard, shard-again, shard-effect, Effect, did-refuse, did-mint, did-register, did-hear, did-repeat, effect}
 use Rattle.model.proofs.Steps.{Inv, step-next, empty-inv}
 
 -- ---- Lengths and sums
@@ -241,6 +241,10 @@ module _ (limits : Limits) (sized : limits .genesis ≤ limits .tokens) (me : �
   shard-fit call _ (shard-registered h) = register-fit h
   shard-fit call _ (shard-heard h e z) = vote-fit h z
   shard-fit call _ (shard-again h z) = f
+
+-- every call at a lone shard keeps its ledger fit
+pub fit-step : (limits : Limits) → limits .genesis ≤ limits .tokens → (me : ℕ) (ledger : Ledger) → Fit limits me ledger → (call : Call) → Fit limits me (shardStep limits me ledger call .0)
+fit-step limits sized me ledger f call = shard-fit limits sized me ledger f call (shardStep limits me ledger call) (shard-effect limits me ledger call)
 
 -- ---- In a cluster
 

@@ -96,7 +96,7 @@ record Added (n j : ℕ) (ys : List Output) (ledger : SerialLedger) : Type 0 whe
   is-added : addOutputs n j ys ledger ≡ some more
   is-more : (p m i : ℕ) → more (record { shard = p; creator = m; index = i }) ≡ orElse (madeValue n j ys p m i) (ledger (record { shard = p; creator = m; index = i }))
 
--- the first output's id is free, and so are the others once it is added
+-- the first output's id is free
 free-first : (n j : ℕ) (y : Output) (ys : List Output) (ledger : SerialLedger) → Free n j (y ∷ ys) ledger → ledger (outputId n j y) ≡ none
 free-first n j y ys ledger f =
     f (y .shard) n j (tokenOf n j y)
@@ -107,6 +107,7 @@ free-first n j y ys ledger f =
 later-index : (n j p m i : ℕ) (ys : List Output) (k : Token) → tokenAt (tokensFrom p n (suc j) ys) m i ≡ some k → eqb j i ≡ false
 later-index n j p m i ys k e = eqb-no {m = j} {n = i} (λ z. let h : suc j ≤ i = made-from p n (suc j) ys m i e .2 in omega arith)
 
+-- and so are the others once it is added
 free-rest : (n j : ℕ) (y : Output) (ys : List Output) (ledger : SerialLedger) → Free n j (y ∷ ys) ledger → Free n (suc j) ys (withToken ledger (outputId n j y) (outputValue y))
 unfolding sameToken
 free-rest n j y ys ledger f p m i k e =

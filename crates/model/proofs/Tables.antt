@@ -10,14 +10,15 @@ use lib.ListN.{set}
 use lib.Seq.{set-getD}
 use Rattle.transaction.specs.declared.Transaction.{Transaction}
 use Rattle.transaction.specs.Lists.{any, all, firstOf}
+use Rattle.transaction.specs.Checks.{shardFits, indexFits, valueFits, mintFits}
 use Rattle.model.specs.declared.Known.{Known}
 use Rattle.model.specs.declared.Answer.{Answer}
-use Rattle.model.specs.declared.Answer.the-variants.{Refused, Heard, Again}
-use Rattle.model.specs.Steps.{Limits, Ledger, emptyLedger, heardFrom, hearing, outcomeOf, isFor, entryOf, afterVote}
-use Rattle.model.specs.Shard.{Call, deliver, hasNumber, isOther, otherVerdict, deliverForm, deliverRefusals, unless, hear, shardStep}
+use Rattle.model.specs.declared.Answer.the-variants.{Refused, Minted, Registered, Heard, Again}
+use Rattle.model.specs.Steps.{Limits, Ledger, emptyLedger, heardFrom, hearing, outcomeOf, isFor, entryOf, vote, newlyKnown, afterMint, afterRegister, afterVote}
+use Rattle.model.specs.Shard.{Call, mint, register, deliver, mintRefusals, registerRefusals, hasNumber, isOther, otherVerdict, deliverForm, deliverRefusals, unless, hear, shardStep}
 use Rattle.model.specs.Cluster.{ledgerAt, gave, notGiven, atShard, clusterStep}
 use Rattle.model.specs.Model.{Model, play}
-use Rattle.model.proofs.Basics.{eqb-yes, eqb-no, eqb-apart, both, and-intro, not-yes, not-no, not-is, clash, isNumber, passed, first-behind}
+use Rattle.model.proofs.Basics.{eqb-same, eqb-yes, eqb-no, eqb-apart, both, and-intro, not-yes, not-no, not-is, clash, isNumber, passed, first-behind}
 use Rattle.model.proofs.Entries.{whole-known, entry-look}
 use Rattle.model.proofs.Invariant.{Voted}
 use Rattle.model.proofs.Steps.{Inv, play-inv, gave-vote}
@@ -167,3 +168,58 @@ never-twelve limits calls p sender verdict t e = go (notGiven limits shards p se
         let r = twelve-says limits p (ledgerAt limits shards p) sender verdict t (deliver-number limits p (ledgerAt limits shards p) sender verdict t 12 e) in
         let given : gave (ledgerAt limits shards sender) sender verdict t ≡ true = not-no (gave (ledgerAt limits shards sender) sender verdict t) (not-yes (λ n. clash (and-intro (eqb-yes (r .0)) n) g)) in
         no-other-verdict limits (play limits calls) (play-inv limits calls) p sender verdict t (r .1) given (r .2)
+
+-- ---- A record for a shard that does not exist
+
+-- the shard that a call is addressed to
+abbrev pub receiverOf : Call → ℕ
+receiverOf (mint receiver index owner amount) = receiver
+receiverOf (register receiver t) = receiver
+receiverOf (deliver receiver sender verdict t) = receiver
+
+-- the first two tests of a table, where the second is met
+three-first : (r n : ℕ) (c : Bool) (rest : ℕ) → c ≡ true → cond (not (eqb r r)) n (cond c n rest) ≡ n
+three-first r n c rest h = λ i. cond (not (eqb-same r i)) n (cond (h i) n rest)
+
+-- the table of a genesis token for it says 3
+mint-three : (limits : Limits) (p : ℕ) (ledger : Ledger) (index owner amount : ℕ) → shardFits p ≡ false → firstOf (mintRefusals limits p ledger p index owner amount) ≡ 3
+unfolding mintRefusals mintFits
+mint-three limits p ledger index owner amount h =
+    three-first p 3 (not (shardFits p && indexFits (limits .genesis) 0 index && valueFits owner amount)) _ (λ i. not (h i && indexFits (limits .genesis) 0 index && valueFits owner amount))
+
+-- and so does that of a registration
+register-three : (limits : Limits) (p : ℕ) (ledger : Ledger) (t : Transaction) → shardFits p ≡ false → firstOf (registerRefusals limits p ledger p t) ≡ 3
+unfolding registerRefusals
+register-three limits p ledger t h = three-first p 3 (not (shardFits p)) _ (ap not h)
+
+-- and that of a vote, among 3 to 6
+form-three : (limits : Limits) (p sender verdict : ℕ) (t : Transaction) → shardFits p ≡ false → firstOf (deliverForm limits p p sender verdict t) ≡ 3
+unfolding deliverForm
+form-three limits p sender verdict t h = three-first p 3 (not (shardFits p)) _ (ap not h)
+
+-- and in the whole
+deliver-three : (limits : Limits) (p : ℕ) (ledger : Ledger) (sender verdict : ℕ) (t : Transaction) → shardFits p ≡ false → firstOf (deliverRefusals limits p ledger p sender verdict t) ≡ 3
+unfolding deliverRefusals deliverForm
+deliver-three limits p ledger sender verdict t h = three-first p 3 (not (shardFits p)) _ (ap not h)
+
+-- the receiving shard's refusal is the cluster's
+refused-at : (limits : Limits) (shards : List Ledger) (p : ℕ) (call : Call) (n : ℕ) → shardStep limits p (ledgerAt limits shards p) call ≡ (ledgerAt limits shards p, Refused n)
+    → atShard limits shards p call ≡ (shards, Refused n)
+unfolding atShard
+refused-at limits shards p call n e =
+    (λ i. (set shards p (e i .0), e i .1)) ∙ (λ i. (set-getD shards p (emptyLedger limits) i, Refused n))
+
+-- a call to a shard that does not exist is refused with 3
+pub no-such-shard : (limits : Limits) (shards : List Ledger) (call : Call) → shardFits (receiverOf call) ≡ false → clusterStep limits shards call ≡ (shards, Refused 3)
+unfolding clusterStep shardStep notGiven
+no-such-shard limits shards (mint p index owner amount) h =
+    refused-at limits shards p (mint p index owner amount) 3
+    (ap (λ (n : ℕ). unless n (ledgerAt limits shards p) (afterMint (ledgerAt limits shards p) index owner amount, Minted)) (mint-three limits p (ledgerAt limits shards p) index owner amount h))
+no-such-shard limits shards (register p t) h =
+    refused-at limits shards p (register p t) 3
+    (ap (λ (n : ℕ). unless n (ledgerAt limits shards p) (afterRegister p (ledgerAt limits shards p) t, Registered (vote p (ledgerAt limits shards p .tokens) t) (outcomeOf (newlyKnown p (ledgerAt limits shards p .tokens) t))))
+    (register-three limits p (ledgerAt limits shards p) t h))
+no-such-shard limits shards (deliver p sender verdict t) h =
+    ap (λ (n : ℕ). cond (eqb n 0 && not (gave (ledgerAt limits shards sender) sender verdict t)) (shards, Refused 16) (atShard limits shards p (deliver p sender verdict t))) (form-three limits p sender verdict t h)
+    ∙ refused-at limits shards p (deliver p sender verdict t) 3
+    (ap (λ (n : ℕ). unless n (ledgerAt limits shards p) (hear p (ledgerAt limits shards p) sender verdict t)) (deliver-three limits p (ledgerAt limits shards p) sender verdict t h))
