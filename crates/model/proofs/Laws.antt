@@ -1,11 +1,11 @@
 -- Further laws, each in one line: what a refused call and a repeat leave, tokens found available once, and amounts that balance.
-use Prim.Native.Nat.{ℕ, suc}
+use Prim.Native.Nat.{ℕ, suc, _+_}
 use native.Mathlib.Omega.{arith}
 use mathlib.Core.Path.{_≡_, refl, ap, sym, _∙_}
 use mathlib.Core.Logic.{_≢_}
 use mathlib.Core.Bool.{Bool, true, false, cond, true≢false}
-use mathlib.Core.List.{List, [], _∷_, List·Memᴰ, List·Memᴰ·head, List·Memᴰ·tail}
-use lib.ListN.{set}
+use mathlib.Core.List.{List, _++_, [], _∷_, List·Memᴰ, List·Memᴰ·head, List·Memᴰ·tail}
+use lib.ListN.{length, set}
 use lib.Seq.{set-getD}
 use Rattle.transaction.specs.declared.Input.{Input}
 use Rattle.transaction.specs.declared.Transaction.{Transaction}
@@ -17,7 +17,7 @@ use Rattle.model.specs.declared.Answer.the-variants.{Refused, Minted, Re
 use Rattle.model.specs.Steps.{Limits, Ledger, emptyLedger}
 use Rattle.model.specs.Shard.{Call, mint, register, deliver, shardStep}
 use Rattle.model.specs.Cluster.{ledgerAt, notGiven, atShard, clusterStep}
-use Rattle.model.specs.Model.{Entry, Model, emptyModel, entryFor, step, after, play}
+use Rattle.model.specs.Model.{Entry, Model, emptyModel, entryFor, step, after, answers, play}
 use Rattle.model.specs.Demand.{committed}
 use Rattle.model.proofs.Basics.{eqb-eq}
 use Rattle.model.proofs.Lookups.{alone-repeats}
@@ -25,6 +25,9 @@ use Rattle.model.proofs.Entries.{sameNumber}
 use Rattle.model.proofs.Effects.{ShardEffect, shard-refused, shard-minted, shard-registered, shard-heard, shard-again, shard-effect, Effect, did-refuse, did-mint, did-register, did-hear, did-repeat, effect}
 use Rattle.model.proofs.Steps.{play-inv}
 use Rattle.model.proofs.Order.{committed-logged}
+use Rattle.model.proofs.Holdings.{here-shard, in-here}
+use Rattle.model.proofs.Invariant.{Voted, voted-available}
+use Rattle.model.proofs.Decisions.{commit-at, commit-votes}
 
 -- ---- What changes nothing
 
@@ -100,6 +103,20 @@ available-once limits calls a b x y ma mb s mx my e =
     ap (λ (r : Entry). r .transaction)
     (play-inv limits calls .logged .disjoint a b ma mb s x y mx my (λ i. e i .creator) (λ i. e i .index))
 
+-- two distinct committed transactions never name one token: a token is destroyed once
+pub spent-once : (limits : Limits) (calls : List Call) (t s : Transaction) (x y : Input) → committed (play limits calls) t ≡ true → committed (play limits calls) s ≡ true
+    → List·Memᴰ x (usedInputs t) → List·Memᴰ y (usedInputs s) → x .token ≡ y .token → t ≡ s
+spent-once limits calls t s x y ct cs mx my e =
+    let model : Model = play limits calls in
+    let w = play-inv limits calls in
+    let a = commit-at limits model w t ct in
+    let b = commit-at limits model w s cs in
+    let v = commit-votes limits model w (a .0) t (a .1) (x .token .shard) (here-shard (x .token .shard) t x (in-here t x mx) .2) in
+    let u = commit-votes limits model w (b .0) s (b .1) (y .token .shard) (here-shard (y .token .shard) s y (in-here s y my) .2) in
+    sym (v .of)
+    ∙ available-once limits calls (v .entry) (u .entry) x y (v .logged) (u .logged) (v .at ∙ (λ i. e i .shard) ∙ sym (u .at)) (voted-available v x (in-here t x mx)) (voted-available u y (in-here s y my)) e
+    ∙ u .of
+
 -- no shard knows two transactions of one number
 pub one-number : (limits : Limits) (calls : List Call) (p : ℕ) → repeats sameNumber (ledgerAt limits (play limits calls .shards) p .known) ≡ false
 one-number limits calls p = alone-repeats sameNumber (ledgerAt limits (play limits calls .shards) p .known) (play-inv limits calls .at p .core .one-each)
@@ -135,3 +152,24 @@ committed-balance limits calls t c =
     let r = committed-logged limits (play limits calls) (play-inv limits calls) t c in
     let b : balanced t ≡ true = ap balanced (sym (r .2)) ∙ balanced-after limits 1 (emptyModel limits) (λ e m. elim m [ ]) calls (r .0) (r .1) in
     eqb-eq (total inputAmount (usedInputs t)) (total outputAmount (usedOutputs t)) b
+
+-- ---- Lists of calls one behind the other
+
+-- the model after both
+pub after-append : (limits : Limits) (place : ℕ) (model : Model) (calls more : List Call)
+    → after limits place model (calls ++ more) ≡ after limits (length calls + place) (after limits place model calls) more
+unfolding after
+after-append limits place model [] more = ap (λ (n : ℕ). after limits n model more) (omega arith)
+after-append limits place model (call ∷ calls) more =
+    after-append limits (suc place) (step limits place model call .0) calls more
+    ∙ ap (λ (n : ℕ). after limits n (after limits (suc place) (step limits place model call .0) calls) more) (omega arith)
+
+-- and their answers
+pub answers-append : (limits : Limits) (place : ℕ) (model : Model) (calls more : List Call)
+    → answers limits place model (calls ++ more) ≡ answers limits place model calls ++ answers limits (length calls + place) (after limits place model calls) more
+unfolding after answers
+answers-append limits place model [] more = ap (λ (n : ℕ). answers limits n model more) (omega arith)
+answers-append limits place model (call ∷ calls) more =
+    ap (λ (l : List Answer). step limits place model call .1 ∷ l)
+    (answers-append limits (suc place) (step limits place model call .0) calls more
+    ∙ ap (λ (n : ℕ). answers limits (suc place) (step limits place model call .0) calls ++ answers limits n (after limits (suc place) (step limits place model call .0) calls) more) (omega arith))
