@@ -283,12 +283,15 @@ module _ (limits : Limits) (model : Model) (w : Inv limits model) where
 
     -- the last entry of a committed transaction
     module _ (u : isLast newer (r .transaction) ≡ true) (c : committed model (r .transaction) ≡ true) where
+      -- its transaction
       abbrev t : Transaction
       t = r .transaction
 
+      -- the shard of this entry takes part
       own-member : List·Memᴰ (r .shard) (shardsOf t)
       own-member = w .logged .member r (sp .rest-in r (List·Memᴰ·head refl))
 
+      -- and knows it
       own-at : At (r .shard) t
       own-at = at-entry r (sp .rest-in r (List·Memᴰ·head refl)) (r .shard) refl t refl
 
@@ -303,12 +306,14 @@ module _ (limits : Limits) (model : Model) (w : Inv limits model) where
           (voted-available v₁ x m) (voted-available v₂ (y .input) (y .is-here)) (sym (y .is-creator)) (sym (y .is-index)) in
           last-entry (r ∷ newer) (d .transaction) (d .is-last) r (List·Memᴰ·head refl) (sym (v₁ .of) ∙ ap (λ (e : Entry). e .transaction) same-entry ∙ v₂ .of)
 
+      -- each input is present
       is-present : (x : Input) → List·Memᴰ x (usedInputs t) → ih .ledger (x .token) ≡ some (inputValue x)
       is-present x m =
           let q : ℕ = x .token .shard in
           ih .unspent q (x .token .creator) (x .token .index) (spent-not q x (in-here t x m))
           ∙ source-made-in q x (rest-source q t c u x (in-here t x m))
 
+      -- no token is named twice
       is-distinct : namedTwice t ≡ false
       is-distinct = subst (λ (s : Transaction). namedTwice s ≡ false) (own-at .whole) (w .at (r .shard) .core .distinct (t .number) (own-at .entry) (own-at .is-known))
 
@@ -335,6 +340,7 @@ module _ (limits : Limits) (model : Model) (w : Inv limits model) where
           go (is-none y) = y
           go (is-some v y) = ih .unspent p m i (λ d. some≢none y (ih .spent p m i d)) ∙ unmade
 
+      -- so it is carried out
       spending : Spends t (ih .ledger)
       spending = spends t (ih .ledger) is-distinct is-present is-free
 
@@ -358,6 +364,7 @@ module _ (limits : Limits) (model : Model) (w : Inv limits model) where
           go (is-some h z) =
               absurd (bad (at-shard t c p (made-shard p t m i z)) (made-number p t m i z) (rest-source p (d .transaction) (d .is-committed) (d .is-last) (y .input) (y .is-here)))
 
+      -- what it and the older ones take is gone
       spent-new : (p m i : ℕ) → Spent newer p m i → spending .left (record { shard = p; creator = m; index = i }) ≡ none
       spent-new p m i d =
           spending .is-left p m i
@@ -374,6 +381,7 @@ module _ (limits : Limits) (model : Model) (w : Inv limits model) where
               ∙ ih .spent p m i (record { transaction = d .transaction; is-committed = d .is-committed; is-taken = d .is-taken; is-last = z })
           go (no-case z) (no-case y) = clash (subst (λ (s : Transaction). taken p s m i ≡ true) (sym (late r newer (d .transaction) (d .is-last) z)) (d .is-taken)) y
 
+      -- and what they make and do not take is there
       unspent-new : (p m i : ℕ) → (Spent newer p m i → ⊥) → spending .left (record { shard = p; creator = m; index = i }) ≡ madeIn newer p m i
       unspent-new p m i h =
           spending .is-left p m i
@@ -400,6 +408,7 @@ module _ (limits : Limits) (model : Model) (w : Inv limits model) where
               ap (λ (o : Option Value). orElse o (madeIn (r ∷ newer) p m i)) g
               ∙ made-shift p m i (λ k e y a l. ap (λ (s : Transaction). gain p s m i) (sym (late r newer (k .transaction) a l)) ∙ g)
 
+      -- the run with it
       claim-emit : Claim newer (r ∷ older)
       unfolding serialFrom serialRun
       claim-emit = record {
