@@ -6,6 +6,7 @@ use mathlib.Core.Bool.{Bool, true, false, cond, _&&_, not}
 use mathlib.Core.Option.{Option, none, some}
 use mathlib.Core.List.{List, [], _∷_, map, List·Memᴰ, List·Memᴰ·head, List·Memᴰ·tail, Memᴰ·append-left, Memᴰ·append-right, Memᴰ·map, Memᴰ·cast}
 use lib.Dec.{eqb}
+use Rattle.transaction.specs.declared.TokenId.{TokenId}
 use Rattle.transaction.specs.declared.Input.{Input}
 use Rattle.transaction.specs.declared.Output.{Output}
 use Rattle.transaction.specs.declared.Transaction.{Transaction}
@@ -17,6 +18,10 @@ use Rattle.model.specs.Steps.{inputHere, inputsHere, names, namedBy, fre
 use Rattle.model.specs.Demand.{inputValue, tokenValue, hasSpot, tokenAt, sameSpot}
 use Rattle.model.proofs.Basics.{eqb-eq, eqb-same, eqb-yes, both, and-intro, orElse, some≢none, CaseO, is-some, is-none, caseO, any-at, any-of, keep-in, keep-out}
 use Rattle.model.proofs.Lookups.{lookup-passes, lookup-append, lookup-map, lookup-keep, Alone, alone-append, alone-map, alone-keep, alone-lookup}
+
+-- the id of a token of shard p
+abbrev pub idOf : ℕ → ℕ → ℕ → TokenId
+idOf p m i = record { shard = p; creator = m; index = i }
 
 -- no two tokens of a shard have one creator and index
 abbrev pub NoTwice : List Token → Type 0

@@ -26,7 +26,7 @@ use Rattle.model.proofs.Effects.{ShardEffect, shard-refused, shard-mint
 use Rattle.model.proofs.Steps.{play-inv}
 use Rattle.model.proofs.Order.{committed-logged}
 use Rattle.model.proofs.Holdings.{here-shard, in-here}
-use Rattle.model.proofs.Invariant.{Voted, voted-available}
+use Rattle.model.proofs.Invariant.{voted-available}
 use Rattle.model.proofs.Decisions.{commit-at, commit-votes}
 
 -- ---- What changes nothing

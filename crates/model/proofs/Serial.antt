@@ -23,7 +23,7 @@ use Rattle.model.specs.Model.{Entry, Model}
 use Rattle.model.specs.Demand.{outcomeAt, committed, Settled, logsIt, isLast, serialFrom, Value, SerialLedger, inputValue, tokenValue, tokenAt, genesisLedger, spend, serialRun, heldValue, SerialEnd}
 use Rattle.model.proofs.Basics.{not-yes, both, and-intro, clash, Case, yes-case, no-case, case, orElse, orElse-none, some≢none, some-inj, CaseO, is-some, is-none, caseO, same-some, any-at, any-of}
 use Rattle.model.proofs.Entries.{same-eq, same-true, look, commit≢wait}
-use Rattle.model.proofs.Holdings.{taken, Takes, taken-by, here-shard, in-here, made-number, made-shard}
+use Rattle.model.proofs.Holdings.{idOf, taken, Takes, taken-by, here-shard, in-here, made-number, made-shard}
 use Rattle.model.proofs.Invariant.{Voted, voted-available, Complete, onCommit, gain, byCommit, made, Consumed, Source, from-genesis, from-commit, Sources}
 use Rattle.model.proofs.Steps.{Once, genesisAt, Inv}
 use Rattle.model.proofs.Decisions.{outcome-of, agree-at, commit-votes, commit-at, committed-of}
@@ -167,8 +167,8 @@ module _ (limits : Limits) (model : Model) (w : Inv limits model) where
   record Claim (newer rest : List Entry) : Type 0 where
     ledger : SerialLedger
     runs : serialRun (genesisLedger (model .minted)) (serialFrom model newer rest) ≡ some ledger
-    spent : (p m i : ℕ) → Spent newer p m i → ledger (record { shard = p; creator = m; index = i }) ≡ none
-    unspent : (p m i : ℕ) → (Spent newer p m i → ⊥) → ledger (record { shard = p; creator = m; index = i }) ≡ madeIn newer p m i
+    spent : (p m i : ℕ) → Spent newer p m i → ledger (idOf p m i) ≡ none
+    unspent : (p m i : ℕ) → (Spent newer p m i → ⊥) → ledger (idOf p m i) ≡ madeIn newer p m i
 
   -- where nothing is left in the rest: the genesis tokens
   claim-start : (newer : List Entry) → Split newer [] → Claim newer []
@@ -318,8 +318,8 @@ module _ (limits : Limits) (model : Model) (w : Inv limits model) where
       is-distinct = subst (λ (s : Transaction). namedTwice s ≡ false) (own-at .whole) (w .at (r .shard) .core .distinct (t .number) (own-at .entry) (own-at .is-known))
 
       -- nothing was made under its number before
-      is-free : (p m i : ℕ) (k : Token) → tokenAt (madeHere p t) m i ≡ some k → ih .ledger (record { shard = p; creator = m; index = i }) ≡ none
-      is-free p m i k z = go (caseO (ih .ledger (record { shard = p; creator = m; index = i })))
+      is-free : (p m i : ℕ) (k : Token) → tokenAt (madeHere p t) m i ≡ some k → ih .ledger (idOf p m i) ≡ none
+      is-free p m i k z = go (caseO (ih .ledger (idOf p m i)))
         where
           a : At p t
           a = at-shard t c p (made-shard p t m i z)
@@ -336,7 +336,7 @@ module _ (limits : Limits) (model : Model) (w : Inv limits model) where
               ∙ (λ j. cond (isLast (r ∷ newer) (a .whole j) && committed model (a .whole j)) (gain p (a .whole j) m i) none)
               ∙ (λ j. cond (passed j && committed model t) (gain p t m i) none)
 
-          go : CaseO (ih .ledger (record { shard = p; creator = m; index = i })) → ih .ledger (record { shard = p; creator = m; index = i }) ≡ none
+          go : CaseO (ih .ledger (idOf p m i)) → ih .ledger (idOf p m i) ≡ none
           go (is-none y) = y
           go (is-some v y) = ih .unspent p m i (λ d. some≢none y (ih .spent p m i d)) ∙ unmade
 
@@ -365,14 +365,14 @@ module _ (limits : Limits) (model : Model) (w : Inv limits model) where
               absurd (bad (at-shard t c p (made-shard p t m i z)) (made-number p t m i z) (rest-source p (d .transaction) (d .is-committed) (d .is-last) (y .input) (y .is-here)))
 
       -- what it and the older ones take is gone
-      spent-new : (p m i : ℕ) → Spent newer p m i → spending .left (record { shard = p; creator = m; index = i }) ≡ none
+      spent-new : (p m i : ℕ) → Spent newer p m i → spending .left (idOf p m i) ≡ none
       spent-new p m i d =
           spending .is-left p m i
-          ∙ ap (λ (o : Option Value). orElse o (cond (taken p t m i) none (ih .ledger (record { shard = p; creator = m; index = i })))) (no-gain p m i d)
+          ∙ ap (λ (o : Option Value). orElse o (cond (taken p t m i) none (ih .ledger (idOf p m i)))) (no-gain p m i d)
           ∙ go (case (isLast (r ∷ newer) (d .transaction))) (case (taken p t m i))
         where
           old : Option Value
-          old = ih .ledger (record { shard = p; creator = m; index = i })
+          old = ih .ledger (idOf p m i)
 
           go : Case (isLast (r ∷ newer) (d .transaction)) → Case (taken p t m i) → cond (taken p t m i) none old ≡ none
           go z (yes-case y) = ap (λ (c : Bool). cond c none old) y
@@ -382,10 +382,10 @@ module _ (limits : Limits) (model : Model) (w : Inv limits model) where
           go (no-case z) (no-case y) = clash (subst (λ (s : Transaction). taken p s m i ≡ true) (sym (late r newer (d .transaction) (d .is-last) z)) (d .is-taken)) y
 
       -- and what they make and do not take is there
-      unspent-new : (p m i : ℕ) → (Spent newer p m i → ⊥) → spending .left (record { shard = p; creator = m; index = i }) ≡ madeIn newer p m i
+      unspent-new : (p m i : ℕ) → (Spent newer p m i → ⊥) → spending .left (idOf p m i) ≡ madeIn newer p m i
       unspent-new p m i h =
           spending .is-left p m i
-          ∙ (λ j. orElse (gain p t m i) (cond (untaken j) none (ih .ledger (record { shard = p; creator = m; index = i }))))
+          ∙ (λ j. orElse (gain p t m i) (cond (untaken j) none (ih .ledger (idOf p m i))))
           ∙ ap (λ (o : Option Value). orElse (gain p t m i) o) (ih .unspent p m i (λ d. h (spent-tail p m i d)))
           ∙ go (caseO (tokenAt (madeHere p t) m i))
         where

@@ -18,7 +18,7 @@ use Rattle.model.specs.Lists.{mapOption, passes, isNone, andThen}
 use Rattle.model.specs.Steps.{inputHere, inputsHere, outputHere, tokenOf, tokensFrom, madeHere}
 use Rattle.model.specs.Demand.{Value, SerialLedger, inputValue, outputValue, tokenValue, tokenAt, hasValue, present, without, takeInputs, outputId, withToken, addOutputs, spend}
 use Rattle.model.proofs.Basics.{eqb-eq, eqb-same, eqb-yes, eqb-no, both, neither, and-intro, clash, same-test, orElse, none-of, CaseO, is-some, is-none, caseO, any-none, any-keep}
-use Rattle.model.proofs.Holdings.{takesSpot, taken, made-from}
+use Rattle.model.proofs.Holdings.{idOf, takesSpot, taken, made-from}
 use Rattle.model.proofs.Invariant.{gain}
 
 -- ---- Taking the inputs
@@ -60,7 +60,7 @@ any-cong f g h [] = refl
 any-cong f g h (x ∷ l) = λ i. h x i || any-cong f g h l i
 
 -- an id, by its shard and by creator and index
-names-spot : (p m i : ℕ) (x : Input) → sameToken (x .token) (record { shard = p; creator = m; index = i }) ≡ inputHere p x && takesSpot m i x
+names-spot : (p m i : ℕ) (x : Input) → sameToken (x .token) (idOf p m i) ≡ inputHere p x && takesSpot m i x
 unfolding sameToken
 names-spot p m i x =
     same-test (eqb (x .token .shard) p && eqb (x .token .creator) m && eqb (x .token .index) i) (eqb (x .token .shard) p && (eqb m (x .token .creator) && eqb i (x .token .index)))
@@ -74,10 +74,10 @@ names-spot p m i x =
     and-intro (and-intro (a .0) (eqb-yes (sym (eqb-eq m (x .token .creator) (b .0))))) (eqb-yes (sym (eqb-eq i (x .token .index) (b .1)))))
 
 -- an id is named exactly if it is taken at its shard
-named-taken : (t : Transaction) (p m i : ℕ) → any (namesIt (record { shard = p; creator = m; index = i })) (usedInputs t) ≡ taken p t m i
+named-taken : (t : Transaction) (p m i : ℕ) → any (namesIt (idOf p m i)) (usedInputs t) ≡ taken p t m i
 unfolding taken inputsHere
 named-taken t p m i =
-    any-cong (namesIt (record { shard = p; creator = m; index = i })) (λ x. inputHere p x && takesSpot m i x) (names-spot p m i) (usedInputs t)
+    any-cong (namesIt (idOf p m i)) (λ x. inputHere p x && takesSpot m i x) (names-spot p m i) (usedInputs t)
     ∙ sym (any-keep (takesSpot m i) (inputHere p) (usedInputs t))
 
 -- ---- Adding the outputs
@@ -88,13 +88,13 @@ madeValue n j ys p m i = mapOption tokenValue (tokenAt (tokensFrom p n j ys) m i
 
 -- no id that the outputs make is there
 abbrev Free : ℕ → ℕ → List Output → SerialLedger → Type 0
-Free n j ys ledger = (p m i : ℕ) (k : Token) → tokenAt (tokensFrom p n j ys) m i ≡ some k → ledger (record { shard = p; creator = m; index = i }) ≡ none
+Free n j ys ledger = (p m i : ℕ) (k : Token) → tokenAt (tokensFrom p n j ys) m i ≡ some k → ledger (idOf p m i) ≡ none
 
 -- the ledger with the outputs added
 record Added (n j : ℕ) (ys : List Output) (ledger : SerialLedger) : Type 0 where
   more : SerialLedger
   is-added : addOutputs n j ys ledger ≡ some more
-  is-more : (p m i : ℕ) → more (record { shard = p; creator = m; index = i }) ≡ orElse (madeValue n j ys p m i) (ledger (record { shard = p; creator = m; index = i }))
+  is-more : (p m i : ℕ) → more (idOf p m i) ≡ orElse (madeValue n j ys p m i) (ledger (idOf p m i))
 
 -- the first output's id is free
 free-first : (n j : ℕ) (y : Output) (ys : List Output) (ledger : SerialLedger) → Free n j (y ∷ ys) ledger → ledger (outputId n j y) ≡ none
@@ -112,8 +112,8 @@ free-rest : (n j : ℕ) (y : Output) (ys : List Output) (ledger : SerialLedger) 
 unfolding sameToken
 free-rest n j y ys ledger f p m i k e =
     let apart : eqb j i ≡ false = later-index n j p m i ys k e in
-    ap (λ (b : Bool). cond (eqb (y .shard) p && eqb n m && b) (some (outputValue y)) (ledger (record { shard = p; creator = m; index = i }))) apart
-    ∙ ap (λ (b : Bool). cond b (some (outputValue y)) (ledger (record { shard = p; creator = m; index = i }))) (and-no (eqb (y .shard) p && eqb n m))
+    ap (λ (b : Bool). cond (eqb (y .shard) p && eqb n m && b) (some (outputValue y)) (ledger (idOf p m i))) apart
+    ∙ ap (λ (b : Bool). cond b (some (outputValue y)) (ledger (idOf p m i))) (and-no (eqb (y .shard) p && eqb n m))
     ∙ f p m i k (behind (outputHere p y) apart)
   where
     and-no : (b : Bool) → b && false ≡ false
@@ -126,13 +126,13 @@ free-rest n j y ys ledger f p m i k e =
 
 -- one output's token beside those of the later ones
 one-more : (n j : ℕ) (y : Output) (ys : List Output) (ledger : SerialLedger) (p m i : ℕ)
-    → orElse (madeValue n (suc j) ys p m i) (withToken ledger (outputId n j y) (outputValue y) (record { shard = p; creator = m; index = i }))
-    ≡ orElse (madeValue n j (y ∷ ys) p m i) (ledger (record { shard = p; creator = m; index = i }))
+    → orElse (madeValue n (suc j) ys p m i) (withToken ledger (outputId n j y) (outputValue y) (idOf p m i))
+    ≡ orElse (madeValue n j (y ∷ ys) p m i) (ledger (idOf p m i))
 unfolding sameToken
 one-more n j y ys ledger p m i = go (eqb (y .shard) p) (eqb n m) (eqb j i) refl refl
   where
     old : Option Value
-    old = ledger (record { shard = p; creator = m; index = i })
+    old = ledger (idOf p m i)
 
     rest : Option Token
     rest = tokenAt (tokensFrom p n (suc j) ys) m i
@@ -171,21 +171,21 @@ add-all n j (y ∷ ys) ledger f =
 pub record Spends (t : Transaction) (ledger : SerialLedger) : Type 0 where
   pub left : SerialLedger
   pub is-spent : spend t ledger ≡ some left
-  pub is-left : (p m i : ℕ) → left (record { shard = p; creator = m; index = i }) ≡ orElse (gain p t m i) (cond (taken p t m i) none (ledger (record { shard = p; creator = m; index = i })))
+  pub is-left : (p m i : ℕ) → left (idOf p m i) ≡ orElse (gain p t m i) (cond (taken p t m i) none (ledger (idOf p m i)))
 
 -- a transaction whose distinct inputs are present, and whose outputs have free ids, is carried out
 pub spends : (t : Transaction) (ledger : SerialLedger) → namedTwice t ≡ false → ((x : Input) → List·Memᴰ x (usedInputs t) → ledger (x .token) ≡ some (inputValue x))
-    → ((p m i : ℕ) (k : Token) → tokenAt (madeHere p t) m i ≡ some k → ledger (record { shard = p; creator = m; index = i }) ≡ none) → Spends t ledger
+    → ((p m i : ℕ) (k : Token) → tokenAt (madeHere p t) m i ≡ some k → ledger (idOf p m i) ≡ none) → Spends t ledger
 unfolding spend namedTwice madeHere
 spends t ledger d h free =
     let r = take-all (usedInputs t) ledger d h in
     let s = add-all (t .number) 0 (usedOutputs t) (r .left) (λ p m i k e.
-    r .is-left (record { shard = p; creator = m; index = i }) ∙ none-of (any (namesIt (record { shard = p; creator = m; index = i })) (usedInputs t)) (ledger (record { shard = p; creator = m; index = i })) (free p m i k e)) in
+    r .is-left (idOf p m i) ∙ none-of (any (namesIt (idOf p m i)) (usedInputs t)) (ledger (idOf p m i)) (free p m i k e)) in
     record {
       left = s .more;
       is-spent = ap (andThen (addOutputs (t .number) 0 (usedOutputs t))) (r .is-taken) ∙ s .is-added;
       is-left = λ p m i.
           s .is-more p m i
-          ∙ ap (λ (o : Option Value). orElse (gain p t m i) o) (r .is-left (record { shard = p; creator = m; index = i })
-          ∙ ap (λ (c : Bool). cond c none (ledger (record { shard = p; creator = m; index = i }))) (named-taken t p m i));
+          ∙ ap (λ (o : Option Value). orElse (gain p t m i) o) (r .is-left (idOf p m i)
+          ∙ ap (λ (c : Bool). cond c none (ledger (idOf p m i))) (named-taken t p m i));
     }

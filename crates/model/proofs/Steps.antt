@@ -27,7 +27,7 @@ use Rattle.model.specs.Demand.{Value, inputValue, tokenValue, hasSpot, t
 use Rattle.model.proofs.Basics.{eqb-eq, eqb-same, eqb-no, eqb-apart, not-yes, Case, yes-case, no-case, case, both, orElse, orElse-none, isSome, some≢none, some-inj, CaseO, is-some, is-none, caseO, map-or, all-at, all-of, any-at, keep-in, keep-out, set-elim, getD-same}
 use Rattle.model.proofs.Lookups.{lookup-append, alone-append}
 use Rattle.model.proofs.Entries.{same-eq, look, mem-look, put, look-put-same, look-put-other, append-put, set-put, number-unknown, whole-known, entry-look, outcome-yes}
-use Rattle.model.proofs.Holdings.{tok-name, mem-tok, available-token, tok-pledges, value-pledged, pledge-stays, pledge-set, no-twice-pledges}
+use Rattle.model.proofs.Holdings.{idOf, tok-name, mem-tok, available-token, tok-pledges, value-pledged, pledge-stays, pledge-set, no-twice-pledges}
 use Rattle.model.proofs.Invariant.{Voted, voted-more, onCommit, gain, byCommit, made, Consumed, Pledged, Source, from-genesis, from-commit, Sources, Core, Ok, unmade, held-made, Enters, core-enter, bound-enter, bound-more, no-twice-enter}
 use Rattle.model.proofs.Refusals.{shard-below, number-positive, part-in}
 use Rattle.model.proofs.Effects.{Effect, did-refuse, did-mint, did-register, did-hear, did-repeat, effect}
@@ -53,7 +53,7 @@ pub record Logged (log : List Entry) : Type 0 where
 
 -- the value of a shard's genesis token, by creator and index
 abbrev pub genesisAt : List Genesis → ℕ → ℕ → ℕ → Option Value
-genesisAt minted p m i = genesisLedger minted (record { shard = p; creator = m; index = i })
+genesisAt minted p m i = genesisLedger minted (idOf p m i)
 
 -- what holds of the model
 pub record Inv (limits : Limits) (model : Model) : Type 0 where
@@ -443,10 +443,10 @@ module _ {limits : Limits} {log : List Entry} {p : ℕ} {genesis : ℕ → ℕ �
 
   -- the genesis tokens with it
   abbrev genesis′ : ℕ → ℕ → Option Value
-  genesis′ m j = cond (sameToken (record { shard = p; creator = 0; index = i }) (record { shard = p; creator = m; index = j })) (some value) (genesis m j)
+  genesis′ m j = cond (sameToken (idOf p 0 i) (idOf p m j)) (some value) (genesis m j)
 
   -- its id, at this shard
-  spot : (m j : ℕ) → sameToken (record { shard = p; creator = 0; index = i }) (record { shard = p; creator = m; index = j }) ≡ eqb 0 m && eqb i j
+  spot : (m j : ℕ) → sameToken (idOf p 0 i) (idOf p m j) ≡ eqb 0 m && eqb i j
   unfolding sameToken
   spot m j = ap (λ (b : Bool). b && eqb 0 m && eqb i j) (eqb-same p)
 
