@@ -39,6 +39,15 @@ keep-length f (x ∷ l) = go (f x) (keep-length f l)
     go true h = omega arith
     go false h = omega arith
 
+-- how many are kept, counted one by one
+pub keep-count : {A : Type 0} (f : A → Bool) (l : List A) → length (keep f l) ≡ total (λ (x : A). cond (f x) 1 0) l
+keep-count f [] = refl
+keep-count f (x ∷ l) = go (f x) (keep-count f l)
+  where
+    go : (b : Bool) → length (keep f l) ≡ total (λ x. cond (f x) 1 0) l → length (cond b (x ∷ keep f l) (keep f l)) ≡ cond b 1 0 + total (λ x. cond (f x) 1 0) l
+    go true h = omega arith
+    go false h = omega arith
+
 -- the sum over two lists
 pub total-append : {A : Type 0} (f : A → ℕ) (a b : List A) → total f (a ++ b) ≡ total f a + total f b
 total-append f [] b = omega arith
