@@ -1,17 +1,16 @@
 -- Tests, options and lists: what the other proofs are written with.
-use Prim.Native.Nat.{ℕ, zero, suc, _<_, _≤_, _+_}
+use Prim.Native.Nat.{ℕ, zero, suc, _<_}
 use native.Mathlib.Omega.{arith}
 use mathlib.Core.Path.{_≡_, refl, ap, sym, _∙_, subst}
-use mathlib.Core.Logic.{_⊎_, inl, inr}
-use mathlib.Core.Bool.{Bool, true, false, cond, _&&_, _||_, not, true≢false, false≢true}
+use mathlib.Core.Bool.{Bool, true, false, cond, _&&_, _||_, not, true≢false, false≢true, and-assoc}
 use mathlib.Core.Option.{Option, none, some}
-use mathlib.Core.List.{List, [], _∷_, _++_, map, List·Memᴰ, List·Memᴰ·head, List·Memᴰ·tail}
+use mathlib.Core.List.{List, [], _∷_, _++_, List·Memᴰ, List·Memᴰ·head, List·Memᴰ·tail, map}
 use borrow.Author.Tests.{eqb-true, eq-eqb, ne-eqb}
-use lib.Dec.{eqb, ltb, leb}
+use lib.Dec.{eqb}
 use lib.ListN.{length, getD, set, replicate}
 use lib.Seq.{getD-set-same, getD-set-other}
 use Rattle.transaction.specs.Lists.{any, all, firstOf}
-use Rattle.model.specs.Lists.{keep, find, mapOption, passes}
+use Rattle.model.specs.Lists.{keep, find, mapOption}
 
 -- ---- Tests
 
@@ -212,6 +211,16 @@ all-of f (y ∷ l) h = and-intro (h y (List·Memᴰ·head refl)) (all-of f l (λ
 pub all-cong : {A : Type 0} (f g : A → Bool) (l : List A) → ((x : A) → List·Memᴰ x l → f x ≡ g x) → all f l ≡ all g l
 all-cong f g [] h = refl
 all-cong f g (x ∷ l) h = λ i. h x (List·Memᴰ·head refl) i && all-cong f g l (λ y m. h y (List·Memᴰ·tail m)) i
+
+-- all of two lists one behind the other
+pub all-append : {A : Type 0} (f : A → Bool) (a b : List A) → all f (a ++ b) ≡ all f a && all f b
+all-append f [] b = refl
+all-append f (x ∷ a) b = ap (λ (c : Bool). f x && c) (all-append f a b) ∙ sym (and-assoc (f x) (all f a) (all f b))
+
+-- all of a mapped list
+pub all-map : {A B : Type 0} (f : B → Bool) (g : A → B) (l : List A) → all f (map g l) ≡ all (λ (x : A). f (g x)) l
+all-map f g [] = refl
+all-map f g (x ∷ l) = ap (λ (c : Bool). f (g x) && c) (all-map f g l)
 
 -- where some element passes, there is one
 pub any-at : {A : Type 0} (f : A → Bool) (l : List A) → any f l ≡ true → (x : A) × List·Memᴰ x l × (f x ≡ true)

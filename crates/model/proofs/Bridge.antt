@@ -2,22 +2,22 @@
 use Prim.Native.Nat.{ℕ, suc}
 use mathlib.Core.Path.{_≡_, refl, ap, sym, _∙_, subst}
 use mathlib.Core.Logic.{_↔_, _≢_}
-use mathlib.Core.Bool.{Bool, true, false}
+use mathlib.Core.Bool.{true}
 use mathlib.Core.List.{List, [], _∷_, _++_, List·Memᴰ}
 use Rattle.transaction.specs.declared.TokenId.{TokenId}
 use Rattle.transaction.specs.declared.Input.{Input}
 use Rattle.transaction.specs.declared.Transaction.{Transaction}
-use Rattle.transaction.specs.Lists.{any, repeats}
+use Rattle.transaction.specs.Lists.{any}
 use Rattle.transaction.specs.Tokens.{usedInputs, shardsOf}
 use Rattle.model.specs.declared.Outcome.{Outcome}
-use Rattle.model.specs.declared.Outcome.the-variants.{Wait, Commit, Abort}
+use Rattle.model.specs.declared.Outcome.the-variants.{Wait, Commit}
 use Rattle.model.specs.declared.Answer.{Answer}
 use Rattle.model.specs.Lists.{mapOption}
 use Rattle.model.specs.Steps.{Limits, Ledger}
 use Rattle.model.specs.Shard.{Call}
 use Rattle.model.specs.Cluster.{emptyShards, ledgerAt, clusterStep}
 use Rattle.model.specs.Model.{Model, emptyModel, step, after, answers, play, playAnswers}
-use Rattle.model.specs.Demand.{outcomeIn, heardAllIn, WasAvailable, commits, committed, SerialLedger, tokenAt, tokenValue, sameSpot, Demand3}
+use Rattle.model.specs.Demand.{outcomeIn, heardAllIn, WasAvailable, commits, committed, tokenAt, tokenValue, Demand3}
 use Rattle.model.proofs.Theorem.{demand-3}
 
 -- the model's step is the cluster's step, with the model's notes
@@ -41,7 +41,23 @@ pub record Engine (limits : Limits) : Type 1 where
   pub same-answer : (s s′ : State) (c : Call) (a : Answer) → Sound s → Does s c s′ a → a ≡ clusterStep limits (view s) c .1
   pub same-ledgers : (s s′ : State) (c : Call) (a : Answer) → Sound s → Does s c s′ a → view s′ ≡ clusterStep limits (view s) c .0
 
+-- the ledgers themselves are an engine, so the hypotheses can be met
+pub reference : (limits : Limits) → Engine limits
+reference limits = record {
+  State = List Ledger;
+  view = λ s. s;
+  Sound = λ s. Unit {0};
+  Does = λ s c s′ a. (a ≡ clusterStep limits s c .1) × (s′ ≡ clusterStep limits s c .0);
+  first = emptyShards limits;
+  first-sound = tt;
+  first-empty = refl;
+  keeps = λ s s′ c a g d. tt;
+  same-answer = λ s s′ c a g d. d .0;
+  same-ledgers = λ s s′ c a g d. d .1;
+}
+
 module _ {limits : Limits} (engine : Engine limits) where
+  -- the engine's states
   abbrev State : Type 0
   State = engine .State
 
@@ -73,60 +89,62 @@ module _ {limits : Limits} (engine : Engine limits) where
       (engine .same-ledgers s s₁ c a g x ∙ ap (λ (l : List Ledger). clusterStep limits l c .0) e ∙ sym (ap (λ (y : List Ledger × Answer). y .0) z)) rest in
       record { answered = λ j. one j ∷ h .answered j; viewed = h .viewed }
 
-  -- Demand 3, of a run of the engine from its first state: the answers and the ledgers are the model's, and of the model the rest holds.
-  pub record RunDemand (calls : List Call) (replies : List Answer) (s : State) : Type 0 where
-    pub answered : replies ≡ playAnswers limits calls
-    pub viewed : engine .view s ≡ play limits calls .shards
-    pub demand : Demand3 limits calls
+  -- from the first state: the answers and the ledgers are the model's
+  record Played (calls : List Call) (replies : List Answer) (s : State) : Type 0 where
+    answered : replies ≡ playAnswers limits calls
+    viewed : engine .view s ≡ play limits calls .shards
 
-  -- demand 3, whole, of every run
-  pub run-demand-3 : {s : State} {calls : List Call} {replies : List Answer} → Run (engine .first) calls replies s → RunDemand calls replies s
+  -- every run
+  played : {s : State} {calls : List Call} {replies : List Answer} → Run (engine .first) calls replies s → Played calls replies s
   unfolding play playAnswers
-  run-demand-3 {calls = calls} x =
-      let h = run-from 1 (emptyModel limits) (engine .first-sound) (engine .first-empty) x in
-      record { answered = h .answered; viewed = h .viewed; demand = demand-3 limits calls }
-
-  -- ---- What demand 3 says of the shards, read off the engine's own states
+  played x = let h = run-from 1 (emptyModel limits) (engine .first-sound) (engine .first-empty) x in record { answered = h .answered; viewed = h .viewed }
 
   -- a run that goes on
   run-append : {s s′ s″ : State} {calls more : List Call} {replies others : List Answer} → Run s calls replies s′ → Run s′ more others s″ → Run s (calls ++ more) (replies ++ others) s″
   run-append done y = y
   run-append (then x rest) y = then x (run-append rest y)
 
-  -- no two shards of the engine decide one transaction differently
-  pub run-agreement : {s : State} {calls : List Call} {replies : List Answer} → Run (engine .first) calls replies s → (p q : ℕ) (t : Transaction)
-      → outcomeIn (ledger s p) t ≢ Wait → outcomeIn (ledger s q) t ≢ Wait → outcomeIn (ledger s p) t ≡ outcomeIn (ledger s q) t
-  run-agreement x p q t =
-      let d = run-demand-3 x in
-      subst
-      (λ (l : List Ledger). outcomeIn (ledgerAt limits l p) t ≢ Wait → outcomeIn (ledgerAt limits l q) t ≢ Wait → outcomeIn (ledgerAt limits l p) t ≡ outcomeIn (ledgerAt limits l q) t)
-      (sym (d .viewed)) (d .demand .agreement p q t)
+  -- Demand 3, of a run of the engine from its first state, read off its own states.
+  pub record RunDemand (calls : List Call) (replies : List Answer) (s : State) : Type 0 where
+    -- the answers, and the ledgers after the run, are the model's
+    pub answered : replies ≡ playAnswers limits calls
+    pub viewed : engine .view s ≡ play limits calls .shards
+    -- no two shards decide one transaction differently
+    pub agreement : (p q : ℕ) (t : Transaction) → outcomeIn (ledger s p) t ≢ Wait → outcomeIn (ledger s q) t ≢ Wait → outcomeIn (ledger s p) t ≡ outcomeIn (ledger s q) t
+    -- and none changes its decision while the run goes on
+    pub finality : (more : List Call) (others : List Answer) (s′ : State) → Run s more others s′ → (p : ℕ) (t : Transaction)
+        → outcomeIn (ledger s p) t ≢ Wait → outcomeIn (ledger s′ p) t ≡ outcomeIn (ledger s p) t
+    -- a shard that has heard all votes holds the transaction committed exactly when each input was available at its shard's registration
+    pub commit-rule : (p : ℕ) (t : Transaction) → heardAllIn (ledger s p) t ≡ true
+        → (outcomeIn (ledger s p) t ≡ Commit) ↔ ((x : Input) → List·Memᴰ x (usedInputs t) → WasAvailable (play limits calls .log) t x)
+    -- the serial order, and the serial run, which succeeds
+    pub demand : Demand3 limits calls
+    -- where every committed transaction is decided at all its shards, the shards hold exactly the tokens of the serial ledger
+    pub one-ledger : ((t : Transaction) → any (commits t) (engine .view s) ≡ true → (p : ℕ) → List·Memᴰ p (shardsOf t) → outcomeIn (ledger s p) t ≢ Wait)
+        → (id : TokenId) → mapOption tokenValue (tokenAt (ledger s (id .shard) .tokens) (id .creator) (id .index)) ≡ demand .serial .ledger id
 
-  -- no shard of the engine changes its decision while the run goes on
-  pub run-finality : {s s′ : State} {calls more : List Call} {replies others : List Answer} → Run (engine .first) calls replies s → Run s more others s′ → (p : ℕ) (t : Transaction)
-      → outcomeIn (ledger s p) t ≢ Wait → outcomeIn (ledger s′ p) t ≡ outcomeIn (ledger s p) t
-  run-finality {more = more} x y p t h =
-      let d = run-demand-3 x in
-      let outcome : List Ledger → Outcome = λ l. outcomeIn (ledgerAt limits l p) t in
-      ap outcome (run-demand-3 (run-append x y) .viewed) ∙ d .demand .finality more p t (λ z. h (ap outcome (d .viewed) ∙ z)) ∙ sym (ap outcome (d .viewed))
-
-  -- the commit rule of the engine's shards
-  pub run-commit-rule : {s : State} {calls : List Call} {replies : List Answer} → Run (engine .first) calls replies s → (p : ℕ) (t : Transaction)
-      → heardAllIn (ledger s p) t ≡ true → (outcomeIn (ledger s p) t ≡ Commit) ↔ ((x : Input) → List·Memᴰ x (usedInputs t) → WasAvailable (play limits calls .log) t x)
-  run-commit-rule {calls = calls} x p t =
-      let d = run-demand-3 x in
-      subst
-      (λ (l : List Ledger). heardAllIn (ledgerAt limits l p) t ≡ true
-      → (outcomeIn (ledgerAt limits l p) t ≡ Commit) ↔ ((x : Input) → List·Memᴰ x (usedInputs t) → WasAvailable (play limits calls .log) t x))
-      (sym (d .viewed)) (d .demand .commit-rule p t)
-
-  -- the engine's shards hold what the serial ledger holds, where every committed transaction is decided at all its shards
-  pub run-one-ledger : {s : State} {calls : List Call} {replies : List Answer} (x : Run (engine .first) calls replies s)
-      → ((t : Transaction) → any (commits t) (engine .view s) ≡ true → (p : ℕ) → List·Memᴰ p (shardsOf t) → outcomeIn (ledger s p) t ≢ Wait)
-      → (id : TokenId) → mapOption tokenValue (tokenAt (ledger s (id .shard) .tokens) (id .creator) (id .index)) ≡ demand-3 limits calls .serial .ledger id
-  run-one-ledger {calls = calls} x =
-      let d = run-demand-3 x in
-      subst
-      (λ (l : List Ledger). ((t : Transaction) → any (commits t) l ≡ true → (p : ℕ) → List·Memᴰ p (shardsOf t) → outcomeIn (ledgerAt limits l p) t ≢ Wait)
-      → (id : TokenId) → mapOption tokenValue (tokenAt (ledgerAt limits l (id .shard) .tokens) (id .creator) (id .index)) ≡ demand-3 limits calls .serial .ledger id)
-      (sym (d .viewed)) (unfold committed in demand-3 limits calls .one-ledger)
+  -- the theorem about every run
+  pub run-demand-3 : {s : State} {calls : List Call} {replies : List Answer} → Run (engine .first) calls replies s → RunDemand calls replies s
+  unfolding committed
+  run-demand-3 {s} {calls} x = record {
+    answered = played x .answered;
+    viewed = played x .viewed;
+    agreement = λ p q t. subst
+        (λ (l : List Ledger). outcomeIn (ledgerAt limits l p) t ≢ Wait → outcomeIn (ledgerAt limits l q) t ≢ Wait → outcomeIn (ledgerAt limits l p) t ≡ outcomeIn (ledgerAt limits l q) t)
+        shown (demand-3 limits calls .agreement p q t);
+    finality = λ more others s′ y p t h.
+        let outcome : List Ledger → Outcome = λ l. outcomeIn (ledgerAt limits l p) t in
+        ap outcome (played (run-append x y) .viewed) ∙ demand-3 limits calls .finality more p t (λ z. h (sym (ap outcome shown) ∙ z)) ∙ ap outcome shown;
+    commit-rule = λ p t. subst
+        (λ (l : List Ledger). heardAllIn (ledgerAt limits l p) t ≡ true
+        → (outcomeIn (ledgerAt limits l p) t ≡ Commit) ↔ ((x : Input) → List·Memᴰ x (usedInputs t) → WasAvailable (play limits calls .log) t x))
+        shown (demand-3 limits calls .commit-rule p t);
+    demand = demand-3 limits calls;
+    one-ledger = subst
+        (λ (l : List Ledger). ((t : Transaction) → any (commits t) l ≡ true → (p : ℕ) → List·Memᴰ p (shardsOf t) → outcomeIn (ledgerAt limits l p) t ≢ Wait)
+        → (id : TokenId) → mapOption tokenValue (tokenAt (ledgerAt limits l (id .shard) .tokens) (id .creator) (id .index)) ≡ demand-3 limits calls .serial .ledger id)
+        shown (demand-3 limits calls .one-ledger);
+  }
+    where
+      shown : play limits calls .shards ≡ engine .view s
+      shown = sym (played x .viewed)

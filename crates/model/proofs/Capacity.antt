@@ -4,14 +4,13 @@ use Prim.Native.Nat.{ℕ, zero, suc, _+_, _<_, _≤_}
 use native.Mathlib.Omega.{arith}
 use mathlib.Core.Path.{_≡_, refl, ap, sym, _∙_, subst}
 use mathlib.Core.Logic.{_⊎_, inl, inr, ⊎-elim}
-use mathlib.Core.Bool.{Bool, true, false, cond, _&&_, _||_, not, true≢false, false≢true}
-use mathlib.Core.List.{List, [], _∷_, _++_, map, List·Memᴰ, List·Memᴰ·head, List·Memᴰ·tail, List·Memᴰ·append-cases, List·Memᴰ·eq-of-singleton}
-use lib.Dec.{eqb}
+use mathlib.Core.Bool.{Bool, true, false, cond, _||_, true≢false, false≢true}
+use mathlib.Core.List.{List, [], _∷_, _++_, List·Memᴰ, List·Memᴰ·head, List·Memᴰ·tail, List·Memᴰ·append-cases, List·Memᴰ·eq-of-singleton}
 use lib.ListN.{length, getD, set, replicate, length-append, length-map, length-set, length-replicate}
 use Rattle.transaction.specs.declared.Output.{Output}
 use Rattle.transaction.specs.declared.Transaction.{Transaction}
 use Rattle.transaction.specs.Lists.{any, total}
-use Rattle.transaction.specs.Tokens.{usedOutputs, shardsOf, takesPart}
+use Rattle.transaction.specs.Tokens.{usedOutputs, shardsOf}
 use Rattle.transaction.specs.Checks.{fieldsFit, namedTwice, balanced, causeOf}
 use Rattle.model.specs.declared.Token.{Token}
 use Rattle.model.specs.declared.Known.{Known}
@@ -20,14 +19,14 @@ use Rattle.model.specs.declared.Outcome.the-variants.{Wait, Commit, Abor
 use Rattle.model.specs.declared.Answer.{Answer}
 use Rattle.model.specs.Lists.{keep, find}
 use Rattle.model.specs.Steps.{Limits, Ledger, emptyLedger, genesisToken, inputsHere, availableHere, pledges, vote, noted, newlyKnown, heardFrom, hearing, outcomeOf, outputHere, outputsHere, tokenOf, tokensFrom, madeHere, stays, commit, settle, isFor, nothingKnown, placeOf, entryOf, afterMint, afterRegister, afterVote}
-use Rattle.model.specs.Shard.{Call, ifUndecided, reservedBy, reserved}
-use Rattle.model.specs.Cluster.{emptyShards, ledgerAt}
-use Rattle.model.specs.Model.{Entry, Model, emptyModel, step, after, play}
-use Rattle.model.proofs.Basics.{clash, Case, yes-case, no-case, case, both, find-at, set-elim, getD-same}
+use Rattle.model.specs.Shard.{Call, ifUndecided, reservedBy, reserved, shardStep}
+use Rattle.model.specs.Cluster.{ledgerAt}
+use Rattle.model.specs.Model.{Model, emptyModel, step, after, play}
+use Rattle.model.proofs.Basics.{find-at, set-elim, getD-same}
 use Rattle.model.proofs.Entries.{same-eq, whole-known, outcome-heard}
-use Rattle.model.proofs.Refusals.{shard-below, part-in, MintPasses, FormPasses, RegisterPasses, DeliverPasses}
-use Rattle.model.proofs.Effects.{ShardEffect, shard-refused, shard-minted, shard-registered, shard-heard, shard-again, Effect, did-refuse, did-mint, did-register, did-hear, did-repeat, effect}
-use Rattle.model.proofs.Steps.{Inv, Next, step-next, empty-inv}
+use Rattle.model.proofs.Refusals.{shard-below, part-in, MintPasses, RegisterPasses, DeliverPasses}
+use Rattle.model.proofs.Effects.{ShardEffect, shard-refused, shard-minted, shard-registered, shard-heard, shard-again, shard-effect, Effect, did-refuse, did-mint, did-register, did-hear, did-repeat, effect}
+use Rattle.model.proofs.Steps.{Inv, step-next, empty-inv}
 
 -- ---- Lengths and sums
 
@@ -37,6 +36,15 @@ keep-length f [] = omega arith
 keep-length f (x ∷ l) = go (f x) (keep-length f l)
   where
     go : (b : Bool) → length (keep f l) ≤ length l → length (cond b (x ∷ keep f l) (keep f l)) ≤ suc (length l)
+    go true h = omega arith
+    go false h = omega arith
+
+-- how many are kept, counted one by one
+pub keep-count : {A : Type 0} (f : A → Bool) (l : List A) → length (keep f l) ≡ total (λ (x : A). cond (f x) 1 0) l
+keep-count f [] = refl
+keep-count f (x ∷ l) = go (f x) (keep-count f l)
+  where
+    go : (b : Bool) → length (keep f l) ≡ total (λ x. cond (f x) 1 0) l → length (cond b (x ∷ keep f l) (keep f l)) ≡ cond b 1 0 + total (λ x. cond (f x) 1 0) l
     go true h = omega arith
     go false h = omega arith
 
@@ -242,6 +250,10 @@ module _ (limits : Limits) (sized : limits .genesis ≤ limits .tokens) (me : �
   shard-fit call _ (shard-registered h) = register-fit h
   shard-fit call _ (shard-heard h e z) = vote-fit h z
   shard-fit call _ (shard-again h z) = f
+
+-- every call at a lone shard keeps its ledger fit
+pub fit-step : (limits : Limits) → limits .genesis ≤ limits .tokens → (me : ℕ) (ledger : Ledger) → Fit limits me ledger → (call : Call) → Fit limits me (shardStep limits me ledger call .0)
+fit-step limits sized me ledger f call = shard-fit limits sized me ledger f call (shardStep limits me ledger call) (shard-effect limits me ledger call)
 
 -- ---- In a cluster
 

@@ -1,31 +1,30 @@
 -- Demand 3, the decisions: none differ, none change, and each is the one that the log gives.
-use Prim.Native.Nat.{ℕ, suc, _<_, _≤_}
-use native.Mathlib.Omega.{arith}
+use Prim.Native.Nat.{ℕ}
 use mathlib.Core.Path.{_≡_, refl, ap, sym, _∙_, subst}
-use mathlib.Core.Logic.{_↔_, _≢_, _⊎_, inl, inr, ⊎-elim}
-use mathlib.Core.Bool.{Bool, true, false, cond, _&&_, not, true≢false, false≢true}
-use mathlib.Core.Option.{Option, none, some}
-use mathlib.Core.List.{List, [], _∷_, _++_, List·Memᴰ}
+use mathlib.Core.Logic.{_↔_, _≢_, _⊎_, inl, inr}
+use mathlib.Core.Bool.{Bool, true, false, cond, not, false≢true}
+use mathlib.Core.Option.{some}
+use mathlib.Core.List.{List, _++_, List·Memᴰ}
 use borrow.Author.Tests.{ltb-true, ltb-false}
-use lib.Dec.{eqb, ltb}
-use lib.ListN.{length, getD, List·getD-eq-default}
+use lib.Dec.{ltb}
+use lib.ListN.{length, List·getD-eq-default}
 use Rattle.transaction.specs.declared.Input.{Input}
 use Rattle.transaction.specs.declared.Transaction.{Transaction}
-use Rattle.transaction.specs.Lists.{any, all}
+use Rattle.transaction.specs.Lists.{any}
 use Rattle.transaction.specs.Tokens.{usedInputs, shardsOf}
 use Rattle.model.specs.declared.Known.{Known}
 use Rattle.model.specs.declared.Outcome.{Outcome}
 use Rattle.model.specs.declared.Outcome.the-variants.{Wait, Commit, Abort}
-use Rattle.model.specs.Steps.{Limits, Ledger, emptyLedger, inputsHere, heardFrom, isHeard, isYes, heardAll, allYes, outcomeOf, isFor, entryOf}
+use Rattle.model.specs.Steps.{Limits, Ledger, emptyLedger, heardFrom, isHeard, isYes, heardAll, allYes, outcomeOf, isFor, entryOf}
 use Rattle.model.specs.Shard.{Call}
 use Rattle.model.specs.Cluster.{ledgerAt}
 use Rattle.model.specs.Model.{Entry, Model, play}
 use Rattle.model.specs.Demand.{outcomeIn, heardAllIn, outcomeAt, heardAllAt, isCommit, commits, committed, WasAvailable}
-use Rattle.model.proofs.Basics.{eqb-yes, eqb-apart, both, clash, Case, yes-case, no-case, case, all-at, all-of, any-at, any-of, place-of, getD-mem}
-use Rattle.model.proofs.Entries.{look, entry-look, look-entry, look-number, outcome-yes, outcome-heard, outcome-cong, outcome-commit, commit≢wait, wait≢commit, abort≢commit}
+use Rattle.model.proofs.Basics.{eqb-yes, eqb-apart, both, clash, all-at, all-of, any-at, any-of, place-of, getD-mem}
+use Rattle.model.proofs.Entries.{look, entry-look, look-entry, look-number, outcome-yes, outcome-heard, outcome-cong, outcome-commit, commit≢wait, wait≢commit}
 use Rattle.model.proofs.Holdings.{here-shard, in-here}
-use Rattle.model.proofs.Invariant.{Voted, voted-available, Core, Ok}
-use Rattle.model.proofs.Steps.{Logged, Inv, Grows, play-inv, play-grows}
+use Rattle.model.proofs.Invariant.{Voted, voted-available}
+use Rattle.model.proofs.Steps.{Inv, Grows, play-inv, play-grows}
 
 -- only a commit is one
 pub is-commit : (o : Outcome) → isCommit o ≡ true → o ≡ Commit

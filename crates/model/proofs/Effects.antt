@@ -1,8 +1,8 @@
 -- What one call does to the model: it is refused and changes nothing, or it has passed its table and does its step.
-use Prim.Native.Nat.{ℕ, _+_}
-use mathlib.Core.Path.{_≡_, refl, ap, sym, _∙_, subst}
-use mathlib.Core.Bool.{Bool, true, false, cond, _&&_, not}
-use mathlib.Core.List.{List, [], _∷_}
+use Prim.Native.Nat.{ℕ}
+use mathlib.Core.Path.{_≡_, refl, sym, subst}
+use mathlib.Core.Bool.{Bool, true, false, cond}
+use mathlib.Core.List.{List, _∷_}
 use lib.Dec.{eqb}
 use lib.ListN.{set}
 use lib.Seq.{set-getD}
@@ -14,7 +14,7 @@ use Rattle.model.specs.Steps.{Limits, Ledger, emptyLedger, vote, newlyKn
 use Rattle.model.specs.Shard.{Call, mint, register, deliver, mintRefusals, registerRefusals, deliverForm, deliverRefusals, hear, shardStep}
 use Rattle.model.specs.Cluster.{ledgerAt, gave, notGiven, atShard, clusterStep}
 use Rattle.model.specs.Model.{Entry, Genesis, Model, entryFor, logAfter, mintedAfter, step}
-use Rattle.model.proofs.Basics.{eqb-eq, eqb-yes, eqb-apart, clash, both, and-intro, not-yes, not-no, Case, yes-case, no-case, case}
+use Rattle.model.proofs.Basics.{eqb-eq, eqb-yes, eqb-apart, clash, and-intro, not-yes, not-no}
 use Rattle.model.proofs.Refusals.{MintPasses, mint-passes, RegisterPasses, register-passes, DeliverPasses, deliver-passes, form-passes}
 
 -- ---- At one shard

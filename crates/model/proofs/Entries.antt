@@ -1,22 +1,23 @@
 -- The known transactions of a shard: looked up by number, entered, and the outcomes that their votes bring.
-use Prim.Native.Nat.{ℕ, zero, suc}
+use Prim.Native.Nat.{ℕ, suc}
 use mathlib.Core.Path.{_≡_, refl, ap, sym, _∙_, subst}
-use mathlib.Core.Bool.{Bool, true, false, cond, _&&_, _||_, not, true≢false, false≢true}
+use mathlib.Core.Bool.{Bool, true, false, cond, _||_, not, false≢true, _&&_}
 use mathlib.Core.Option.{Option, none, some}
-use mathlib.Core.List.{List, [], _∷_, _++_, List·Memᴰ, List·Memᴰ·head, List·Memᴰ·tail}
+use mathlib.Core.List.{List, [], _∷_, _++_, List·Memᴰ, map}
 use lib.Dec.{eqb}
 use lib.ListN.{getD, set}
+use Rattle.transaction.specs.declared.Input.{Input}
+use Rattle.transaction.specs.declared.Output.{Output}
 use Rattle.transaction.specs.declared.Transaction.{Transaction}
 use Rattle.transaction.specs.Lists.{any, all}
-use Rattle.transaction.specs.Tokens.{shardsOf, sameTransaction}
+use Rattle.transaction.specs.Tokens.{usedInputs, usedOutputs, inputShard, outputShard, shardsOf, sameTransaction}
 use Rattle.transaction.proofs.Same.{same-exactly}
 use Rattle.model.specs.declared.Known.{Known}
-use Rattle.model.specs.declared.Outcome.{Outcome}
 use Rattle.model.specs.declared.Outcome.the-variants.{Wait, Commit, Abort}
 use Rattle.model.specs.Lists.{find, lookup}
 use Rattle.model.specs.Steps.{isFor, nothingKnown, placeOf, entryOf, heardFrom, isHeard, isYes, heardAll, allYes, decide, outcomeOf}
 use Rattle.model.specs.Shard.{hasNumber, isOther}
-use Rattle.model.proofs.Basics.{eqb-eq, eqb-same, eqb-yes, eqb-no, eqb-apart, not-yes, not-no, clash, Case, yes-case, no-case, case, both, and-intro, neither, some≢none, some-inj, CaseO, is-some, is-none, caseO, all-at, all-of, all-cong, any-at, any-of, any-none, any-no, find-at}
+use Rattle.model.proofs.Basics.{eqb-eq, eqb-same, eqb-yes, eqb-no, eqb-apart, not-yes, not-no, clash, and-intro, some≢none, some-inj, all-at, all-cong, any-at, any-of, any-none, any-no, find-at, all-append, all-map}
 use Rattle.model.proofs.Lookups.{lookup-passes, lookup-mem, lookup-no, Alone, alone-lookup}
 
 -- the test of whole-field equality, both ways
@@ -208,3 +209,9 @@ outcome-cong j k e h =
 pub outcome-commit : (k : Known) → heardAll (k .transaction) (k .heard) ≡ true → allYes (k .transaction) (k .heard) ≡ true → outcomeOf k ≡ Commit
 unfolding decide
 outcome-commit k a b = λ i. cond (a i) (cond (b i) Commit Abort) Wait
+
+-- a test of all shards of a transaction, by its inputs and by its outputs
+pub all-shards : (f : ℕ → Bool) (t : Transaction) → all f (shardsOf t) ≡ all (λ (x : Input). f (inputShard x)) (usedInputs t) && all (λ (y : Output). f (outputShard y)) (usedOutputs t)
+all-shards f t =
+    all-append f (map inputShard (usedInputs t)) (map outputShard (usedOutputs t))
+    ∙ (λ i. all-map f inputShard (usedInputs t) i && all-map f outputShard (usedOutputs t) i)

@@ -1,7 +1,7 @@
 -- Document 01's example, and cases of 'Swaps at the edge' about registrations and votes, played through the model: each a fact by computation.
-use Prim.Native.Nat.{ℕ, zero, suc}
+use Prim.Native.Nat.{ℕ}
 use mathlib.Core.Path.{_≡_, refl}
-use mathlib.Core.Bool.{Bool, true, false}
+use mathlib.Core.Bool.{true, false}
 use mathlib.Core.Option.{Option, none, some}
 use mathlib.Core.List.{List, [], _∷_, _++_}
 use lib.ListN.{length, take, replicate}
@@ -13,13 +13,13 @@ use Rattle.transaction.specs.Tokens.{zeroInput, zeroOutput, takesPart, sameToke
 use Rattle.transaction.specs.Checks.{indexFits, valueFits, inputFits, outputFits, countsFit, fieldsFit, sameName, namedTwice, balanced, mintFits}
 use Rattle.model.specs.declared.Token.{Token}
 use Rattle.model.specs.declared.Outcome.the-variants.{Wait, Commit, Abort}
-use Rattle.model.specs.declared.Answer.{Answer}
 use Rattle.model.specs.declared.Answer.the-variants.{Refused, Minted, Registered, Heard, Again}
-use Rattle.model.specs.Steps.{Limits, house, Ledger, inputsHere, available, availableHere, pledges, vote, newlyKnown, decide, outputsHere, madeHere, commit, afterMint, afterRegister, afterVote, placeOf, entryOf}
+use Rattle.model.specs.Lists.{andThen}
+use Rattle.model.specs.Steps.{Limits, house, inputsHere, available, availableHere, pledges, vote, newlyKnown, decide, outputsHere, madeHere, commit, afterMint, afterRegister, afterVote, placeOf, entryOf}
 use Rattle.model.specs.Shard.{Call, mint, register, deliver, reservedBy, reserved, mintRefusals, registerRefusals, deliverForm, deliverRefusals, hear, shardStep}
 use Rattle.model.specs.Cluster.{ledgerAt, gave, notGiven, atShard, clusterStep}
-use Rattle.model.specs.Model.{Entry, logAfter, mintedAfter, step, after, answers, play, playAnswers}
-use Rattle.model.specs.Demand.{outcomeIn, committed, serialFrom, serialOrder}
+use Rattle.model.specs.Model.{logAfter, mintedAfter, step, after, answers, play, playAnswers}
+use Rattle.model.specs.Demand.{outcomeIn, committed, serialFrom, serialOrder, Value, genesisLedger, takeInputs, addOutputs, spend, serialRun}
 
 -- ---- Small transactions
 
@@ -44,6 +44,10 @@ make number xs ys = record {
 -- the tokens that a shard holds after the calls, and what each of the calls is answered
 tokensAfter : List Call → ℕ → List Token
 tokensAfter calls shard = ledgerAt house (play house calls .shards) shard .tokens
+
+-- what the serial ledger has under an id after the calls
+serialValue : List Call → TokenId → Option Value
+serialValue calls id = andThen (λ ledger. ledger id) (serialRun (genesisLedger (play house calls .minted)) (serialOrder (play house calls)))
 
 -- a held token
 token : ℕ → ℕ → ℕ → ℕ → ℕ → Token
@@ -106,6 +110,9 @@ pub record Examples : Type 0 where
   seven-0 : tokensAfter (known-at-both ++ votes) 0 ≡ token 5 1 20 2 0 ∷ []
   seven-1 : tokensAfter (known-at-both ++ votes) 1 ≡ token 5 0 10 3 0 ∷ []
   seven-order : serialOrder (play house (known-at-both ++ votes)) ≡ both ∷ []
+  -- the serial ledger: the outputs are there, the inputs are gone
+  serial-made : serialValue (known-at-both ++ votes) (record { shard = 1; creator = 5; index = 0 }) ≡ some (record { owner = 10; amount = 3 })
+  serial-gone : serialValue (known-at-both ++ votes) (record { shard = 0; creator = 0; index = 0 }) ≡ none
   -- cut after line 5: shard 1 still holds its token, pledged
   cut-0 : tokensAfter (known-at-both ++ (deliver 0 1 1 both ∷ [])) 0 ≡ token 5 1 20 2 0 ∷ []
   cut-1 : tokensAfter (known-at-both ++ (deliver 0 1 1 both ∷ [])) 1 ≡ token 0 0 20 2 5 ∷ []
@@ -158,12 +165,14 @@ pub record Examples : Type 0 where
 
 -- each of them by computation
 pub examples : Examples
-unfolding input output make tokensAfter token both known-at-both votes alone wrong half other5 near5 pass torn torn-apart small takesPart sameToken sameInput sameOutput sameTransaction indexFits valueFits inputFits outputFits countsFit fieldsFit sameName namedTwice balanced mintFits inputsHere available availableHere pledges vote newlyKnown decide outputsHere madeHere commit afterMint afterRegister afterVote placeOf entryOf reservedBy reserved mintRefusals registerRefusals deliverForm deliverRefusals hear shardStep gave notGiven atShard clusterStep logAfter mintedAfter step after answers play playAnswers outcomeIn committed serialFrom
+unfolding input output make tokensAfter token both known-at-both votes alone wrong half other5 near5 pass torn torn-apart small takesPart sameToken sameInput sameOutput sameTransaction indexFits valueFits inputFits outputFits countsFit fieldsFit sameName namedTwice balanced mintFits inputsHere available availableHere pledges vote newlyKnown decide outputsHere madeHere commit afterMint afterRegister afterVote placeOf entryOf reservedBy reserved mintRefusals registerRefusals deliverForm deliverRefusals hear shardStep gave notGiven atShard clusterStep logAfter mintedAfter step after answers play playAnswers outcomeIn committed serialFrom serialValue genesisLedger takeInputs addOutputs spend serialRun
 examples = record {
   seven-answers = refl;
   seven-0 = refl;
   seven-1 = refl;
   seven-order = refl;
+  serial-made = refl;
+  serial-gone = refl;
   cut-0 = refl;
   cut-1 = refl;
   two-claims = refl;

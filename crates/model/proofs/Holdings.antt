@@ -1,22 +1,27 @@
 -- The tokens of a shard: looked up by creator and index, pledged, destroyed and made.
-use Prim.Native.Nat.{ℕ, zero, suc, _+_, _≤_}
+use Prim.Native.Nat.{ℕ, suc, _≤_}
 use native.Mathlib.Omega.{arith}
-use mathlib.Core.Path.{_≡_, refl, ap, sym, _∙_, subst}
-use mathlib.Core.Bool.{Bool, true, false, cond, _&&_, _||_, not, true≢false, false≢true}
+use mathlib.Core.Path.{_≡_, refl, ap, sym, _∙_}
+use mathlib.Core.Bool.{Bool, true, false, cond, _&&_, not}
 use mathlib.Core.Option.{Option, none, some}
-use mathlib.Core.List.{List, [], _∷_, _++_, map, List·Memᴰ, List·Memᴰ·head, List·Memᴰ·tail, Memᴰ·append-left, Memᴰ·append-right, Memᴰ·map, Memᴰ·cast}
+use mathlib.Core.List.{List, [], _∷_, map, List·Memᴰ, List·Memᴰ·head, List·Memᴰ·tail, Memᴰ·append-left, Memᴰ·append-right, Memᴰ·map, Memᴰ·cast}
 use lib.Dec.{eqb}
+use Rattle.transaction.specs.declared.TokenId.{TokenId}
 use Rattle.transaction.specs.declared.Input.{Input}
 use Rattle.transaction.specs.declared.Output.{Output}
 use Rattle.transaction.specs.declared.Transaction.{Transaction}
 use Rattle.transaction.specs.Lists.{any}
 use Rattle.transaction.specs.Tokens.{usedInputs, usedOutputs, inputShard, outputShard, shardsOf}
 use Rattle.model.specs.declared.Token.{Token}
-use Rattle.model.specs.Lists.{keep, lookup, mapOption}
-use Rattle.model.specs.Steps.{inputHere, inputsHere, names, namedBy, freeFor, available, pledgedTo, pledgeIf, pledges, outputHere, tokenOf, tokensFrom, madeHere, stays, commit}
-use Rattle.model.specs.Demand.{Value, inputValue, tokenValue, hasSpot, tokenAt, sameSpot}
-use Rattle.model.proofs.Basics.{eqb-eq, eqb-same, eqb-yes, eqb-no, eqb-apart, not-yes, clash, Case, yes-case, no-case, case, both, and-intro, orElse, some≢none, some-inj, CaseO, is-some, is-none, caseO, none-of, any-at, any-of, keep-in, keep-out}
+use Rattle.model.specs.Lists.{keep, mapOption}
+use Rattle.model.specs.Steps.{inputHere, inputsHere, names, namedBy, freeFor, available, pledgedTo, pledgeIf, pledges, tokenOf, tokensFrom, madeHere, stays, commit}
+use Rattle.model.specs.Demand.{inputValue, tokenValue, hasSpot, tokenAt, sameSpot}
+use Rattle.model.proofs.Basics.{eqb-eq, eqb-same, eqb-yes, both, and-intro, orElse, some≢none, CaseO, is-some, is-none, caseO, any-at, any-of, keep-in, keep-out}
 use Rattle.model.proofs.Lookups.{lookup-passes, lookup-append, lookup-map, lookup-keep, Alone, alone-append, alone-map, alone-keep, alone-lookup}
+
+-- the id of a token of shard p
+abbrev pub idOf : ℕ → ℕ → ℕ → TokenId
+idOf p m i = record { shard = p; creator = m; index = i }
 
 -- no two tokens of a shard have one creator and index
 abbrev pub NoTwice : List Token → Type 0
@@ -148,7 +153,7 @@ no-twice-pledges n xs tokens s =
 -- ---- Tokens made
 
 -- a made token has the transaction's number, its shard is that of an output, and its index is not below the first one
-made-from : (p n j : ℕ) (l : List Output) (m i : ℕ) {t : Token} → tokenAt (tokensFrom p n j l) m i ≡ some t → (m ≡ n) × List·Memᴰ p (map outputShard l) × (j ≤ i)
+pub made-from : (p n j : ℕ) (l : List Output) (m i : ℕ) {t : Token} → tokenAt (tokensFrom p n j l) m i ≡ some t → (m ≡ n) × List·Memᴰ p (map outputShard l) × (j ≤ i)
 made-from p n j [] m i e = some≢none e refl
 made-from p n j (o ∷ l) m i {t} e = go (eqb (o .shard) p) refl e (made-from p n (suc j) l m i)
   where

@@ -1,28 +1,28 @@
 -- What holds of each shard's ledger beside the log of registrations, and that it still holds once a known transaction is entered:
 -- by a registration or by a fresh vote, with the decision that it brings.
-use Prim.Native.Nat.{ℕ, zero, suc, _+_}
+use Prim.Native.Nat.{ℕ}
 use mathlib.Core.Path.{_≡_, refl, ap, sym, _∙_, subst}
 use mathlib.Core.Logic.{_↔_, _⊎_, inl, inr, ⊎-elim}
-use mathlib.Core.Bool.{Bool, true, false, cond, _&&_, _||_, not, true≢false, false≢true}
+use mathlib.Core.Bool.{Bool, true, false, cond}
 use mathlib.Core.Option.{Option, none, some}
-use mathlib.Core.List.{List, [], _∷_, _++_, map, List·Memᴰ, List·Memᴰ·head, List·Memᴰ·tail}
+use mathlib.Core.List.{List, [], _∷_, List·Memᴰ, List·Memᴰ·head, List·Memᴰ·tail}
 use lib.Dec.{eqb}
 use lib.ListN.{length, getD}
 use Rattle.transaction.specs.declared.Input.{Input}
 use Rattle.transaction.specs.declared.Transaction.{Transaction}
-use Rattle.transaction.specs.Tokens.{usedInputs, shardsOf}
+use Rattle.transaction.specs.Tokens.{shardsOf}
 use Rattle.transaction.specs.Checks.{namedTwice}
 use Rattle.model.specs.declared.Token.{Token}
 use Rattle.model.specs.declared.Known.{Known}
 use Rattle.model.specs.declared.Outcome.{Outcome}
 use Rattle.model.specs.declared.Outcome.the-variants.{Wait, Commit, Abort}
-use Rattle.model.specs.Lists.{lookup, mapOption}
+use Rattle.model.specs.Lists.{mapOption}
 use Rattle.model.specs.Steps.{Limits, Ledger, inputsHere, heardFrom, outcomeOf, madeHere, commit, settle}
 use Rattle.model.specs.Model.{Entry}
 use Rattle.model.specs.Demand.{Value, inputValue, tokenValue, tokenAt}
-use Rattle.model.proofs.Basics.{eqb-eq, eqb-yes, eqb-apart, not-yes, clash, Case, yes-case, no-case, case, orElse, orElse-none, isSome, some≢none, some-inj, CaseO, is-some, is-none, caseO, map-none, map-or}
-use Rattle.model.proofs.Entries.{look, OneEach, put, look-number, look-put-same, look-put-other, look-put-elim, one-each-put, outcome-yes, commit≢wait, abort≢commit, wait≢commit}
-use Rattle.model.proofs.Holdings.{NoTwice, taken, Takes, taken-by, here-shard, made-number, tok-commit, no-twice-commit}
+use Rattle.model.proofs.Basics.{eqb-eq, eqb-apart, not-yes, clash, Case, yes-case, no-case, case, orElse, orElse-none, isSome, some≢none, CaseO, is-some, is-none, caseO, map-none, map-or}
+use Rattle.model.proofs.Entries.{look, OneEach, put, look-put-same, look-put-other, look-put-elim, one-each-put, outcome-yes, abort≢commit, wait≢commit}
+use Rattle.model.proofs.Holdings.{NoTwice, taken, taken-by, here-shard, made-number, tok-commit, no-twice-commit}
 
 -- ---- Votes and registrations, as the log has them
 

@@ -1,38 +1,33 @@
 -- Further laws, each in one line: what a refused call and a repeat leave, tokens found available once, and amounts that balance.
-use Prim.Native.Nat.{ℕ, zero, suc, _+_, _<_, _≤_}
+use Prim.Native.Nat.{ℕ, suc, _+_}
 use native.Mathlib.Omega.{arith}
-use mathlib.Core.Path.{_≡_, refl, ap, sym, _∙_, subst}
-use mathlib.Core.Logic.{_≢_, _⊎_, inl, inr, ⊎-elim}
-use mathlib.Core.Bool.{Bool, true, false, cond, _&&_, not, true≢false}
-use mathlib.Core.Option.{Option, none, some}
-use mathlib.Core.List.{List, [], _∷_, _++_, List·Memᴰ, List·Memᴰ·head, List·Memᴰ·tail}
-use lib.Dec.{eqb}
-use lib.ListN.{set, getD}
+use mathlib.Core.Path.{_≡_, refl, ap, sym, _∙_}
+use mathlib.Core.Logic.{_≢_}
+use mathlib.Core.Bool.{Bool, true, false, cond, true≢false}
+use mathlib.Core.List.{List, _++_, [], _∷_, List·Memᴰ, List·Memᴰ·head, List·Memᴰ·tail}
+use lib.ListN.{length, set}
 use lib.Seq.{set-getD}
 use Rattle.transaction.specs.declared.Input.{Input}
 use Rattle.transaction.specs.declared.Transaction.{Transaction}
-use Rattle.transaction.specs.Lists.{any, total, firstOf, repeats}
+use Rattle.transaction.specs.Lists.{total, repeats}
 use Rattle.transaction.specs.Tokens.{usedInputs, usedOutputs}
 use Rattle.transaction.specs.Checks.{inputAmount, outputAmount, balanced}
-use Rattle.model.specs.declared.Known.{Known}
-use Rattle.model.specs.declared.Outcome.{Outcome}
 use Rattle.model.specs.declared.Answer.{Answer}
 use Rattle.model.specs.declared.Answer.the-variants.{Refused, Minted, Registered, Heard, Again}
-use Rattle.model.specs.Steps.{Limits, Ledger, emptyLedger, heardFrom, hearing, outcomeOf, isFor, entryOf, afterVote}
-use Rattle.model.specs.Shard.{Call, mint, register, deliver, hasNumber, isOther, otherVerdict, deliverForm, deliverRefusals, hear, shardStep}
-use Rattle.model.specs.Answers.{carriedOut}
-use Rattle.model.specs.Cluster.{ledgerAt, gave, notGiven, atShard, clusterStep}
-use Rattle.model.specs.Model.{Entry, Model, emptyModel, entryFor, step, after, play}
+use Rattle.model.specs.Steps.{Limits, Ledger, emptyLedger}
+use Rattle.model.specs.Shard.{Call, mint, register, deliver, shardStep}
+use Rattle.model.specs.Cluster.{ledgerAt, notGiven, atShard, clusterStep}
+use Rattle.model.specs.Model.{Entry, Model, emptyModel, entryFor, step, after, answers, play}
 use Rattle.model.specs.Demand.{committed}
-use Rattle.model.proofs.Basics.{eqb-eq, eqb-yes, eqb-apart, both, and-intro, not-yes, not-no, not-is, clash, passed, first-behind}
+use Rattle.model.proofs.Basics.{eqb-eq}
 use Rattle.model.proofs.Lookups.{alone-repeats}
-use Rattle.model.proofs.Entries.{sameNumber, whole-known, entry-look}
-use Rattle.model.proofs.Invariant.{Voted}
-use Rattle.model.proofs.Refusals.{FormPasses, RegisterPasses}
+use Rattle.model.proofs.Entries.{sameNumber}
 use Rattle.model.proofs.Effects.{ShardEffect, shard-refused, shard-minted, shard-registered, shard-heard, shard-again, shard-effect, Effect, did-refuse, did-mint, did-register, did-hear, did-repeat, effect}
-use Rattle.model.proofs.Steps.{Inv, play-inv, gave-vote}
-use Rattle.model.proofs.Decisions.{voted-same}
+use Rattle.model.proofs.Steps.{play-inv}
 use Rattle.model.proofs.Order.{committed-logged}
+use Rattle.model.proofs.Holdings.{here-shard, in-here}
+use Rattle.model.proofs.Invariant.{voted-available}
+use Rattle.model.proofs.Decisions.{commit-at, commit-votes}
 
 -- ---- What changes nothing
 
@@ -108,6 +103,20 @@ available-once limits calls a b x y ma mb s mx my e =
     ap (λ (r : Entry). r .transaction)
     (play-inv limits calls .logged .disjoint a b ma mb s x y mx my (λ i. e i .creator) (λ i. e i .index))
 
+-- two distinct committed transactions never name one token: a token is destroyed once
+pub spent-once : (limits : Limits) (calls : List Call) (t s : Transaction) (x y : Input) → committed (play limits calls) t ≡ true → committed (play limits calls) s ≡ true
+    → List·Memᴰ x (usedInputs t) → List·Memᴰ y (usedInputs s) → x .token ≡ y .token → t ≡ s
+spent-once limits calls t s x y ct cs mx my e =
+    let model : Model = play limits calls in
+    let w = play-inv limits calls in
+    let a = commit-at limits model w t ct in
+    let b = commit-at limits model w s cs in
+    let v = commit-votes limits model w (a .0) t (a .1) (x .token .shard) (here-shard (x .token .shard) t x (in-here t x mx) .2) in
+    let u = commit-votes limits model w (b .0) s (b .1) (y .token .shard) (here-shard (y .token .shard) s y (in-here s y my) .2) in
+    sym (v .of)
+    ∙ available-once limits calls (v .entry) (u .entry) x y (v .logged) (u .logged) (v .at ∙ (λ i. e i .shard) ∙ sym (u .at)) (voted-available v x (in-here t x mx)) (voted-available u y (in-here s y my)) e
+    ∙ u .of
+
 -- no shard knows two transactions of one number
 pub one-number : (limits : Limits) (calls : List Call) (p : ℕ) → repeats sameNumber (ledgerAt limits (play limits calls .shards) p .known) ≡ false
 one-number limits calls p = alone-repeats sameNumber (ledgerAt limits (play limits calls .shards) p .known) (play-inv limits calls .at p .core .one-each)
@@ -144,69 +153,23 @@ committed-balance limits calls t c =
     let b : balanced t ≡ true = ap balanced (sym (r .2)) ∙ balanced-after limits 1 (emptyModel limits) (λ e m. elim m [ ]) calls (r .0) (r .1) in
     eqb-eq (total inputAmount (usedInputs t)) (total outputAmount (usedOutputs t)) b
 
--- ---- Refusal 12 is met at a lone shard only: in a cluster, a sender that has given a vote has given no other
+-- ---- Lists of calls one behind the other
 
--- the other verdict is neither none nor this one
-other-clash : (heard verdict : ℕ) → otherVerdict heard verdict ≡ true → (heard ≡ 0 → ⊥) × (heard ≡ verdict + 1 → ⊥)
-other-clash heard verdict e =
-    let r = both (not (eqb heard 0)) (not (eqb heard (verdict + 1))) e in
-    (eqb-apart (not-is (r .0)), eqb-apart (not-is (r .1)))
+-- the model after both
+pub after-append : (limits : Limits) (place : ℕ) (model : Model) (calls more : List Call)
+    → after limits place model (calls ++ more) ≡ after limits (length calls + place) (after limits place model calls) more
+unfolding after
+after-append limits place model [] more = ap (λ (n : ℕ). after limits n model more) (omega arith)
+after-append limits place model (call ∷ calls) more =
+    after-append limits (suc place) (step limits place model call .0) calls more
+    ∙ ap (λ (n : ℕ). after limits n (after limits (suc place) (step limits place model call .0) calls) more) (omega arith)
 
--- the votes that shards have heard and given are of one mind
-no-other-verdict : (limits : Limits) (model : Model) → Inv limits model → (p sender verdict : ℕ) (t : Transaction) → any (isFor t) (ledgerAt limits (model .shards) p .known) ≡ true
-    → gave (ledgerAt limits (model .shards) sender) sender verdict t ≡ true → otherVerdict (heardFrom sender (entryOf t (ledgerAt limits (model .shards) p .known))) verdict ≡ true → ⊥
-no-other-verdict limits model w p sender verdict t known given other =
-    let l : List Known = ledgerAt limits (model .shards) p .known in
-    let r = entry-look t l (w .at p .core .one-each) known in
-    let h = other-clash (heardFrom sender (entryOf t l)) verdict other in
-    let v = subst (λ (s : Transaction). Voted (model .log) sender s (heardFrom sender (entryOf t l))) (r .1) (w .at p .core .votes (t .number) (entryOf t l) (r .0) sender (h .0)) in
-    h .1 (voted-same limits model w sender t (heardFrom sender (entryOf t l)) (verdict + 1) v (gave-vote limits model w sender verdict t given))
-
--- where a shard's table says 12, the vote passed 3 to 6, the transaction is known, and the other verdict was heard
-twelve-says : (limits : Limits) (p : ℕ) (ledger : Ledger) (sender verdict : ℕ) (t : Transaction) → firstOf (deliverRefusals limits p ledger p sender verdict t) ≡ 12
-    → (firstOf (deliverForm limits p p sender verdict t) ≡ 0) × (any (isFor t) (ledger .known) ≡ true) × (otherVerdict (heardFrom sender (entryOf t (ledger .known))) verdict ≡ true)
-unfolding deliverRefusals deliverForm
-twelve-says limits p ledger sender verdict t e =
-    let r = first-behind 12 (deliverForm limits p p sender verdict t) ((not (any (hasNumber t) (ledger .known)), 11) ∷ (any (isOther t) (ledger .known), 7) ∷ (otherVerdict (heardFrom sender (entryOf t (ledger .known))) verdict, 12) ∷ []) refl e in
-    let s = first-behind 12 ((not (any (hasNumber t) (ledger .known)), 11) ∷ (any (isOther t) (ledger .known), 7) ∷ []) ((otherVerdict (heardFrom sender (entryOf t (ledger .known))) verdict, 12) ∷ []) refl (r .1) in
-    let g = passed ((not (any (hasNumber t) (ledger .known)), 11) ∷ (any (isOther t) (ledger .known), 7) ∷ []) refl (s .0) in
-    (r .0, whole-known t (ledger .known) (not-no (any (hasNumber t) (ledger .known)) (g .0)) (g .1 .0), last (otherVerdict (heardFrom sender (entryOf t (ledger .known))) verdict) (s .1))
-  where
-    last : (b : Bool) → _≡_ {A = ℕ} (cond b 12 0) 12 → b ≡ true
-    last true e = refl
-    last false e = absurd (eqb-apart {m = 0} {n = 12} refl e)
-
--- the number with which a vote is refused at a shard is its table's
-deliver-number : (limits : Limits) (p : ℕ) (ledger : Ledger) (sender verdict : ℕ) (t : Transaction) (n : ℕ) → shardStep limits p ledger (deliver p sender verdict t) .1 ≡ Refused n
-    → firstOf (deliverRefusals limits p ledger p sender verdict t) ≡ n
-unfolding shardStep hear
-deliver-number limits p ledger sender verdict t n e = go (eqb (firstOf (deliverRefusals limits p ledger p sender verdict t)) 0) (eqb (heardFrom sender (entryOf t (ledger .known))) 0) e
-  where
-    yes : Ledger × Answer
-    yes = (afterVote p ledger sender verdict t, Heard (outcomeOf (hearing sender verdict (entryOf t (ledger .known)))))
-
-    again : Ledger × Answer
-    again = (ledger, Again (outcomeOf (entryOf t (ledger .known))))
-
-    go : (a b : Bool) → cond a (cond b yes again) (ledger, Refused (firstOf (deliverRefusals limits p ledger p sender verdict t))) .1 ≡ Refused n → firstOf (deliverRefusals limits p ledger p sender verdict t) ≡ n
-    go true true e = let z : _≡_ {A = ℕ} 0 1 = cc in absurd (omega arith)
-    go true false e = let z : _≡_ {A = ℕ} 0 1 = cc in absurd (omega arith)
-    go false b e = cc
-
--- 12 is never answered in a cluster
-pub never-twelve : (limits : Limits) (calls : List Call) (p sender verdict : ℕ) (t : Transaction) → clusterStep limits (play limits calls .shards) (deliver p sender verdict t) .1 ≢ Refused 12
-unfolding clusterStep atShard notGiven
-never-twelve limits calls p sender verdict t e = go (notGiven limits shards p sender verdict t) refl e
-  where
-    shards : List Ledger
-    shards = play limits calls .shards
-
-    done : List Ledger × Answer
-    done = atShard limits shards p (deliver p sender verdict t)
-
-    go : (b : Bool) → notGiven limits shards p sender verdict t ≡ b → cond b (shards, Refused 16) done .1 ≡ Refused 12 → ⊥
-    go true g e = let z : _≡_ {A = ℕ} 16 12 = cc in omega arith
-    go false g e =
-        let r = twelve-says limits p (ledgerAt limits shards p) sender verdict t (deliver-number limits p (ledgerAt limits shards p) sender verdict t 12 e) in
-        let given : gave (ledgerAt limits shards sender) sender verdict t ≡ true = not-no (gave (ledgerAt limits shards sender) sender verdict t) (not-yes (λ n. clash (and-intro (eqb-yes (r .0)) n) g)) in
-        no-other-verdict limits (play limits calls) (play-inv limits calls) p sender verdict t (r .1) given (r .2)
+-- and their answers
+pub answers-append : (limits : Limits) (place : ℕ) (model : Model) (calls more : List Call)
+    → answers limits place model (calls ++ more) ≡ answers limits place model calls ++ answers limits (length calls + place) (after limits place model calls) more
+unfolding after answers
+answers-append limits place model [] more = ap (λ (n : ℕ). answers limits n model more) (omega arith)
+answers-append limits place model (call ∷ calls) more =
+    ap (λ (l : List Answer). step limits place model call .1 ∷ l)
+    (answers-append limits (suc place) (step limits place model call .0) calls more
+    ∙ ap (λ (n : ℕ). answers limits (suc place) (step limits place model call .0) calls ++ answers limits n (after limits (suc place) (step limits place model call .0) calls) more) (omega arith))

@@ -1,26 +1,22 @@
 -- Demand 3, the serial order: it lists the committed transactions, each once, strictly by last registration.
-use Prim.Native.Nat.{ℕ, suc, _<_, _≤_}
+use Prim.Native.Nat.{ℕ, suc, _<_}
 use native.Mathlib.Omega.{arith}
 use mathlib.Core.Path.{_≡_, refl, ap, sym, _∙_, subst}
 use mathlib.Core.Logic.{_↔_}
-use mathlib.Core.Bool.{Bool, true, false, cond, _&&_, _||_, not}
+use mathlib.Core.Bool.{Bool, true, false, cond, _&&_}
 use mathlib.Core.List.{List, [], _∷_, reverseAux, List·Memᴰ, List·Memᴰ·head, List·Memᴰ·tail}
 use Rattle.transaction.specs.declared.Transaction.{Transaction}
-use Rattle.transaction.specs.Tokens.{sameTransaction, shardsOf}
 use Rattle.model.specs.declared.Answer.{Answer}
-use Rattle.model.specs.declared.Known.{Known}
 use Rattle.model.specs.Steps.{Limits}
 use Rattle.model.specs.Shard.{Call}
-use Rattle.model.specs.Cluster.{ledgerAt}
 use Rattle.model.specs.Model.{Entry, Model, emptyModel, entryFor, step, after, play}
-use Rattle.model.specs.Demand.{committed, logsIt, isLast, serialFrom, serialOrder, lastPlace, ByLast, EachOnce}
-use Rattle.model.proofs.Basics.{not-yes, both, and-intro, clash, Case, yes-case, no-case, case}
+use Rattle.model.specs.Demand.{committed, isLast, serialFrom, serialOrder, lastPlace, ByLast, EachOnce}
+use Rattle.model.proofs.Basics.{not-yes, both, and-intro, Case, yes-case, no-case, case}
 use Rattle.model.proofs.Entries.{same-eq, same-true, commit≢wait}
-use Rattle.model.proofs.Invariant.{Voted}
 use Rattle.model.proofs.Effects.{Effect, did-refuse, did-mint, did-register, did-hear, did-repeat, effect}
-use Rattle.model.proofs.Steps.{Inv, play-inv}
-use Rattle.model.proofs.Decisions.{Knows, knows, commit-at}
-use Rattle.model.proofs.Serial.{last-entry, last-of, last-tail, late}
+use Rattle.model.proofs.Steps.{Inv}
+use Rattle.model.proofs.Decisions.{knows, commit-at}
+use Rattle.model.proofs.Serial.{last-entry, last-tail, late}
 
 -- ---- Exactly the committed transactions, each once
 

@@ -1,12 +1,11 @@
 -- What a table of refusals that answers 0 says: every test of it has passed.
 use Prim.Native.Nat.{ℕ, _+_, _≤_, _<_}
 use native.Mathlib.Omega.{arith}
-use mathlib.Core.Path.{_≡_, refl, ap, sym, _∙_, subst}
-use mathlib.Core.Logic.{_⊎_, inl, inr}
-use mathlib.Core.Bool.{Bool, true, false, cond, _&&_, _||_, not}
-use mathlib.Core.List.{List, [], _∷_, _++_, List·Memᴰ, Memᴰ·cast}
+use mathlib.Core.Path.{_≡_, refl}
+use mathlib.Core.Bool.{Bool, true, false, _&&_, not}
+use mathlib.Core.List.{List, [], _∷_, List·Memᴰ, Memᴰ·cast}
 use borrow.Author.Tests.{leb-true, leb-false, ltb-true, ltb-false}
-use lib.Dec.{eqb, leb, ltb}
+use lib.Dec.{eqb, leb}
 use lib.ListN.{length, getD}
 use Rattle.transaction.specs.declared.Transaction.{Transaction}
 use Rattle.transaction.specs.Lists.{any, firstOf}
@@ -16,7 +15,7 @@ use Rattle.transaction.proofs.Causes.{counts}
 use Rattle.model.specs.declared.Known.{Known}
 use Rattle.model.specs.Steps.{Limits, Ledger, isFor, entryOf, heardFrom, outputsHere}
 use Rattle.model.specs.Shard.{hasNumber, isOther, reserved, otherVerdict, mintRefusals, registerRefusals, deliverForm, deliverRefusals}
-use Rattle.model.proofs.Basics.{eqb-eq, eqb-apart, clash, both, neither, not-no, not-is, passed, first-append, any-at}
+use Rattle.model.proofs.Basics.{eqb-eq, eqb-apart, both, not-no, not-is, passed, first-append, any-at}
 
 -- ---- Parts of the field checks
 

@@ -1,12 +1,11 @@
 -- Demand 3, the serial ledger: the committed transactions one by one, by last registration, from the genesis tokens.
 -- The run succeeds in every state; where every committed transaction is decided at all its shards, it ends in what the shards hold.
-use Prim.Native.Nat.{ℕ, zero, suc, _<_}
+use Prim.Native.Nat.{ℕ}
 use mathlib.Core.Path.{_≡_, refl, ap, sym, _∙_, subst}
-use mathlib.Core.Logic.{_↔_, _≢_, _⊎_, inl, inr, ⊎-elim}
-use mathlib.Core.Bool.{Bool, true, false, cond, _&&_, _||_, not, true≢false, false≢true}
+use mathlib.Core.Logic.{_⊎_, inl, inr, ⊎-elim}
+use mathlib.Core.Bool.{Bool, true, false, cond, _&&_, _||_, not}
 use mathlib.Core.Option.{Option, none, some}
-use mathlib.Core.List.{List, [], _∷_, _++_, List·Memᴰ, List·Memᴰ·head, List·Memᴰ·tail}
-use lib.Dec.{eqb}
+use mathlib.Core.List.{List, [], _∷_, List·Memᴰ, List·Memᴰ·head, List·Memᴰ·tail}
 use Rattle.transaction.specs.declared.TokenId.{TokenId}
 use Rattle.transaction.specs.declared.Input.{Input}
 use Rattle.transaction.specs.declared.Transaction.{Transaction}
@@ -17,17 +16,17 @@ use Rattle.model.specs.declared.Token.{Token}
 use Rattle.model.specs.declared.Known.{Known}
 use Rattle.model.specs.declared.Outcome.{Outcome}
 use Rattle.model.specs.declared.Outcome.the-variants.{Wait, Commit, Abort}
-use Rattle.model.specs.Lists.{lookup, mapOption}
+use Rattle.model.specs.Lists.{mapOption, andThen}
 use Rattle.model.specs.Steps.{Limits, inputsHere, outcomeOf, madeHere}
 use Rattle.model.specs.Cluster.{ledgerAt}
 use Rattle.model.specs.Model.{Entry, Model}
-use Rattle.model.specs.Demand.{outcomeAt, committed, Settled, logsIt, isLast, serialFrom, serialOrder, EachOnce, Value, SerialLedger, inputValue, tokenValue, tokenAt, genesisLedger, spend, serialRun, heldValue, SerialEnd}
-use Rattle.model.proofs.Basics.{eqb-eq, eqb-yes, eqb-apart, not-yes, not-no, both, and-intro, clash, Case, yes-case, no-case, case, orElse, orElse-none, some≢none, some-inj, CaseO, is-some, is-none, caseO, same-some, any-at, any-of}
+use Rattle.model.specs.Demand.{outcomeAt, committed, Settled, logsIt, isLast, serialFrom, Value, SerialLedger, inputValue, tokenValue, tokenAt, genesisLedger, spend, serialRun, heldValue, SerialEnd}
+use Rattle.model.proofs.Basics.{not-yes, both, and-intro, clash, Case, yes-case, no-case, case, orElse, orElse-none, some≢none, some-inj, CaseO, is-some, is-none, caseO, same-some, any-at, any-of}
 use Rattle.model.proofs.Entries.{same-eq, same-true, look, commit≢wait}
-use Rattle.model.proofs.Holdings.{taken, Takes, taken-by, here-shard, in-here, made-number, made-shard}
-use Rattle.model.proofs.Invariant.{Voted, voted-available, Registration, Complete, onCommit, gain, byCommit, made, Consumed, Source, from-genesis, from-commit, Sources, Core, Ok}
-use Rattle.model.proofs.Steps.{Once, Logged, genesisAt, Inv}
-use Rattle.model.proofs.Decisions.{Knows, knows, outcome-of, agree-at, commit-votes, commit-at, committed-of}
+use Rattle.model.proofs.Holdings.{idOf, taken, Takes, taken-by, here-shard, in-here, made-number, made-shard}
+use Rattle.model.proofs.Invariant.{Voted, voted-available, Complete, onCommit, gain, byCommit, made, Consumed, Source, from-genesis, from-commit, Sources}
+use Rattle.model.proofs.Steps.{Once, genesisAt, Inv}
+use Rattle.model.proofs.Decisions.{outcome-of, agree-at, commit-votes, commit-at, committed-of}
 use Rattle.model.proofs.Spending.{Spends, spends}
 
 -- ---- Transactions that no newer entry of the log is of
@@ -168,8 +167,8 @@ module _ (limits : Limits) (model : Model) (w : Inv limits model) where
   record Claim (newer rest : List Entry) : Type 0 where
     ledger : SerialLedger
     runs : serialRun (genesisLedger (model .minted)) (serialFrom model newer rest) ≡ some ledger
-    spent : (p m i : ℕ) → Spent newer p m i → ledger (record { shard = p; creator = m; index = i }) ≡ none
-    unspent : (p m i : ℕ) → (Spent newer p m i → ⊥) → ledger (record { shard = p; creator = m; index = i }) ≡ madeIn newer p m i
+    spent : (p m i : ℕ) → Spent newer p m i → ledger (idOf p m i) ≡ none
+    unspent : (p m i : ℕ) → (Spent newer p m i → ⊥) → ledger (idOf p m i) ≡ madeIn newer p m i
 
   -- where nothing is left in the rest: the genesis tokens
   claim-start : (newer : List Entry) → Split newer [] → Claim newer []
@@ -284,12 +283,15 @@ module _ (limits : Limits) (model : Model) (w : Inv limits model) where
 
     -- the last entry of a committed transaction
     module _ (u : isLast newer (r .transaction) ≡ true) (c : committed model (r .transaction) ≡ true) where
+      -- its transaction
       abbrev t : Transaction
       t = r .transaction
 
+      -- the shard of this entry takes part
       own-member : List·Memᴰ (r .shard) (shardsOf t)
       own-member = w .logged .member r (sp .rest-in r (List·Memᴰ·head refl))
 
+      -- and knows it
       own-at : At (r .shard) t
       own-at = at-entry r (sp .rest-in r (List·Memᴰ·head refl)) (r .shard) refl t refl
 
@@ -304,17 +306,43 @@ module _ (limits : Limits) (model : Model) (w : Inv limits model) where
           (voted-available v₁ x m) (voted-available v₂ (y .input) (y .is-here)) (sym (y .is-creator)) (sym (y .is-index)) in
           last-entry (r ∷ newer) (d .transaction) (d .is-last) r (List·Memᴰ·head refl) (sym (v₁ .of) ∙ ap (λ (e : Entry). e .transaction) same-entry ∙ v₂ .of)
 
+      -- each input is present
       is-present : (x : Input) → List·Memᴰ x (usedInputs t) → ih .ledger (x .token) ≡ some (inputValue x)
       is-present x m =
           let q : ℕ = x .token .shard in
           ih .unspent q (x .token .creator) (x .token .index) (spent-not q x (in-here t x m))
           ∙ source-made-in q x (rest-source q t c u x (in-here t x m))
 
+      -- no token is named twice
       is-distinct : namedTwice t ≡ false
       is-distinct = subst (λ (s : Transaction). namedTwice s ≡ false) (own-at .whole) (w .at (r .shard) .core .distinct (t .number) (own-at .entry) (own-at .is-known))
 
+      -- nothing was made under its number before
+      is-free : (p m i : ℕ) (k : Token) → tokenAt (madeHere p t) m i ≡ some k → ih .ledger (idOf p m i) ≡ none
+      is-free p m i k z = go (caseO (ih .ledger (idOf p m i)))
+        where
+          a : At p t
+          a = at-shard t c p (made-shard p t m i z)
+
+          e : m ≡ t .number
+          e = made-number p t m i z
+
+          passed : isLast (r ∷ newer) t ≡ false
+          passed = not-yes (λ y. last-entry (r ∷ newer) t y r (List·Memᴰ·head refl) refl)
+
+          unmade : madeIn (r ∷ newer) p m i ≡ none
+          unmade =
+              (λ j. orElse (w .at p .core .zero-only m i (λ z. positive-at p t a (sym e ∙ z)) j) (byCommitIn (r ∷ newer) p ((ap (look (known-at p)) e ∙ a .is-known) j) m i))
+              ∙ (λ j. cond (isLast (r ∷ newer) (a .whole j) && committed model (a .whole j)) (gain p (a .whole j) m i) none)
+              ∙ (λ j. cond (passed j && committed model t) (gain p t m i) none)
+
+          go : CaseO (ih .ledger (idOf p m i)) → ih .ledger (idOf p m i) ≡ none
+          go (is-none y) = y
+          go (is-some v y) = ih .unspent p m i (λ d. some≢none y (ih .spent p m i d)) ∙ unmade
+
+      -- so it is carried out
       spending : Spends t (ih .ledger)
-      spending = spends t (ih .ledger) is-distinct is-present
+      spending = spends t (ih .ledger) is-distinct is-present is-free
 
       -- what it makes is not taken by a committed transaction of the rest
       no-gain : (p m i : ℕ) → Spent newer p m i → gain p t m i ≡ none
@@ -336,14 +364,15 @@ module _ (limits : Limits) (model : Model) (w : Inv limits model) where
           go (is-some h z) =
               absurd (bad (at-shard t c p (made-shard p t m i z)) (made-number p t m i z) (rest-source p (d .transaction) (d .is-committed) (d .is-last) (y .input) (y .is-here)))
 
-      spent-new : (p m i : ℕ) → Spent newer p m i → spending .left (record { shard = p; creator = m; index = i }) ≡ none
+      -- what it and the older ones take is gone
+      spent-new : (p m i : ℕ) → Spent newer p m i → spending .left (idOf p m i) ≡ none
       spent-new p m i d =
           spending .is-left p m i
-          ∙ ap (λ (o : Option Value). orElse o (cond (taken p t m i) none (ih .ledger (record { shard = p; creator = m; index = i })))) (no-gain p m i d)
+          ∙ ap (λ (o : Option Value). orElse o (cond (taken p t m i) none (ih .ledger (idOf p m i)))) (no-gain p m i d)
           ∙ go (case (isLast (r ∷ newer) (d .transaction))) (case (taken p t m i))
         where
           old : Option Value
-          old = ih .ledger (record { shard = p; creator = m; index = i })
+          old = ih .ledger (idOf p m i)
 
           go : Case (isLast (r ∷ newer) (d .transaction)) → Case (taken p t m i) → cond (taken p t m i) none old ≡ none
           go z (yes-case y) = ap (λ (c : Bool). cond c none old) y
@@ -352,10 +381,11 @@ module _ (limits : Limits) (model : Model) (w : Inv limits model) where
               ∙ ih .spent p m i (record { transaction = d .transaction; is-committed = d .is-committed; is-taken = d .is-taken; is-last = z })
           go (no-case z) (no-case y) = clash (subst (λ (s : Transaction). taken p s m i ≡ true) (sym (late r newer (d .transaction) (d .is-last) z)) (d .is-taken)) y
 
-      unspent-new : (p m i : ℕ) → (Spent newer p m i → ⊥) → spending .left (record { shard = p; creator = m; index = i }) ≡ madeIn newer p m i
+      -- and what they make and do not take is there
+      unspent-new : (p m i : ℕ) → (Spent newer p m i → ⊥) → spending .left (idOf p m i) ≡ madeIn newer p m i
       unspent-new p m i h =
           spending .is-left p m i
-          ∙ (λ j. orElse (gain p t m i) (cond (untaken j) none (ih .ledger (record { shard = p; creator = m; index = i }))))
+          ∙ (λ j. orElse (gain p t m i) (cond (untaken j) none (ih .ledger (idOf p m i))))
           ∙ ap (λ (o : Option Value). orElse (gain p t m i) o) (ih .unspent p m i (λ d. h (spent-tail p m i d)))
           ∙ go (caseO (tokenAt (madeHere p t) m i))
         where
@@ -378,12 +408,13 @@ module _ (limits : Limits) (model : Model) (w : Inv limits model) where
               ap (λ (o : Option Value). orElse o (madeIn (r ∷ newer) p m i)) g
               ∙ made-shift p m i (λ k e y a l. ap (λ (s : Transaction). gain p s m i) (sym (late r newer (k .transaction) a l)) ∙ g)
 
+      -- the run with it
       claim-emit : Claim newer (r ∷ older)
       unfolding serialFrom serialRun
       claim-emit = record {
         ledger = spending .left;
         runs = ap (λ (b : Bool). serialRun (genesisLedger (model .minted)) (cond b (t ∷ serialFrom model (r ∷ newer) older) (serialFrom model (r ∷ newer) older))) (and-intro u c)
-            ∙ ap (spend t) (ih .runs) ∙ spending .is-spent;
+            ∙ ap (andThen (spend t)) (ih .runs) ∙ spending .is-spent;
         spent = spent-new;
         unspent = unspent-new;
       }

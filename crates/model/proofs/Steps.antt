@@ -1,36 +1,35 @@
 -- The invariant holds after every list of calls, and what a shard knows stays known.
-use Prim.Native.Nat.{ℕ, zero, suc, _+_, _<_, _≤_}
+use Prim.Native.Nat.{ℕ, suc, _+_, _<_}
 use native.Mathlib.Omega.{arith}
 use mathlib.Core.Path.{_≡_, refl, ap, sym, _∙_, subst}
 use mathlib.Core.Logic.{_↔_, _⊎_, inl, inr, ⊎-elim}
-use mathlib.Core.Bool.{Bool, true, false, cond, _&&_, _||_, not, true≢false, false≢true}
+use mathlib.Core.Bool.{Bool, true, false, cond, _&&_, true≢false}
 use mathlib.Core.Option.{Option, none, some}
-use mathlib.Core.List.{List, [], _∷_, _++_, map, List·Memᴰ, List·Memᴰ·head, List·Memᴰ·tail, Memᴰ·cast}
-use lib.Dec.{eqb, ltb}
+use mathlib.Core.List.{List, [], _∷_, _++_, List·Memᴰ, List·Memᴰ·head, List·Memᴰ·tail}
+use lib.Dec.{eqb}
 use lib.ListN.{length, getD, set, replicate, length-set, length-replicate}
-use Rattle.transaction.specs.declared.TokenId.{TokenId}
 use Rattle.transaction.specs.declared.Input.{Input}
 use Rattle.transaction.specs.declared.Transaction.{Transaction}
 use Rattle.transaction.specs.Lists.{any, all}
-use Rattle.transaction.specs.Tokens.{usedInputs, shardsOf, sameToken}
+use Rattle.transaction.specs.Tokens.{shardsOf, sameToken}
 use Rattle.transaction.specs.Checks.{namedTwice}
 use Rattle.model.specs.declared.Token.{Token}
 use Rattle.model.specs.declared.Known.{Known}
 use Rattle.model.specs.declared.Outcome.{Outcome}
 use Rattle.model.specs.declared.Outcome.the-variants.{Wait, Commit, Abort}
 use Rattle.model.specs.declared.Answer.{Answer}
-use Rattle.model.specs.Lists.{keep, find, lookup, mapOption}
+use Rattle.model.specs.Lists.{mapOption}
 use Rattle.model.specs.Steps.{Limits, Ledger, emptyLedger, genesisToken, inputsHere, available, availableHere, pledgeIf, pledges, vote, noted, newlyKnown, heardFrom, hearing, outcomeOf, settle, isFor, placeOf, entryOf, afterMint, afterRegister, afterVote}
 use Rattle.model.specs.Shard.{Call}
 use Rattle.model.specs.Cluster.{emptyShards, ledgerAt, hasGiven, gave}
 use Rattle.model.specs.Model.{Entry, Genesis, Model, emptyModel, entryFor, step, after, play}
-use Rattle.model.specs.Demand.{Value, inputValue, tokenValue, hasSpot, tokenAt, sameSpot, genesisId, genesisLedger}
-use Rattle.model.proofs.Basics.{eqb-eq, eqb-same, eqb-yes, eqb-no, eqb-apart, not-yes, clash, Case, yes-case, no-case, case, both, and-intro, orElse, orElse-none, isSome, some≢none, some-inj, CaseO, is-some, is-none, caseO, map-or, all-at, all-of, any-at, keep-in, keep-out, set-elim, getD-same}
-use Rattle.model.proofs.Lookups.{lookup-append, Alone, alone-append}
-use Rattle.model.proofs.Entries.{same-eq, look, look-number, mem-look, put, look-put-same, look-put-other, append-put, set-put, number-unknown, whole-known, entry-look, outcome-yes}
-use Rattle.model.proofs.Holdings.{NoTwice, tok-name, mem-tok, Available, available-token, tok-pledges, value-pledged, pledge-stays, pledge-set, no-twice-pledges, here-shard}
-use Rattle.model.proofs.Invariant.{Voted, voted-more, Registration, onCommit, gain, byCommit, made, Consumed, Pledged, Source, from-genesis, from-commit, Sources, Core, Ok, unmade, held-made, Enters, core-enter, bound-enter, bound-more, no-twice-enter}
-use Rattle.model.proofs.Refusals.{shard-below, number-positive, part-in, MintPasses, FormPasses, RegisterPasses, DeliverPasses}
+use Rattle.model.specs.Demand.{Value, inputValue, tokenValue, hasSpot, tokenAt, sameSpot, genesisLedger}
+use Rattle.model.proofs.Basics.{eqb-eq, eqb-same, eqb-no, eqb-apart, not-yes, Case, yes-case, no-case, case, both, orElse, orElse-none, isSome, some≢none, some-inj, CaseO, is-some, is-none, caseO, map-or, all-at, all-of, any-at, keep-in, keep-out, set-elim, getD-same}
+use Rattle.model.proofs.Lookups.{lookup-append, alone-append}
+use Rattle.model.proofs.Entries.{same-eq, look, mem-look, put, look-put-same, look-put-other, append-put, set-put, number-unknown, whole-known, entry-look, outcome-yes}
+use Rattle.model.proofs.Holdings.{idOf, tok-name, mem-tok, available-token, tok-pledges, value-pledged, pledge-stays, pledge-set, no-twice-pledges}
+use Rattle.model.proofs.Invariant.{Voted, voted-more, onCommit, gain, byCommit, made, Consumed, Pledged, Source, from-genesis, from-commit, Sources, Core, Ok, unmade, held-made, Enters, core-enter, bound-enter, bound-more, no-twice-enter}
+use Rattle.model.proofs.Refusals.{shard-below, number-positive, part-in}
 use Rattle.model.proofs.Effects.{Effect, did-refuse, did-mint, did-register, did-hear, did-repeat, effect}
 
 -- ---- The log
@@ -54,7 +53,7 @@ pub record Logged (log : List Entry) : Type 0 where
 
 -- the value of a shard's genesis token, by creator and index
 abbrev pub genesisAt : List Genesis → ℕ → ℕ → ℕ → Option Value
-genesisAt minted p m i = genesisLedger minted (record { shard = p; creator = m; index = i })
+genesisAt minted p m i = genesisLedger minted (idOf p m i)
 
 -- what holds of the model
 pub record Inv (limits : Limits) (model : Model) : Type 0 where
@@ -444,10 +443,10 @@ module _ {limits : Limits} {log : List Entry} {p : ℕ} {genesis : ℕ → ℕ �
 
   -- the genesis tokens with it
   abbrev genesis′ : ℕ → ℕ → Option Value
-  genesis′ m j = cond (sameToken (record { shard = p; creator = 0; index = i }) (record { shard = p; creator = m; index = j })) (some value) (genesis m j)
+  genesis′ m j = cond (sameToken (idOf p 0 i) (idOf p m j)) (some value) (genesis m j)
 
   -- its id, at this shard
-  spot : (m j : ℕ) → sameToken (record { shard = p; creator = 0; index = i }) (record { shard = p; creator = m; index = j }) ≡ eqb 0 m && eqb i j
+  spot : (m j : ℕ) → sameToken (idOf p 0 i) (idOf p m j) ≡ eqb 0 m && eqb i j
   unfolding sameToken
   spot m j = ap (λ (b : Bool). b && eqb 0 m && eqb i j) (eqb-same p)
 

@@ -1,22 +1,20 @@
 -- How many votes bring a decision: a transaction of one shard is decided by its registration, one of k shards by exactly k − 1 fresh votes.
-use Prim.Native.Nat.{ℕ, zero, suc, _+_, _<_, _≤_}
+use Prim.Native.Nat.{ℕ, zero, suc, _+_, _<_}
 use native.Mathlib.Omega.{arith}
 use mathlib.Core.Path.{_≡_, refl, ap, sym, _∙_, subst}
 use mathlib.Core.Logic.{_↔_, _≢_}
-use mathlib.Core.Bool.{Bool, true, false, cond, _&&_, _||_, not}
-use mathlib.Core.List.{List, [], _∷_, List·Memᴰ, List·Memᴰ·head, List·Memᴰ·tail}
+use mathlib.Core.Bool.{Bool, true, false, cond, _&&_, not}
+use mathlib.Core.List.{List, [], _∷_, List·Memᴰ}
 use lib.Dec.{eqb}
 use lib.ListN.{length, getD, set, replicate, length-set}
 use lib.Seq.{getD-set-same, getD-set-other}
 use Rattle.transaction.specs.declared.Transaction.{Transaction}
-use Rattle.transaction.specs.Lists.{any, all}
 use Rattle.transaction.specs.Tokens.{shardsOf, takesPart}
 use Rattle.model.specs.declared.Token.{Token}
 use Rattle.model.specs.declared.Known.{Known}
-use Rattle.model.specs.declared.Outcome.{Outcome}
 use Rattle.model.specs.declared.Outcome.the-variants.{Wait, Commit, Abort}
 use Rattle.model.specs.Steps.{vote, noted, newlyKnown, heardFrom, hearing, isHeard, isYes, heardAll, allYes, decide, outcomeOf}
-use Rattle.model.proofs.Basics.{eqb-eq, eqb-same, eqb-yes, eqb-no, eqb-apart, not-yes, not-is, both, and-intro, clash, Case, yes-case, no-case, case, all-at, all-of, any-of, getD-same}
+use Rattle.model.proofs.Basics.{eqb-eq, eqb-same, eqb-yes, eqb-no, eqb-apart, not-yes, not-is, both, clash, Case, yes-case, no-case, case, all-at, all-of, any-of, getD-same}
 use Rattle.model.proofs.Entries.{commit≢wait, outcome-heard}
 use Rattle.model.proofs.Refusals.{part-in}
 

@@ -20,11 +20,11 @@ emptyShards limits = replicate 8 (emptyLedger limits)
 abbrev pub ledgerAt : Limits → List Ledger → ℕ → Ledger
 ledgerAt limits shards shard = getD shards shard (emptyLedger limits)
 
--- the sender has given this vote on this transaction
+-- this is the transaction, and this is the verdict noted from the sender
 abbrev pub hasGiven : ℕ → ℕ → Transaction → Known → Bool
 hasGiven sender verdict t k = isFor t k && eqb (heardFrom sender k) (verdict + 1)
 
--- as its own ledger has it
+-- the sender has given this vote on this transaction, as its own ledger has it
 unfoldable pub gave : Ledger → ℕ → ℕ → Transaction → Bool
 gave ledger sender verdict t = any (hasGiven sender verdict t) (ledger .known)
 

@@ -14,10 +14,9 @@ use Rattle.transaction.specs.declared.Transaction.{Transaction}
 use Rattle.transaction.specs.Lists.{any, repeats}
 use Rattle.transaction.specs.Tokens.{usedInputs, usedOutputs, shardsOf, sameToken, sameTransaction}
 use Rattle.model.specs.declared.Token.{Token}
-use Rattle.model.specs.declared.Known.{Known}
 use Rattle.model.specs.declared.Outcome.{Outcome}
 use Rattle.model.specs.declared.Outcome.the-variants.{Wait, Commit, Abort}
-use Rattle.model.specs.Lists.{lookup, mapOption, passes}
+use Rattle.model.specs.Lists.{lookup, mapOption, passes, isNone, andThen}
 use Rattle.model.specs.Steps.{Limits, Ledger, isFor, entryOf, heardAll, outcomeOf}
 use Rattle.model.specs.Shard.{Call}
 use Rattle.model.specs.Cluster.{ledgerAt}
@@ -41,7 +40,7 @@ outcomeAt limits model shard t = outcomeIn (ledgerAt limits (model .shards) shar
 abbrev pub heardAllAt : Limits → Model → ℕ → Transaction → Bool
 heardAllAt limits model shard t = heardAllIn (ledgerAt limits (model .shards) shard) t
 
--- a transaction is committed if some shard has decided commit for it
+-- the outcome is commit
 abbrev pub isCommit : Outcome → Bool
 isCommit Wait = false
 isCommit Commit = true
@@ -51,7 +50,7 @@ isCommit Abort = false
 abbrev pub commits : Transaction → Ledger → Bool
 commits t ledger = isCommit (outcomeIn ledger t)
 
--- some shard has
+-- a transaction is committed if some shard has
 unfoldable pub committed : Model → Transaction → Bool
 committed model t = any (commits t) (model .shards)
 
@@ -124,16 +123,16 @@ inputValue x = record { owner = x .owner; amount = x .amount }
 abbrev pub outputValue : Output → Value
 outputValue y = record { owner = y .owner; amount = y .amount }
 
--- at first, the genesis tokens given
+-- a genesis token's id
 abbrev pub genesisId : Genesis → TokenId
 genesisId g = record { shard = g .shard; creator = 0; index = g .index }
 
--- the ledger of these genesis tokens
+-- at first, the genesis tokens given
 unfoldable pub genesisLedger : List Genesis → SerialLedger
 genesisLedger [] id = none
 genesisLedger (g ∷ gs) id = cond (sameToken (genesisId g) id) (some (record { owner = g .owner; amount = g .amount })) (genesisLedger gs id)
 
--- a transaction takes away its inputs' tokens one by one, each there with that owner and that amount
+-- it is the owner and the amount that the input gives
 abbrev pub hasValue : Input → Value → Bool
 hasValue x v = eqb (v .owner) (x .owner) && eqb (v .amount) (x .amount)
 
@@ -145,36 +144,41 @@ present ledger x = passes (hasValue x) (ledger (x .token))
 abbrev pub without : SerialLedger → Input → SerialLedger
 without ledger x id = cond (sameToken (x .token) id) none (ledger id)
 
--- the ledger with the inputs taken away, where each is present at its turn
+-- a transaction takes away its inputs' tokens one by one, each there with that owner and that amount
 unfoldable pub takeInputs : List Input → SerialLedger → Option SerialLedger
 takeInputs [] ledger = some ledger
 takeInputs (x ∷ xs) ledger = cond (present ledger x) (takeInputs xs (without ledger x)) none
 
--- and adds each output under its shard, the transaction's number and its place among all outputs
+-- an output's id: its shard, the transaction's number and its place among all outputs
 abbrev pub outputId : ℕ → ℕ → Output → TokenId
 outputId number index y = record { shard = y .shard; creator = number; index = index }
 
--- the ledger with the outputs added; `index` is the first one's
-unfoldable pub addOutputs : ℕ → ℕ → List Output → SerialLedger → SerialLedger
-addOutputs number index [] ledger id = ledger id
-addOutputs number index (y ∷ ys) ledger id =
-    cond (sameToken (outputId number index y) id) (some (outputValue y)) (addOutputs number (suc index) ys ledger id)
+-- the ledger with one token more
+abbrev pub withToken : SerialLedger → TokenId → Value → SerialLedger
+withToken ledger new v id = cond (sameToken new id) (some v) (ledger id)
+
+-- and adds each output under its id, which must be free; `index` is the first one's
+unfoldable pub addOutputs : ℕ → ℕ → List Output → SerialLedger → Option SerialLedger
+addOutputs number index [] ledger = some ledger
+addOutputs number index (y ∷ ys) ledger =
+    cond (isNone (ledger (outputId number index y)))
+    (addOutputs number (suc index) ys (withToken ledger (outputId number index y) (outputValue y)))
+    none
 
 -- one transaction, on the ledger that the earlier ones left
-unfoldable pub spend : Transaction → Option SerialLedger → Option SerialLedger
-spend t none = none
-spend t (some ledger) = mapOption (addOutputs (t .number) 0 (usedOutputs t)) (takeInputs (usedInputs t) ledger)
+unfoldable pub spend : Transaction → SerialLedger → Option SerialLedger
+spend t ledger = andThen (addOutputs (t .number) 0 (usedOutputs t)) (takeInputs (usedInputs t) ledger)
 
 -- the transactions one by one; the earliest stands last
 unfoldable pub serialRun : SerialLedger → List Transaction → Option SerialLedger
 serialRun ledger [] = some ledger
-serialRun ledger (t ∷ earlier) = spend t (serialRun ledger earlier)
+serialRun ledger (t ∷ earlier) = andThen (spend t) (serialRun ledger earlier)
 
--- what the eight shards hold under an id
+-- it has that creator and that index
 abbrev pub hasSpot : ℕ → ℕ → Token → Bool
 hasSpot creator index token = eqb (token .creator) creator && eqb (token .index) index
 
--- the token of a creator and an index
+-- the token of that creator and that index, if there is one
 abbrev pub tokenAt : List Token → ℕ → ℕ → Option Token
 tokenAt tokens creator index = lookup (hasSpot creator index) tokens
 
@@ -182,7 +186,7 @@ tokenAt tokens creator index = lookup (hasSpot creator index) tokens
 abbrev pub tokenValue : Token → Value
 tokenValue token = record { owner = token .owner; amount = token .amount }
 
--- what the shard of an id holds under it
+-- what the eight shards hold under an id: what its shard holds
 abbrev pub heldValue : Limits → Model → TokenId → Option Value
 heldValue limits model id =
     mapOption tokenValue (tokenAt (ledgerAt limits (model .shards) (id .shard) .tokens) (id .creator) (id .index))
@@ -220,7 +224,7 @@ module _ (limits : Limits) (calls : List Call) where
     pub listed : (t : Transaction) → List·Memᴰ t (serialOrder model) ↔ (committed model t ≡ true)
     pub each-once : EachOnce (serialOrder model)
     pub by-last : ByLast (model .log) (serialOrder model)
-    -- the serial run succeeds, in every state: each input is present at its turn, with its owner and amount, and is destroyed once
+    -- the serial run succeeds, in every state: each input is present at its turn, with its owner and amount, and is destroyed once; no id is made twice
     pub serial : SerialEnd model
     -- where every committed transaction is decided at all its shards, the shards hold exactly the tokens of the serial ledger
     pub one-ledger : Settled limits model → (id : TokenId) → heldValue limits model id ≡ serial .ledger id

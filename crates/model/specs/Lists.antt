@@ -19,7 +19,7 @@ abbrev pub lookup : {A : Type 0} → (A → Bool) → List A → Option A
 lookup f [] = none
 lookup f (x ∷ xs) = cond (f x) (some x) (lookup f xs)
 
--- what is there, read by a function; what is there passes a test
+-- what is there, read by a function
 abbrev pub mapOption : {A B : Type 0} → (A → B) → Option A → Option B
 mapOption f none = none
 mapOption f (some a) = some (f a)
@@ -28,3 +28,13 @@ mapOption f (some a) = some (f a)
 abbrev pub passes : {A : Type 0} → (A → Bool) → Option A → Bool
 passes f none = false
 passes f (some a) = f a
+
+-- nothing is there
+abbrev pub isNone : {A : Type 0} → Option A → Bool
+isNone none = true
+isNone (some a) = false
+
+-- a further step from what is there; nothing where nothing is there, or where the step gives nothing
+abbrev pub andThen : {A B : Type 0} → (A → Option B) → Option A → Option B
+andThen f none = none
+andThen f (some a) = f a

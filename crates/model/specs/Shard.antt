@@ -23,7 +23,7 @@ pub data Call : Type 0 where
   register : ℕ → Transaction → Call
   deliver : ℕ → ℕ → ℕ → Transaction → Call
 
--- has a known transaction this number; is it another one of this number
+-- has the known transaction this number
 abbrev pub hasNumber : Transaction → Known → Bool
 hasNumber t k = eqb (k .transaction .number) (t .number)
 
@@ -31,7 +31,7 @@ hasNumber t k = eqb (k .transaction .number) (t .number)
 abbrev pub isOther : Transaction → Known → Bool
 isOther t k = hasNumber t k && not (isFor t k)
 
--- outputs here of undecided transactions
+-- the number where nothing is decided, else 0
 abbrev pub ifUndecided : Outcome → ℕ → ℕ
 ifUndecided Wait n = n
 ifUndecided Commit n = 0

@@ -1,0 +1,225 @@
+-- The tables of refusals: a call from what its table answers, the one table of a vote at a cluster, and 12, which a cluster never answers.
+use Prim.Native.Nat.{ℕ, _+_}
+use native.Mathlib.Omega.{arith}
+use mathlib.Core.Path.{_≡_, refl, ap, sym, _∙_, subst}
+use mathlib.Core.Logic.{_≢_}
+use mathlib.Core.Bool.{Bool, true, false, cond, _&&_, not}
+use mathlib.Core.List.{List, [], _∷_, _++_}
+use lib.Dec.{eqb}
+use lib.ListN.{set}
+use lib.Seq.{set-getD}
+use Rattle.transaction.specs.declared.Transaction.{Transaction}
+use Rattle.transaction.specs.Lists.{any, all, firstOf}
+use Rattle.transaction.specs.Checks.{shardFits, indexFits, valueFits, mintFits}
+use Rattle.model.specs.declared.Known.{Known}
+use Rattle.model.specs.declared.Answer.{Answer}
+use Rattle.model.specs.declared.Answer.the-variants.{Refused, Minted, Registered, Heard, Again}
+use Rattle.model.specs.Steps.{Limits, Ledger, emptyLedger, heardFrom, hearing, outcomeOf, isFor, entryOf, vote, newlyKnown, afterMint, afterRegister, afterVote}
+use Rattle.model.specs.Shard.{Call, mint, register, deliver, mintRefusals, registerRefusals, hasNumber, isOther, otherVerdict, deliverForm, deliverRefusals, unless, hear, shardStep}
+use Rattle.model.specs.Cluster.{ledgerAt, gave, notGiven, atShard, clusterStep}
+use Rattle.model.specs.Model.{Model, play}
+use Rattle.model.proofs.Basics.{eqb-same, eqb-yes, eqb-no, eqb-apart, both, and-intro, not-yes, not-no, not-is, clash, isNumber, passed, first-behind}
+use Rattle.model.proofs.Entries.{whole-known, entry-look}
+use Rattle.model.proofs.Invariant.{Voted}
+use Rattle.model.proofs.Steps.{Inv, play-inv, gave-vote}
+use Rattle.model.proofs.Decisions.{voted-same}
+
+-- ---- One call, from what its table answers
+
+-- the table's number
+pub unless-refused : {A : Type 0} (cause : ℕ) (before : A) (done : A × Answer) → (cause ≡ 0 → ⊥) → unless cause before done ≡ (before, Refused cause)
+unless-refused cause before done h = ap (λ (b : Bool). cond b done (before, Refused cause)) (eqb-no h)
+
+-- or, where it is 0, the step
+pub unless-done : {A : Type 0} (cause : ℕ) (before : A) (done : A × Answer) → cause ≡ 0 → unless cause before done ≡ done
+unless-done cause before done h = ap (λ (b : Bool). cond b done (before, Refused cause)) (eqb-yes h)
+
+-- two tables one behind the other
+first-of-both : (a b : List (Bool × ℕ)) → all isNumber a ≡ true → firstOf (a ++ b) ≡ cond (eqb (firstOf a) 0) (firstOf b) (firstOf a)
+first-of-both [] b s = refl
+first-of-both (t ∷ a) b s = let r = both (isNumber t) (all isNumber a) s in go (t .0) (r .0) (first-of-both a b (r .1))
+  where
+    go : (c : Bool) → isNumber t ≡ true → firstOf (a ++ b) ≡ cond (eqb (firstOf a) 0) (firstOf b) (firstOf a)
+        → cond c (t .1) (firstOf (a ++ b)) ≡ cond (eqb (cond c (t .1) (firstOf a)) 0) (firstOf b) (cond c (t .1) (firstOf a))
+    go true n h = sym (ap (λ (d : Bool). cond d (firstOf b) (t .1)) (not-is {b = eqb (t .1) 0} n))
+    go false n h = h
+
+-- kind 2 in a cluster, in the paper's order: 3, 4, 5, 6, 16, 11, 7, 12
+unfoldable pub clusterRefusals : Limits → List Ledger → ℕ → ℕ → ℕ → Transaction → List (Bool × ℕ)
+clusterRefusals limits shards p sender verdict t =
+    deliverForm limits p p sender verdict t
+    ++ (not (gave (ledgerAt limits shards sender) sender verdict t), 16)
+    ∷ (not (any (hasNumber t) (ledgerAt limits shards p .known)), 11)
+    ∷ (any (isOther t) (ledgerAt limits shards p .known), 7)
+    ∷ (otherVerdict (heardFrom sender (entryOf t (ledgerAt limits shards p .known))) verdict, 12)
+    ∷ []
+
+-- a vote at the cluster is answered by this one table
+pub cluster-deliver : (limits : Limits) (shards : List Ledger) (p sender verdict : ℕ) (t : Transaction)
+    → clusterStep limits shards (deliver p sender verdict t)
+    ≡ unless (firstOf (clusterRefusals limits shards p sender verdict t)) shards
+    (set shards p (hear p (ledgerAt limits shards p) sender verdict t .0), hear p (ledgerAt limits shards p) sender verdict t .1)
+unfolding clusterStep atShard shardStep notGiven clusterRefusals deliverRefusals deliverForm
+cluster-deliver limits shards p sender verdict t =
+    (λ i. cond (notGiven limits shards p sender verdict t) (shards, Refused 16) (at (first-of-both form rest refl i)))
+    ∙ go (firstOf form) (gave (ledgerAt limits shards sender) sender verdict t)
+    ∙ sym (ap result (first-of-both form ((not (gave (ledgerAt limits shards sender) sender verdict t), 16) ∷ rest) refl))
+  where
+    form : List (Bool × ℕ)
+    form = deliverForm limits p p sender verdict t
+
+    rest : List (Bool × ℕ)
+    rest =
+        (not (any (hasNumber t) (ledgerAt limits shards p .known)), 11)
+        ∷ (any (isOther t) (ledgerAt limits shards p .known), 7)
+        ∷ (otherVerdict (heardFrom sender (entryOf t (ledgerAt limits shards p .known))) verdict, 12)
+        ∷ []
+
+    heard : Ledger × Answer
+    heard = hear p (ledgerAt limits shards p) sender verdict t
+
+    -- the receiving shard's answer, and the cluster's, where the table says this
+    at : ℕ → List Ledger × Answer
+    at cause = (set shards p (unless cause (ledgerAt limits shards p) heard .0), unless cause (ledgerAt limits shards p) heard .1)
+
+    result : ℕ → List Ledger × Answer
+    result cause = unless cause shards (set shards p (heard .0), heard .1)
+
+    same : (cause : ℕ) → at cause ≡ result cause
+    same cause = cut (eqb cause 0)
+      where
+        cut : (b : Bool) → _≡_ {A = List Ledger × Answer}
+            (set shards p (cond b heard (ledgerAt limits shards p, Refused cause) .0), cond b heard (ledgerAt limits shards p, Refused cause) .1)
+            (cond b (set shards p (heard .0), heard .1) (shards, Refused cause))
+        cut true = refl
+        cut false = λ i. (set-getD shards p (emptyLedger limits) i, Refused cause)
+
+    go : (n : ℕ) (g : Bool) → cond (eqb n 0 && not g) (shards, Refused 16) (at (cond (eqb n 0) (firstOf rest) n)) ≡ result (cond (eqb n 0) (cond (not g) 16 (firstOf rest)) n)
+    go n g = cut (eqb n 0) g
+      where
+        cut : (b g : Bool) → cond (b && not g) (shards, Refused 16) (at (cond b (firstOf rest) n)) ≡ result (cond b (cond (not g) 16 (firstOf rest)) n)
+        cut true true = same (firstOf rest)
+        cut true false = refl
+        cut false g = same n
+
+-- ---- Refusal 12 is met at a lone shard only: in a cluster, a sender that has given a vote has given no other
+
+-- the other verdict is neither none nor this one
+other-clash : (heard verdict : ℕ) → otherVerdict heard verdict ≡ true → (heard ≡ 0 → ⊥) × (heard ≡ verdict + 1 → ⊥)
+other-clash heard verdict e =
+    let r = both (not (eqb heard 0)) (not (eqb heard (verdict + 1))) e in
+    (eqb-apart (not-is (r .0)), eqb-apart (not-is (r .1)))
+
+-- the votes that shards have heard and given are of one mind
+no-other-verdict : (limits : Limits) (model : Model) → Inv limits model → (p sender verdict : ℕ) (t : Transaction) → any (isFor t) (ledgerAt limits (model .shards) p .known) ≡ true
+    → gave (ledgerAt limits (model .shards) sender) sender verdict t ≡ true → otherVerdict (heardFrom sender (entryOf t (ledgerAt limits (model .shards) p .known))) verdict ≡ true → ⊥
+no-other-verdict limits model w p sender verdict t known given other =
+    let l : List Known = ledgerAt limits (model .shards) p .known in
+    let r = entry-look t l (w .at p .core .one-each) known in
+    let h = other-clash (heardFrom sender (entryOf t l)) verdict other in
+    let v = subst (λ (s : Transaction). Voted (model .log) sender s (heardFrom sender (entryOf t l))) (r .1) (w .at p .core .votes (t .number) (entryOf t l) (r .0) sender (h .0)) in
+    h .1 (voted-same limits model w sender t (heardFrom sender (entryOf t l)) (verdict + 1) v (gave-vote limits model w sender verdict t given))
+
+-- where a shard's table says 12, the vote passed 3 to 6, the transaction is known, and the other verdict was heard
+twelve-says : (limits : Limits) (p : ℕ) (ledger : Ledger) (sender verdict : ℕ) (t : Transaction) → firstOf (deliverRefusals limits p ledger p sender verdict t) ≡ 12
+    → (firstOf (deliverForm limits p p sender verdict t) ≡ 0) × (any (isFor t) (ledger .known) ≡ true) × (otherVerdict (heardFrom sender (entryOf t (ledger .known))) verdict ≡ true)
+unfolding deliverRefusals deliverForm
+twelve-says limits p ledger sender verdict t e =
+    let r = first-behind 12 (deliverForm limits p p sender verdict t) ((not (any (hasNumber t) (ledger .known)), 11) ∷ (any (isOther t) (ledger .known), 7) ∷ (otherVerdict (heardFrom sender (entryOf t (ledger .known))) verdict, 12) ∷ []) refl e in
+    let s = first-behind 12 ((not (any (hasNumber t) (ledger .known)), 11) ∷ (any (isOther t) (ledger .known), 7) ∷ []) ((otherVerdict (heardFrom sender (entryOf t (ledger .known))) verdict, 12) ∷ []) refl (r .1) in
+    let g = passed ((not (any (hasNumber t) (ledger .known)), 11) ∷ (any (isOther t) (ledger .known), 7) ∷ []) refl (s .0) in
+    (r .0, whole-known t (ledger .known) (not-no (any (hasNumber t) (ledger .known)) (g .0)) (g .1 .0), last (otherVerdict (heardFrom sender (entryOf t (ledger .known))) verdict) (s .1))
+  where
+    last : (b : Bool) → _≡_ {A = ℕ} (cond b 12 0) 12 → b ≡ true
+    last true e = refl
+    last false e = absurd (eqb-apart {m = 0} {n = 12} refl e)
+
+-- the number with which a vote is refused at a shard is its table's
+deliver-number : (limits : Limits) (p : ℕ) (ledger : Ledger) (sender verdict : ℕ) (t : Transaction) (n : ℕ) → shardStep limits p ledger (deliver p sender verdict t) .1 ≡ Refused n
+    → firstOf (deliverRefusals limits p ledger p sender verdict t) ≡ n
+unfolding shardStep hear
+deliver-number limits p ledger sender verdict t n e = go (eqb (firstOf (deliverRefusals limits p ledger p sender verdict t)) 0) (eqb (heardFrom sender (entryOf t (ledger .known))) 0) e
+  where
+    yes : Ledger × Answer
+    yes = (afterVote p ledger sender verdict t, Heard (outcomeOf (hearing sender verdict (entryOf t (ledger .known)))))
+
+    again : Ledger × Answer
+    again = (ledger, Again (outcomeOf (entryOf t (ledger .known))))
+
+    go : (a b : Bool) → cond a (cond b yes again) (ledger, Refused (firstOf (deliverRefusals limits p ledger p sender verdict t))) .1 ≡ Refused n → firstOf (deliverRefusals limits p ledger p sender verdict t) ≡ n
+    go true true e = let z : _≡_ {A = ℕ} 0 1 = cc in absurd (omega arith)
+    go true false e = let z : _≡_ {A = ℕ} 0 1 = cc in absurd (omega arith)
+    go false b e = cc
+
+-- 12 is never answered in a cluster
+pub never-twelve : (limits : Limits) (calls : List Call) (p sender verdict : ℕ) (t : Transaction) → clusterStep limits (play limits calls .shards) (deliver p sender verdict t) .1 ≢ Refused 12
+unfolding clusterStep atShard notGiven
+never-twelve limits calls p sender verdict t e = go (notGiven limits shards p sender verdict t) refl e
+  where
+    shards : List Ledger
+    shards = play limits calls .shards
+
+    done : List Ledger × Answer
+    done = atShard limits shards p (deliver p sender verdict t)
+
+    go : (b : Bool) → notGiven limits shards p sender verdict t ≡ b → cond b (shards, Refused 16) done .1 ≡ Refused 12 → ⊥
+    go true g e = let z : _≡_ {A = ℕ} 16 12 = cc in omega arith
+    go false g e =
+        let r = twelve-says limits p (ledgerAt limits shards p) sender verdict t (deliver-number limits p (ledgerAt limits shards p) sender verdict t 12 e) in
+        let given : gave (ledgerAt limits shards sender) sender verdict t ≡ true = not-no (gave (ledgerAt limits shards sender) sender verdict t) (not-yes (λ n. clash (and-intro (eqb-yes (r .0)) n) g)) in
+        no-other-verdict limits (play limits calls) (play-inv limits calls) p sender verdict t (r .1) given (r .2)
+
+-- ---- A record for a shard that does not exist
+
+-- the shard that a call is addressed to
+abbrev pub receiverOf : Call → ℕ
+receiverOf (mint receiver index owner amount) = receiver
+receiverOf (register receiver t) = receiver
+receiverOf (deliver receiver sender verdict t) = receiver
+
+-- the first two tests of a table, where the second is met
+three-first : (r n : ℕ) (c : Bool) (rest : ℕ) → c ≡ true → cond (not (eqb r r)) n (cond c n rest) ≡ n
+three-first r n c rest h = λ i. cond (not (eqb-same r i)) n (cond (h i) n rest)
+
+-- the table of a genesis token for it says 3
+mint-three : (limits : Limits) (p : ℕ) (ledger : Ledger) (index owner amount : ℕ) → shardFits p ≡ false → firstOf (mintRefusals limits p ledger p index owner amount) ≡ 3
+unfolding mintRefusals mintFits
+mint-three limits p ledger index owner amount h =
+    three-first p 3 (not (shardFits p && indexFits (limits .genesis) 0 index && valueFits owner amount)) _ (λ i. not (h i && indexFits (limits .genesis) 0 index && valueFits owner amount))
+
+-- and so does that of a registration
+register-three : (limits : Limits) (p : ℕ) (ledger : Ledger) (t : Transaction) → shardFits p ≡ false → firstOf (registerRefusals limits p ledger p t) ≡ 3
+unfolding registerRefusals
+register-three limits p ledger t h = three-first p 3 (not (shardFits p)) _ (ap not h)
+
+-- and that of a vote, among 3 to 6
+form-three : (limits : Limits) (p sender verdict : ℕ) (t : Transaction) → shardFits p ≡ false → firstOf (deliverForm limits p p sender verdict t) ≡ 3
+unfolding deliverForm
+form-three limits p sender verdict t h = three-first p 3 (not (shardFits p)) _ (ap not h)
+
+-- and in the whole
+deliver-three : (limits : Limits) (p : ℕ) (ledger : Ledger) (sender verdict : ℕ) (t : Transaction) → shardFits p ≡ false → firstOf (deliverRefusals limits p ledger p sender verdict t) ≡ 3
+unfolding deliverRefusals deliverForm
+deliver-three limits p ledger sender verdict t h = three-first p 3 (not (shardFits p)) _ (ap not h)
+
+-- the receiving shard's refusal is the cluster's
+refused-at : (limits : Limits) (shards : List Ledger) (p : ℕ) (call : Call) (n : ℕ) → shardStep limits p (ledgerAt limits shards p) call ≡ (ledgerAt limits shards p, Refused n)
+    → atShard limits shards p call ≡ (shards, Refused n)
+unfolding atShard
+refused-at limits shards p call n e =
+    (λ i. (set shards p (e i .0), e i .1)) ∙ (λ i. (set-getD shards p (emptyLedger limits) i, Refused n))
+
+-- a call to a shard that does not exist is refused with 3
+pub no-such-shard : (limits : Limits) (shards : List Ledger) (call : Call) → shardFits (receiverOf call) ≡ false → clusterStep limits shards call ≡ (shards, Refused 3)
+unfolding clusterStep shardStep notGiven
+no-such-shard limits shards (mint p index owner amount) h =
+    refused-at limits shards p (mint p index owner amount) 3
+    (ap (λ (n : ℕ). unless n (ledgerAt limits shards p) (afterMint (ledgerAt limits shards p) index owner amount, Minted)) (mint-three limits p (ledgerAt limits shards p) index owner amount h))
+no-such-shard limits shards (register p t) h =
+    refused-at limits shards p (register p t) 3
+    (ap (λ (n : ℕ). unless n (ledgerAt limits shards p) (afterRegister p (ledgerAt limits shards p) t, Registered (vote p (ledgerAt limits shards p .tokens) t) (outcomeOf (newlyKnown p (ledgerAt limits shards p .tokens) t))))
+    (register-three limits p (ledgerAt limits shards p) t h))
+no-such-shard limits shards (deliver p sender verdict t) h =
+    ap (λ (n : ℕ). cond (eqb n 0 && not (gave (ledgerAt limits shards sender) sender verdict t)) (shards, Refused 16) (atShard limits shards p (deliver p sender verdict t))) (form-three limits p sender verdict t h)
+    ∙ refused-at limits shards p (deliver p sender verdict t) 3
+    (ap (λ (n : ℕ). unless n (ledgerAt limits shards p) (hear p (ledgerAt limits shards p) sender verdict t)) (deliver-three limits p (ledgerAt limits shards p) sender verdict t h))
