@@ -8,10 +8,10 @@ use Rattle.transaction.specs.Tokens.{inputShard, outputShard}
 use Rattle.model.specs.Steps.{isHeard, isYes}
 
 abbrev pub voted : Bool → List ℕ → ℕ → Bool
-voted asked heard shard = cond asked (isYes heard shard) (isHeard heard shard)
+voted agreed heard shard = cond agreed (isYes heard shard) (isHeard heard shard)
 
 abbrev pub inputVoted : Bool → List ℕ → Input → Bool
-inputVoted asked heard x = voted asked heard (inputShard x)
+inputVoted agreed heard x = voted agreed heard (inputShard x)
 
 abbrev pub outputVoted : Bool → List ℕ → Output → Bool
-outputVoted asked heard y = voted asked heard (outputShard y)
+outputVoted agreed heard y = voted agreed heard (outputShard y)

@@ -5,7 +5,6 @@ ghost use lib.ListN.{take};
 ghost use Rattle.transaction.specs.Lists.{any};
 ghost use Rattle.model.specs.Steps.{isFor, placeOf};
 ghost use Rattle.model.specs.Shard.{hasNumber, isOther};
-
 use model::Known;
 use transaction::Transaction;
 use transaction::equality::same_transaction;

@@ -5,7 +5,6 @@ ghost use mathlib.Core.Bool.{cond, _&&_};
 ghost use lib.ListN.{take, length};
 ghost use Rattle.model.specs.Steps.{outputHere, outputsHere};
 ghost use Rattle.model.specs.Shard.{reservedBy, reserved};
-
 use crate::deciding::outcome;
 use model::Known;
 use model::Outcome;
@@ -13,7 +12,7 @@ use transaction::Output;
 use transaction::Transaction;
 
 fn one_if(used: bool, me: u8, y: Output) -> usize
-    ensures { λ r. ⌜ r ≡ cond (used && outputHere me y) 1 0 ⌝ }
+    ensures { λ r. ⌜ (r ≡ cond (used && outputHere me y) 1 0) × (r ≤ 1) ⌝ }
 {
     if used & (y.shard == me) { 1 } else { 0 }
 }

@@ -1,50 +1,49 @@
+use Rattle.loops.proofs.Loops.{Seeking, seek-start, seek-hit, seek-next, seek-end}
+use Rattle.model.specs.Shard.{isOther}
+use lib.ListN.{length}
+use Prim.Native.Nat.{_-_}
+use native.Mathlib.Omega.{arith}
+use mathlib.Core.Path.{_≡_, sym, _∙_}
+use borrow.Author.Needs.{needs}
 use Rattle.registry.proofs.finding.knows_other.Statement.{statement}
 use Rattle.registry.proofs.finding.knows_other.Tie as tie
-use Rattle.registry.proofs.finding.knows_other.Reads as reads
-use Rattle.registry.proofs.finding.knows_other.Lts as lts
-use Rattle.registry.proofs.finding.is_other.Reads as is-other-reads
 
 abbrev Inv-loop : tie.InvT-loop
-Inv-loop count t known i₀ i = ?
+Inv-loop count t known i₀ i = Seeking (isOther t) known count i
 
 abbrev μ-loop : tie.MeasureT-loop
-μ-loop count t known i₀ i = ?
+μ-loop count t known i₀ i = count - i
 
--- src/finding.rt:56:5
 loop-holds : tie.Need-loop-holds Inv-loop μ-loop
-loop-holds c = ?
+loop-holds c = seek-start
 
--- src/finding.rt:57:17
 mul-k : tie.Need-mul-k Inv-loop μ-loop
-mul-k c = ?
+mul-k c = search needs
 
--- src/finding.rt:57:17
 array-copy-out-k : tie.Need-array-copy-out-k Inv-loop μ-loop
-array-copy-out-k c = ?
+array-copy-out-k c = search needs
 
--- src/finding.rt:58:12
 is-other-requires : tie.Need-is-other-requires Inv-loop μ-loop
-is-other-requires c κs = ?
+is-other-requires c κs = search needs
 
--- src/finding.rt:59:13
 returns : tie.Need-returns Inv-loop μ-loop
-returns c = ?
+returns c =
+    let long : length (c .before .before .before .before .before .args .t1) ≡ 32 = search needs in
+    sym (seek-hit _ (c .before .before .before .before .loop .inv) (search needs) (omega arith) (sym (c .before .is-other .ensures) ∙ c .if1 .taken))
 
--- src/finding.rt:61:9
 add-i : tie.Need-add-i Inv-loop μ-loop
-add-i c = ?
+add-i c = search needs
 
--- src/finding.rt:56:5
 loop-less : tie.Need-loop-less Inv-loop μ-loop
-loop-less c = ?
+loop-less c = search needs
 
--- src/finding.rt:56:5
 loop-again : tie.Need-loop-again Inv-loop μ-loop
-loop-again c = ?
+loop-again c =
+    let long : length (c .before .before .before .before .before .args .t1) ≡ 32 = search needs in
+    seek-next _ (c .before .before .before .before .loop .inv) (search needs) (omega arith) (sym (c .before .is-other .ensures) ∙ c .if1 .left)
 
--- src/finding.rt:51:1
 returns-2 : tie.Need-returns-2 Inv-loop μ-loop
-returns-2 c = ?
+returns-2 c = sym (seek-end (c .before .loop .inv) (search needs))
 
 pub knows-other-spec : {M : Type 1} → statement M
 knows-other-spec =

@@ -1,50 +1,51 @@
+use Rattle.loops.proofs.Loops.{Finding, find-start, find-hit, find-next, find-end}
+use Rattle.model.specs.Steps.{isFor, placeOf}
+use lib.ListN.{length}
+use Prim.Native.Nat.{_-_}
+use native.Mathlib.Omega.{arith}
+use mathlib.Core.Path.{_≡_, sym, _∙_}
+use borrow.Author.Needs.{needs}
 use Rattle.registry.proofs.finding.place_of.Statement.{statement}
 use Rattle.registry.proofs.finding.place_of.Tie as tie
-use Rattle.registry.proofs.finding.place_of.Reads as reads
-use Rattle.registry.proofs.finding.place_of.Lts as lts
-use Rattle.registry.proofs.finding.is_for.Reads as is-for-reads
 
 abbrev Inv-loop : tie.InvT-loop
-Inv-loop count t known i₀ i = ?
+Inv-loop count t known i₀ i = Finding (isFor t) known count i
 
 abbrev μ-loop : tie.MeasureT-loop
-μ-loop count t known i₀ i = ?
+μ-loop count t known i₀ i = count - i
 
--- src/finding.rt:72:5
 loop-holds : tie.Need-loop-holds Inv-loop μ-loop
-loop-holds c = ?
+loop-holds c = find-start
 
--- src/finding.rt:73:17
 mul-k : tie.Need-mul-k Inv-loop μ-loop
-mul-k c = ?
+mul-k c = search needs
 
--- src/finding.rt:73:17
 array-copy-out-k : tie.Need-array-copy-out-k Inv-loop μ-loop
-array-copy-out-k c = ?
+array-copy-out-k c = search needs
 
--- src/finding.rt:74:12
 is-for-requires : tie.Need-is-for-requires Inv-loop μ-loop
-is-for-requires c κs = ?
+is-for-requires c κs = search needs
 
--- src/finding.rt:75:13
 returns : tie.Need-returns Inv-loop μ-loop
-returns c = ?
+unfolding placeOf
+returns c =
+    let long : length (c .before .before .before .before .before .args .t1) ≡ 32 = search needs in
+    (sym (find-hit _ (c .before .before .before .before .loop .inv) (search needs) (omega arith) (sym (c .before .is-for .ensures) ∙ c .if1 .taken)), search needs)
 
--- src/finding.rt:77:9
 add-i : tie.Need-add-i Inv-loop μ-loop
-add-i c = ?
+add-i c = search needs
 
--- src/finding.rt:72:5
 loop-less : tie.Need-loop-less Inv-loop μ-loop
-loop-less c = ?
+loop-less c = search needs
 
--- src/finding.rt:72:5
 loop-again : tie.Need-loop-again Inv-loop μ-loop
-loop-again c = ?
+loop-again c =
+    let long : length (c .before .before .before .before .before .args .t1) ≡ 32 = search needs in
+    find-next _ (c .before .before .before .before .loop .inv) (search needs) (omega arith) (sym (c .before .is-for .ensures) ∙ c .if1 .left)
 
--- src/finding.rt:67:1
 returns-2 : tie.Need-returns-2 Inv-loop μ-loop
-returns-2 c = ?
+unfolding placeOf
+returns-2 c = (sym (find-end (c .before .loop .inv) (search needs)), search needs)
 
 pub place-of-spec : {M : Type 1} → statement M
 place-of-spec =

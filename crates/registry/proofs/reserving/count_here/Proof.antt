@@ -1,57 +1,51 @@
+use Rattle.transaction.proofs.Long.{long-of}
+use Rattle.registry.proofs.Decisions.{here-count}
+use native.Mathlib.Omega.{arith}
 use borrow.Author.Needs.{needs}
 use Rattle.registry.proofs.reserving.count_here.Statement.{statement}
 use Rattle.registry.proofs.reserving.count_here.Tie as tie
-use Rattle.registry.proofs.reserving.count_here.Reads as reads
-use Rattle.registry.proofs.reserving.count_here.Lts as lts
-use Rattle.registry.proofs.reserving.one_if.Reads as one-if-reads
 
--- src/reserving.rt:27:31
 array-copy-out-one-if : tie.Need-array-copy-out-one-if
 array-copy-out-one-if c = search needs
 
--- src/reserving.rt:27:9
 one-if-requires : tie.Need-one-if-requires
 one-if-requires c κs = search needs
 
--- src/reserving.rt:28:31
 array-copy-out-one-if-2 : tie.Need-array-copy-out-one-if-2
 array-copy-out-one-if-2 c = search needs
 
--- src/reserving.rt:28:9
 one-if-requires-2 : tie.Need-one-if-requires-2
 one-if-requires-2 c κs = search needs
 
--- src/reserving.rt:29:31
 array-copy-out-one-if-3 : tie.Need-array-copy-out-one-if-3
 array-copy-out-one-if-3 c = search needs
 
--- src/reserving.rt:29:9
 one-if-requires-3 : tie.Need-one-if-requires-3
 one-if-requires-3 c κs = search needs
 
--- src/reserving.rt:30:31
 array-copy-out-one-if-4 : tie.Need-array-copy-out-one-if-4
 array-copy-out-one-if-4 c = search needs
 
--- src/reserving.rt:30:9
 one-if-requires-4 : tie.Need-one-if-requires-4
 one-if-requires-4 c κs = search needs
 
--- src/reserving.rt:31:5
 add-result : tie.Need-add-result
-add-result c = ?
+add-result c =
+    omega (arith, c .before .before .before .before .before .before .one-if .ensures .1, c .before .before .before .before .one-if2 .ensures .1, c .before .before .one-if3 .ensures .1, c .one-if4 .ensures .1)
 
--- src/reserving.rt:31:5
 add-result-2 : tie.Need-add-result-2
-add-result-2 c = ?
+add-result-2 c =
+    omega (arith, c .before .before .before .before .before .before .one-if .ensures .1, c .before .before .before .before .one-if2 .ensures .1, c .before .before .one-if3 .ensures .1, c .one-if4 .ensures .1)
 
--- src/reserving.rt:31:5
 add-result-3 : tie.Need-add-result-3
-add-result-3 c = ?
+add-result-3 c =
+    omega (arith, c .before .before .before .before .before .before .one-if .ensures .1, c .before .before .before .before .one-if2 .ensures .1, c .before .before .one-if3 .ensures .1, c .one-if4 .ensures .1)
 
--- src/reserving.rt:22:1
 returns : tie.Need-returns
-returns c = ?
+returns c =
+    let t = c .before .before .before .before .before .before .before .before .before .args .t in
+    let long = long-of t (c .before .before .before .before .before .before .before .before .before .good .1 .0) .outputs in
+    (here-count (c .before .before .before .before .before .before .before .before .before .args .me) t long (c .before .before .before .before .before .before .one-if .ensures .0) (c .before .before .before .before .one-if2 .ensures .0) (c .before .before .one-if3 .ensures .0) (c .one-if4 .ensures .0), omega (arith, c .before .before .before .before .before .before .one-if .ensures .1, c .before .before .before .before .one-if2 .ensures .1, c .before .before .one-if3 .ensures .1, c .one-if4 .ensures .1))
 
 pub count-here-spec : {M : Type 1} → statement M
 count-here-spec =

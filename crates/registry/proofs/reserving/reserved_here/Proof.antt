@@ -1,50 +1,48 @@
+use Rattle.loops.proofs.Loops.{Summing, sum-start, sum-next, sum-end}
+use Rattle.model.specs.Shard.{reservedBy, reserved}
+use lib.ListN.{length}
+use Prim.Native.Nat.{_-_, _≤_, _*_}
+use native.Mathlib.Omega.{arith}
+use mathlib.Core.Path.{_≡_, sym}
+use borrow.Author.Needs.{needs}
 use Rattle.registry.proofs.reserving.reserved_here.Statement.{statement}
 use Rattle.registry.proofs.reserving.reserved_here.Tie as tie
-use Rattle.registry.proofs.reserving.reserved_here.Reads as reads
-use Rattle.registry.proofs.reserving.reserved_here.Lts as lts
-use Rattle.registry.proofs.reserving.reserved_by.Reads as reserved-by-reads
 
 abbrev Inv-loop : tie.InvT-loop
-Inv-loop me count known sum₀ i₀ sum i = ?
+Inv-loop me count known sum₀ i₀ sum i = (sum ≤ 4 * i) × Summing (reservedBy me) known count sum i
 
 abbrev μ-loop : tie.MeasureT-loop
-μ-loop me count known sum₀ i₀ sum i = ?
+μ-loop me count known sum₀ i₀ sum i = count - i
 
--- src/reserving.rt:53:5
 loop-holds : tie.Need-loop-holds Inv-loop μ-loop
-loop-holds c = ?
+loop-holds c = (search needs, sum-start)
 
--- src/reserving.rt:54:17
 mul-k : tie.Need-mul-k Inv-loop μ-loop
-mul-k c = ?
+mul-k c = search needs
 
--- src/reserving.rt:54:17
 array-copy-out-k : tie.Need-array-copy-out-k Inv-loop μ-loop
-array-copy-out-k c = ?
+array-copy-out-k c = search needs
 
--- src/reserving.rt:55:13
 reserved-by-requires : tie.Need-reserved-by-requires Inv-loop μ-loop
-reserved-by-requires c κs = ?
+reserved-by-requires c κs = search needs
 
--- src/reserving.rt:56:9
 add-sum : tie.Need-add-sum Inv-loop μ-loop
-add-sum c = ?
+add-sum c = omega (arith, c .reserved-by .ensures .1)
 
--- src/reserving.rt:57:9
 add-i : tie.Need-add-i Inv-loop μ-loop
-add-i c = ?
+add-i c = search needs
 
--- src/reserving.rt:53:5
 loop-less : tie.Need-loop-less Inv-loop μ-loop
-loop-less c = ?
+loop-less c = search needs
 
--- src/reserving.rt:53:5
 loop-again : tie.Need-loop-again Inv-loop μ-loop
-loop-again c = ?
+loop-again c =
+    let long : length (c .before .before .before .before .args .t2) ≡ 32 = search needs in
+    (omega (arith, c .reserved-by .ensures .1), sum-next _ _ (c .before .before .before .loop .inv .1) (search needs) (omega arith) (c .reserved-by .ensures .0))
 
--- src/reserving.rt:47:1
 returns : tie.Need-returns Inv-loop μ-loop
-returns c = ?
+unfolding reserved
+returns c = (sym (sum-end (c .before .loop .inv .1) (search needs)), omega (arith, c .before .loop .inv .1 .within))
 
 pub reserved-here-spec : {M : Type 1} → statement M
 reserved-here-spec =

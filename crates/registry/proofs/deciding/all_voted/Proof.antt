@@ -1,0 +1,16 @@
+use Rattle.registry.proofs.Decisions.{all-voted}
+use borrow.Author.Needs.{needs}
+use Rattle.registry.proofs.deciding.all_voted.Statement.{statement}
+use Rattle.registry.proofs.deciding.all_voted.Tie as tie
+
+inputs-voted-requires : tie.Need-inputs-voted-requires
+inputs-voted-requires c κs = search needs
+
+outputs-voted-requires : tie.Need-outputs-voted-requires
+outputs-voted-requires c κs = search needs
+
+returns : tie.Need-returns
+returns c = all-voted (c .before .before .before .before .args .agreed) (c .before .before .before .before .args .heard) (c .before .before .before .before .args .t) (c .before .inputs-voted .ensures) (c .outputs-voted .ensures)
+
+pub all-voted-spec : {M : Type 1} → statement M
+all-voted-spec = tie.close (tie.spec inputs-voted-requires outputs-voted-requires returns)
