@@ -4,12 +4,13 @@ ghost use mathlib.Core.List.{_++_};
 ghost use Prim.Native.Nat.{_+_, _≤_};
 ghost use lib.ListN.{take, length};
 ghost use Rattle.model.specs.Lists.{keep};
-ghost use Rattle.model.specs.Steps.{stays, madeHere, commit};
+ghost use Rattle.model.specs.Steps.{stays, madeHere, commit, settle};
 ghost use Rattle.holdings.specs.Arrays.{inputsOf, tokensOf, madeFrom};
 use crate::Holdings;
 use crate::Inputs;
 use crate::availability::inputs_here;
 use crate::pledging::is_named;
+use model::Outcome;
 use model::Token;
 use transaction::Output;
 use transaction::Transaction;
@@ -17,7 +18,7 @@ use transaction::Transaction;
 // The tokens that no input names; a destroyed token's space is used again.
 pub fn destroy(tokens: [Token; 128], held: usize, inputs: Inputs) -> Holdings
     requires { ⌜ held ≤ 128 ⌝ }
-    ensures { λ r. ⌜ (tokensOf r ≡ keep (stays (inputsOf inputs)) (take held tokens)) × (r .count ≤ held) ⌝ }
+    ensures { λ r. ⌜ (tokensOf r ≡ keep (stays (inputsOf inputs)) (take held tokens)) × (r .count ≡ length (keep (stays (inputsOf inputs)) (take held tokens))) ⌝ }
 {
     let mut list = tokens;
     let mut count: usize = 0;
@@ -72,10 +73,34 @@ pub fn make(before: Holdings, me: u8, t: Transaction) -> Holdings
 }
 
 pub fn commit_here(tokens: [Token; 128], held: usize, me: u8, t: Transaction) -> Holdings
-    requires { ⌜ held + length (madeHere me t) ≤ 128 ⌝ }
-    ensures { λ r. ⌜ (tokensOf r ≡ commit me t (take held tokens)) × (r .count ≤ 128) ⌝ }
+    requires { ⌜ (held ≤ 128) × (length (commit me t (take held tokens)) ≤ 128) ⌝ }
+    ensures { λ r. ⌜ (tokensOf r ≡ commit me t (take held tokens)) × (r .count ≡ length (commit me t (take held tokens))) ⌝ }
 {
     let inputs = inputs_here(me, t);
     let kept = destroy(tokens, held, inputs);
     make(kept, me, t)
+}
+
+// The tokens after a decision: a commit changes them, and nothing else does.
+pub fn settle_here(
+    tokens: [Token; 128],
+    held: usize,
+    me: u8,
+    t: Transaction,
+    decided: Outcome,
+) -> Holdings
+    requires { ⌜ (held ≤ 128) × (length (settle decided me t (take held tokens)) ≤ 128) ⌝ }
+    ensures { λ r. ⌜ (tokensOf r ≡ settle decided me t (take held tokens)) × (r .count ≡ length (settle decided me t (take held tokens))) ⌝ }
+{
+    match decided {
+        Outcome::Commit => commit_here(tokens, held, me, t),
+        Outcome::Wait => Holdings {
+            count: held,
+            list: tokens,
+        },
+        Outcome::Abort => Holdings {
+            count: held,
+            list: tokens,
+        },
+    }
 }

@@ -1,3 +1,4 @@
+use lib.Seq.{length-take-le}
 use Rattle.loops.proofs.Loops.{Keeping, keep-start, keep-in, keep-out, keep-end}
 use Rattle.holdings.specs.Arrays.{inputsOf}
 use Rattle.model.specs.Steps.{stays}
@@ -57,7 +58,9 @@ loop-again-2 c =
     keep-out _ (c .before .before .before .before .loop .inv) (search needs) (omega arith) (omega arith) (ap not (sym (c .before .is-named .ensures)) ∙ c .if1 .left)
 
 returns : tie.Need-returns Inv-loop μ-loop
-returns c = (keep-end (c .before .loop .inv) (search needs), search needs)
+returns c =
+    let e = keep-end (c .before .loop .inv) (search needs) in
+    (e, sym (length-take-le (c .before .loop .count) (c .before .loop .list) (omega (arith, c .before .loop .inv .behind, c .before .loop .inv .within, c .before .loop .inv .long))) ∙ ap length e)
 
 pub destroy-spec : {M : Type 1} → statement M
 destroy-spec =
