@@ -19,7 +19,8 @@ use Rattle.reader.proofs.Cases.{by-kinds, cause-1, record-1, transaction-1, tak
 use Rattle.writer.specs.Layout.{byteOf, wordOf, inputBytes, outputBytes, inputsBytes, outputsBytes, transactionBytes, registerBytes, voteBytes, mintBytes}
 use Rattle.writer.specs.declared.Written.{Written}
 use Rattle.writer.specs.Writing.{registerCause, voteCause, mintCause, Writes}
-use Rattle.writer.proofs.Writes.{numbered, first-stands, first-behind, refuses}
+use Rattle.transaction.proofs.Tables.{numbered, first-stands, first-behind}
+use Rattle.writer.proofs.Writes.{refuses}
 use Rattle.codec.specs.Records.{recordBytes, recordCause, copyCause, Copies}
 
 -- the four bytes that make a number are the number's

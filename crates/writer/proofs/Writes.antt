@@ -1,32 +1,16 @@
 -- The writers' checks and promise, case by case.
 use Prim.Native.Nat.{ℕ, _≤_, _<_}
 use mathlib.Core.Path.{_≡_, refl, sym, _∙_}
-use mathlib.Core.Bool.{Bool, true, false, not}
+use mathlib.Core.Bool.{Bool, true, false}
 use mathlib.Core.List.{List, [], _∷_, _++_}
 use native.Mathlib.Omega.{arith}
-use borrow.Author.Tests.{eqb-true, eqb-false, not-true, ne-eqb, lt-ltb, le-ltb, ltb-false}
+use borrow.Author.Tests.{eqb-true, eqb-false, ne-eqb, lt-ltb, le-ltb, ltb-false}
 use lib.Dec.{eqb, ltb}
 use lib.ListN.{length, drop}
-use Rattle.transaction.specs.Lists.{all, firstOf}
-use Rattle.transaction.proofs.Slots.{and-left, and-right}
+use Rattle.transaction.specs.Lists.{firstOf}
+use Rattle.transaction.proofs.Tables.{numbered, first-stands, first-behind}
 use Rattle.writer.specs.declared.Written.the-variants.{Bytes, Refused}
 use Rattle.writer.specs.Writing.{withRoom, Writes}
-
--- No check has the number 0. Where one of them fails, no check behind them counts; where none fails, those behind do.
-abbrev pub numbered : List (Bool × ℕ) → Bool
-numbered checks = all (λ (check : Bool × ℕ). not (eqb (check .1) 0)) checks
-
-pub first-stands : (fields others : List (Bool × ℕ)) → (firstOf fields ≡ 0 → ⊥) → firstOf (fields ++ others) ≡ firstOf fields
-first-stands [] others n = absurd (n refl)
-first-stands ((true, k) ∷ fields) others n = refl
-first-stands ((false, k) ∷ fields) others n = first-stands fields others n
-
-pub first-behind : (fields others : List (Bool × ℕ)) → numbered fields ≡ true → firstOf fields ≡ 0 → firstOf (fields ++ others) ≡ firstOf others
-first-behind [] others n h = refl
-first-behind ((true, k) ∷ fields) others n h =
-    absurd (eqb-false k 0 (not-true (eqb k 0) (and-left (not (eqb k 0)) (numbered fields) n)) h)
-first-behind ((false, k) ∷ fields) others n h =
-    first-behind fields others (and-right (not (eqb k 0)) (numbered fields) n) h
 
 -- the field checks with the check of the room behind them
 module _ (fields : List (Bool × ℕ)) (size room : ℕ) where

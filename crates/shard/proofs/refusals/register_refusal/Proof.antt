@@ -1,0 +1,27 @@
+use borrow.Author.Needs.{needs}
+use Rattle.shard.proofs.refusals.register_refusal.Statement.{statement}
+use Rattle.shard.proofs.refusals.register_refusal.Tie as tie
+use Rattle.shard.proofs.refusals.register_refusal.Reads as reads
+use Rattle.shard.proofs.refusals.register_refusal.Lts as lts
+use Rattle.shard.proofs.refusals.register_form.Reads as register-form-reads
+use Rattle.shard.proofs.refusals.register_ledger.Reads as register-ledger-reads
+
+-- src/refusals.rt:107:9
+register-form-requires : tie.Need-register-form-requires
+register-form-requires c κs = search needs
+
+-- src/refusals.rt:109:9
+returns : tie.Need-returns
+returns c = ?
+
+-- src/refusals.rt:111:5
+register-ledger-requires : tie.Need-register-ledger-requires
+register-ledger-requires c κs = search needs
+
+-- src/refusals.rt:103:1
+returns-2 : tie.Need-returns-2
+returns-2 c = ?
+
+pub register-refusal-spec : {M : Type 1} → statement M
+register-refusal-spec =
+    tie.close (tie.spec register-form-requires returns register-ledger-requires returns-2)
