@@ -7,21 +7,11 @@ ghost use lib.Seq.{sets};
 ghost use Rattle.reader.specs.Reading.{numberOf, restOf};
 ghost use Rattle.ffi.specs.Reading.{recordWords, answerWords, readingWords, Fills};
 use crate::stores::put_transaction;
+use crate::words::wide_byte;
+use crate::words::wide_word;
 use reader::Answer;
 use reader::Reading;
 use reader::Record;
-
-fn wide_byte(x: u8) -> u64
-    ensures { λ r. ⌜ r ≡ x ⌝ }
-{
-    x as u64
-}
-
-fn wide_word(x: u32) -> u64
-    ensures { λ r. ⌜ r ≡ x ⌝ }
-{
-    x as u64
-}
 
 // The fields beside the transaction; those that a kind does not have are 0.
 fn record_words(fields: Record) -> [u64; 7]

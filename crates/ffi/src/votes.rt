@@ -4,21 +4,11 @@ ghost use mathlib.Core.Bool.{cond};
 ghost use Prim.Native.Nat.{_+_, _%_, _^_, _≤_, _<_};
 ghost use lib.Dec.{eqb};
 ghost use Rattle.ffi.specs.Votes.{transactionWorth, recordWorth, worthOf, sumOf};
+use crate::words::wide_byte;
+use crate::words::wide_word;
 use reader::Answer;
 use reader::Record;
 use transaction::Transaction;
-
-fn wide_byte(x: u8) -> u64
-    ensures { λ r. ⌜ (r ≡ x) × (r < 256) ⌝ }
-{
-    x as u64
-}
-
-fn wide_word(x: u32) -> u64
-    ensures { λ r. ⌜ (r ≡ x) × (r < 4294967296) ⌝ }
-{
-    x as u64
-}
 
 // What a vote's transaction adds to the sum.
 fn transaction_worth(t: Transaction) -> u64

@@ -1,6 +1,6 @@
 // A transaction from its words, each word cut to the width of its field.
 ghost use mathlib.Core.Path.{_≡_};
-ghost use Prim.Native.Nat.{_+_, _%_, _≤_};
+ghost use Prim.Native.Nat.{_+_, _%_, _≤_, _<_};
 ghost use lib.ListN.{length};
 ghost use Rattle.ffi.specs.Words.{inputFrom, outputFrom, inputsFrom, outputsFrom, transactionFrom};
 use transaction::Input;
@@ -18,6 +18,19 @@ fn word(w: u64) -> u32
     ensures { λ r. ⌜ r ≡ w % 4294967296 ⌝ }
 {
     (w % 4294967296) as u32
+}
+
+// A field's value as a word.
+pub fn wide_byte(x: u8) -> u64
+    ensures { λ r. ⌜ (r ≡ x) × (r < 256) ⌝ }
+{
+    x as u64
+}
+
+pub fn wide_word(x: u32) -> u64
+    ensures { λ r. ⌜ (r ≡ x) × (r < 4294967296) ⌝ }
+{
+    x as u64
 }
 
 fn input_from(words: &[u64], at: usize) -> Input

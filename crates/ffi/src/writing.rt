@@ -1,26 +1,20 @@
 // A record written into lent bytes: the answer is the number of bytes, or 1000 times the refusal's number.
 ghost use mathlib.Core.Path.{_≡_};
-ghost use Prim.Native.Nat.{_<_};
 ghost use lib.ListN.{length};
 ghost use Rattle.writer.specs.Layout.{registerBytes, voteBytes, mintBytes};
 ghost use Rattle.writer.specs.Writing.{registerCause, voteCause, mintCause};
 ghost use Rattle.ffi.specs.Words.{transactionFrom};
 ghost use Rattle.ffi.specs.Writing.{codeOf, Encodes, EncodesWords};
 use crate::words::transaction_from;
+use crate::words::wide_byte;
 use writer::Written;
-
-fn wide_number(number: u8) -> u64
-    ensures { λ r. ⌜ (r ≡ number) × (r < 256) ⌝ }
-{
-    number as u64
-}
 
 fn code(answer: Written) -> u64
     ensures { λ r. ⌜ r ≡ codeOf answer ⌝ }
 {
     match answer {
         Written::Bytes(size) => size as u64,
-        Written::Refused(number) => 1000 * wide_number(number),
+        Written::Refused(number) => 1000 * wide_byte(number),
     }
 }
 

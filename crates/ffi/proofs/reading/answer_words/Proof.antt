@@ -7,24 +7,19 @@ use Rattle.ffi.proofs.reading.answer_words.Reads as reads
 use Rattle.ffi.proofs.reading.answer_words.Lts as lts
 use Rattle.ffi.proofs.reading.record_words.Reads as record-words-reads
 
--- src/reading.rt:50:22
 enum-known-answer : tie.Need-enum-known-answer
 enum-known-answer c = search needs
 
--- src/reading.rt:50:33
 record-words-requires : tie.Need-record-words-requires
 record-words-requires c κs = search needs
 
--- src/reading.rt:51:31
 enum-told : tie.Need-enum-told
 enum-told c = search needs
 
--- src/reading.rt:46:1
 returns : tie.Need-returns
 unfolding answerWords
 returns c = rw (c .before .before .answer .given .1) (c .record-words .ensures)
 
--- src/reading.rt:46:1
 returns-2 : tie.Need-returns-2
 unfolding answerWords
 returns-2 c = rw (c .enum-told .given .1) refl

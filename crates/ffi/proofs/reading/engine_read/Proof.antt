@@ -9,29 +9,23 @@ use Rattle.ffi.proofs.reading.number_of.Reads as number-of-reads
 use Rattle.ffi.proofs.reading.put_reading.Reads as put-reading-reads
 use Rattle.reader.proofs.read.Reads as read-reads
 
--- src/reading.rt:94:9
 returns : tie.Need-returns
 returns c =
     let a = c .before .before .before .args in
     fills-none (now (a .bytes)) (now (a .fields)) (c .if1 .taken)
 
--- src/reading.rt:96:9
 read-requires : tie.Need-read-requires
 read-requires c κs = search needs
 
--- src/reading.rt:98:5
 put-reading-requires : tie.Need-put-reading-requires
 put-reading-requires c κs = search needs
 
--- src/reading.rt:99:5
 number-of-requires : tie.Need-number-of-requires
 number-of-requires c κs = search needs
 
--- src/reading.rt:89:1
 same-length : tie.Need-same-length
 same-length c = search needs
 
--- src/reading.rt:89:1
 returns-2 : tie.Need-returns-2
 returns-2 c =
     let a = c .before .before .before .before .before .before .before .before .before .args in

@@ -7,11 +7,9 @@ use Rattle.ffi.proofs.reading.engine_rest.Reads as reads
 use Rattle.ffi.proofs.reading.engine_rest.Lts as lts
 use Rattle.reader.proofs.rest.Reads as rest-reads
 
--- src/reading.rt:107:9
 rest-requires : tie.Need-rest-requires
 rest-requires c κs = search needs
 
--- src/reading.rt:103:1
 returns : tie.Need-returns
 returns c = ap length (c .rest .ensures)
 

@@ -12,71 +12,54 @@ use Rattle.ffi.proofs.reading.put_answer.Tie as tie
 use Rattle.ffi.proofs.reading.put_answer.Reads as reads
 use Rattle.ffi.proofs.reading.put_answer.Lts as lts
 
--- src/reading.rt:68:14
 array-read-out : tie.Need-array-read-out
 array-read-out c = search needs
 
--- src/reading.rt:68:5
 slice-write-out : tie.Need-slice-write-out
 slice-write-out c = search needs
 
--- src/reading.rt:69:14
 array-read-out-2 : tie.Need-array-read-out-2
 array-read-out-2 c = search needs
 
--- src/reading.rt:69:5
 slice-write-out-2 : tie.Need-slice-write-out-2
 slice-write-out-2 c = simp length-set (omega arith)
 
--- src/reading.rt:70:14
 array-read-out-3 : tie.Need-array-read-out-3
 array-read-out-3 c = search needs
 
--- src/reading.rt:70:5
 slice-write-out-3 : tie.Need-slice-write-out-3
 slice-write-out-3 c = simp length-set (omega arith)
 
--- src/reading.rt:71:14
 array-read-out-4 : tie.Need-array-read-out-4
 array-read-out-4 c = search needs
 
--- src/reading.rt:71:5
 slice-write-out-4 : tie.Need-slice-write-out-4
 slice-write-out-4 c = simp length-set (omega arith)
 
--- src/reading.rt:72:14
 array-read-out-5 : tie.Need-array-read-out-5
 array-read-out-5 c = search needs
 
--- src/reading.rt:72:5
 slice-write-out-5 : tie.Need-slice-write-out-5
 slice-write-out-5 c = simp length-set (omega arith)
 
--- src/reading.rt:73:14
 array-read-out-6 : tie.Need-array-read-out-6
 array-read-out-6 c = search needs
 
--- src/reading.rt:73:5
 slice-write-out-6 : tie.Need-slice-write-out-6
 slice-write-out-6 c = simp length-set (omega arith)
 
--- src/reading.rt:74:14
 array-read-out-7 : tie.Need-array-read-out-7
 array-read-out-7 c = search needs
 
--- src/reading.rt:74:5
 slice-write-out-7 : tie.Need-slice-write-out-7
 slice-write-out-7 c = simp length-set (omega arith)
 
--- src/reading.rt:75:5
 slice-write-out-8 : tie.Need-slice-write-out-8
 slice-write-out-8 c = simp length-set (omega arith)
 
--- src/reading.rt:64:1
 same-length : tie.Need-same-length
 same-length c = simp length-set
 
--- src/reading.rt:64:1
 returns : tie.Need-returns
 returns c =
     let w = c .args .t2 in

@@ -9,23 +9,18 @@ use Rattle.ffi.proofs.reading.answer_words.Reads as answer-words-reads
 use Rattle.ffi.proofs.reading.put_answer.Reads as put-answer-reads
 use Rattle.ffi.proofs.stores.put_transaction.Reads as put-transaction-reads
 
--- src/reading.rt:85:21
 answer-words-requires : tie.Need-answer-words-requires
 answer-words-requires c κs = search needs
 
--- src/reading.rt:85:5
 put-answer-requires : tie.Need-put-answer-requires
 put-answer-requires c κs = search needs
 
--- src/reading.rt:86:5
 put-transaction-requires : tie.Need-put-transaction-requires
 put-transaction-requires c κs = search needs
 
--- src/reading.rt:79:1
 same-length : tie.Need-same-length
 same-length c = search needs
 
--- src/reading.rt:79:1
 returns : tie.Need-returns
 returns c =
     let a = c .before .before .before .before .before .before .before .before .before .before .before .args in

@@ -8,47 +8,36 @@ use Rattle.ffi.proofs.stores.put_input.Lts as lts
 use Rattle.ffi.proofs.stores.put_byte.Reads as put-byte-reads
 use Rattle.ffi.proofs.stores.put_word.Reads as put-word-reads
 
--- src/stores.rt:30:5
 put-byte-requires : tie.Need-put-byte-requires
 put-byte-requires c κs = search needs
 
--- src/stores.rt:31:19
 add-put-word : tie.Need-add-put-word
 add-put-word c = search needs
 
--- src/stores.rt:31:5
 put-word-requires : tie.Need-put-word-requires
 put-word-requires c κs = search needs
 
--- src/stores.rt:32:19
 add-put-byte : tie.Need-add-put-byte
 add-put-byte c = search needs
 
--- src/stores.rt:32:5
 put-byte-requires-2 : tie.Need-put-byte-requires-2
 put-byte-requires-2 c κs = search needs
 
--- src/stores.rt:33:19
 add-put-word-2 : tie.Need-add-put-word-2
 add-put-word-2 c = search needs
 
--- src/stores.rt:33:5
 put-word-requires-2 : tie.Need-put-word-requires-2
 put-word-requires-2 c κs = search needs
 
--- src/stores.rt:34:19
 add-put-word-3 : tie.Need-add-put-word-3
 add-put-word-3 c = search needs
 
--- src/stores.rt:34:5
 put-word-requires-3 : tie.Need-put-word-requires-3
 put-word-requires-3 c κs = search needs
 
--- src/stores.rt:25:1
 same-length : tie.Need-same-length
 same-length c = search needs
 
--- src/stores.rt:25:1
 returns : tie.Need-returns
 returns c =
     let a = c .before .before .before .before .before .before .before .before .before .before .before .before .before .before .before .before .before .before .before .before .before .before .args in

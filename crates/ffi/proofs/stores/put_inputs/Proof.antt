@@ -7,55 +7,42 @@ use Rattle.ffi.proofs.stores.put_inputs.Reads as reads
 use Rattle.ffi.proofs.stores.put_inputs.Lts as lts
 use Rattle.ffi.proofs.stores.put_input.Reads as put-input-reads
 
--- src/stores.rt:50:24
 array-copy-out-put-input : tie.Need-array-copy-out-put-input
 array-copy-out-put-input c = search needs
 
--- src/stores.rt:50:5
 put-input-requires : tie.Need-put-input-requires
 put-input-requires c κs = search needs
 
--- src/stores.rt:51:20
 add-put-input : tie.Need-add-put-input
 add-put-input c = search needs
 
--- src/stores.rt:51:28
 array-copy-out-put-input-2 : tie.Need-array-copy-out-put-input-2
 array-copy-out-put-input-2 c = search needs
 
--- src/stores.rt:51:5
 put-input-requires-2 : tie.Need-put-input-requires-2
 put-input-requires-2 c κs = search needs
 
--- src/stores.rt:52:20
 add-put-input-2 : tie.Need-add-put-input-2
 add-put-input-2 c = search needs
 
--- src/stores.rt:52:29
 array-copy-out-put-input-3 : tie.Need-array-copy-out-put-input-3
 array-copy-out-put-input-3 c = search needs
 
--- src/stores.rt:52:5
 put-input-requires-3 : tie.Need-put-input-requires-3
 put-input-requires-3 c κs = search needs
 
--- src/stores.rt:53:20
 add-put-input-3 : tie.Need-add-put-input-3
 add-put-input-3 c = search needs
 
--- src/stores.rt:53:29
 array-copy-out-put-input-4 : tie.Need-array-copy-out-put-input-4
 array-copy-out-put-input-4 c = search needs
 
--- src/stores.rt:53:5
 put-input-requires-4 : tie.Need-put-input-requires-4
 put-input-requires-4 c κs = search needs
 
--- src/stores.rt:46:1
 same-length : tie.Need-same-length
 same-length c = search needs
 
--- src/stores.rt:46:1
 returns : tie.Need-returns
 returns c =
     let a = c .before .before .before .before .before .before .before .before .before .before .before .before .before .before .before .before .before .before .before .before .before .args in

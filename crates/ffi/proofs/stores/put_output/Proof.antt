@@ -8,31 +8,24 @@ use Rattle.ffi.proofs.stores.put_output.Lts as lts
 use Rattle.ffi.proofs.stores.put_byte.Reads as put-byte-reads
 use Rattle.ffi.proofs.stores.put_word.Reads as put-word-reads
 
--- src/stores.rt:41:5
 put-byte-requires : tie.Need-put-byte-requires
 put-byte-requires c κs = search needs
 
--- src/stores.rt:42:19
 add-put-word : tie.Need-add-put-word
 add-put-word c = search needs
 
--- src/stores.rt:42:5
 put-word-requires : tie.Need-put-word-requires
 put-word-requires c κs = search needs
 
--- src/stores.rt:43:19
 add-put-word-2 : tie.Need-add-put-word-2
 add-put-word-2 c = search needs
 
--- src/stores.rt:43:5
 put-word-requires-2 : tie.Need-put-word-requires-2
 put-word-requires-2 c κs = search needs
 
--- src/stores.rt:37:1
 same-length : tie.Need-same-length
 same-length c = search needs
 
--- src/stores.rt:37:1
 returns : tie.Need-returns
 returns c =
     let a = c .before .before .before .before .before .before .before .before .before .before .before .before .before .args in

@@ -7,55 +7,42 @@ use Rattle.ffi.proofs.stores.put_outputs.Reads as reads
 use Rattle.ffi.proofs.stores.put_outputs.Lts as lts
 use Rattle.ffi.proofs.stores.put_output.Reads as put-output-reads
 
--- src/stores.rt:60:25
 array-copy-out-put-output : tie.Need-array-copy-out-put-output
 array-copy-out-put-output c = search needs
 
--- src/stores.rt:60:5
 put-output-requires : tie.Need-put-output-requires
 put-output-requires c κs = search needs
 
--- src/stores.rt:61:21
 add-put-output : tie.Need-add-put-output
 add-put-output c = search needs
 
--- src/stores.rt:61:29
 array-copy-out-put-output-2 : tie.Need-array-copy-out-put-output-2
 array-copy-out-put-output-2 c = search needs
 
--- src/stores.rt:61:5
 put-output-requires-2 : tie.Need-put-output-requires-2
 put-output-requires-2 c κs = search needs
 
--- src/stores.rt:62:21
 add-put-output-2 : tie.Need-add-put-output-2
 add-put-output-2 c = search needs
 
--- src/stores.rt:62:29
 array-copy-out-put-output-3 : tie.Need-array-copy-out-put-output-3
 array-copy-out-put-output-3 c = search needs
 
--- src/stores.rt:62:5
 put-output-requires-3 : tie.Need-put-output-requires-3
 put-output-requires-3 c κs = search needs
 
--- src/stores.rt:63:21
 add-put-output-3 : tie.Need-add-put-output-3
 add-put-output-3 c = search needs
 
--- src/stores.rt:63:29
 array-copy-out-put-output-4 : tie.Need-array-copy-out-put-output-4
 array-copy-out-put-output-4 c = search needs
 
--- src/stores.rt:63:5
 put-output-requires-4 : tie.Need-put-output-requires-4
 put-output-requires-4 c κs = search needs
 
--- src/stores.rt:56:1
 same-length : tie.Need-same-length
 same-length c = search needs
 
--- src/stores.rt:56:1
 returns : tie.Need-returns
 returns c =
     let a = c .before .before .before .before .before .before .before .before .before .before .before .before .before .before .before .before .before .before .before .before .before .args in

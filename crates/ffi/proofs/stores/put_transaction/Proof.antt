@@ -10,47 +10,36 @@ use Rattle.ffi.proofs.stores.put_inputs.Reads as put-inputs-reads
 use Rattle.ffi.proofs.stores.put_outputs.Reads as put-outputs-reads
 use Rattle.ffi.proofs.stores.put_word.Reads as put-word-reads
 
--- src/stores.rt:72:5
 put-word-requires : tie.Need-put-word-requires
 put-word-requires c κs = search needs
 
--- src/stores.rt:73:19
 add-put-byte : tie.Need-add-put-byte
 add-put-byte c = search needs
 
--- src/stores.rt:73:5
 put-byte-requires : tie.Need-put-byte-requires
 put-byte-requires c κs = search needs
 
--- src/stores.rt:74:19
 add-put-byte-2 : tie.Need-add-put-byte-2
 add-put-byte-2 c = search needs
 
--- src/stores.rt:74:5
 put-byte-requires-2 : tie.Need-put-byte-requires-2
 put-byte-requires-2 c κs = search needs
 
--- src/stores.rt:75:21
 add-put-inputs : tie.Need-add-put-inputs
 add-put-inputs c = search needs
 
--- src/stores.rt:75:5
 put-inputs-requires : tie.Need-put-inputs-requires
 put-inputs-requires c κs = search needs
 
--- src/stores.rt:76:22
 add-put-outputs : tie.Need-add-put-outputs
 add-put-outputs c = search needs
 
--- src/stores.rt:76:5
 put-outputs-requires : tie.Need-put-outputs-requires
 put-outputs-requires c κs = search needs
 
--- src/stores.rt:66:1
 same-length : tie.Need-same-length
 same-length c = search needs
 
--- src/stores.rt:66:1
 returns : tie.Need-returns
 returns c =
     let a = c .before .before .before .before .before .before .before .before .before .before .before .before .before .before .before .before .before .before .before .before .before .before .before .args in

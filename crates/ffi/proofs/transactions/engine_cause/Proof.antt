@@ -11,21 +11,17 @@ use Rattle.ffi.proofs.transactions.engine_cause.Lts as lts
 use Rattle.ffi.proofs.words.transaction_from.Reads as transaction-from-reads
 use Rattle.transaction.proofs.checks.cause.Reads as cause-reads
 
--- src/transactions.rt:19:9
 returns : tie.Need-returns
 returns c =
     let a = c .before .before .args in
     short 35 (now (a .transaction)) (causeOf (a .genesis) (transactionFrom (now (a .transaction)))) 255 (c .if1 .taken)
 
--- src/transactions.rt:21:9
 transaction-from-requires : tie.Need-transaction-from-requires
 transaction-from-requires c κs = search needs
 
--- src/transactions.rt:22:5
 cause-requires : tie.Need-cause-requires
 cause-requires c κs = search needs
 
--- src/transactions.rt:14:1
 returns-2 : tie.Need-returns-2
 returns-2 c =
     let a = c .before .before .before .before .args in

@@ -12,35 +12,28 @@ use Rattle.ffi.proofs.transactions.yes_or_no.Reads as yes-or-no-reads
 use Rattle.ffi.proofs.words.transaction_from.Reads as transaction-from-reads
 use Rattle.transaction.proofs.equality.same_transaction.Reads as same-transaction-reads
 
--- src/transactions.rt:41:9
 returns : tie.Need-returns
 returns c =
     let a = c .before .before .before .args in
     short 35 (now (a .a)) (ofWords 35 (now (a .b)) (yes (sameTransaction (transactionFrom (now (a .a))) (transactionFrom (now (a .b)))))) 255 (c .if1 .taken)
 
--- src/transactions.rt:44:9
 returns-2 : tie.Need-returns-2
 returns-2 c =
     let a = c .before .before .before .before .args in
     long 35 (now (a .a)) (ofWords 35 (now (a .b)) (yes (sameTransaction (transactionFrom (now (a .a))) (transactionFrom (now (a .b)))))) 255 (c .before .if1 .left) (short 35 (now (a .b)) (yes (sameTransaction (transactionFrom (now (a .a))) (transactionFrom (now (a .b))))) 255 (c .if2 .taken))
 
--- src/transactions.rt:46:9
 transaction-from-requires : tie.Need-transaction-from-requires
 transaction-from-requires c κs = search needs
 
--- src/transactions.rt:47:9
 transaction-from-requires-2 : tie.Need-transaction-from-requires-2
 transaction-from-requires-2 c κs = search needs
 
--- src/transactions.rt:48:15
 same-transaction-requires : tie.Need-same-transaction-requires
 same-transaction-requires c κs = search needs
 
--- src/transactions.rt:48:5
 yes-or-no-requires : tie.Need-yes-or-no-requires
 yes-or-no-requires c κs = search needs
 
--- src/transactions.rt:36:1
 returns-3 : tie.Need-returns-3
 returns-3 c =
     let a = c .before .before .before .before .before .before .before .before .args in

@@ -12,25 +12,20 @@ use Rattle.ffi.proofs.transactions.yes_or_no.Reads as yes-or-no-reads
 use Rattle.ffi.proofs.words.transaction_from.Reads as transaction-from-reads
 use Rattle.transaction.proofs.parts.takes_part.Reads as takes-part-reads
 
--- src/transactions.rt:30:9
 returns : tie.Need-returns
 returns c =
     let a = c .before .before .args in
     short 35 (now (a .transaction)) (yes (takesPart (a .shard) (transactionFrom (now (a .transaction))))) 255 (c .if1 .taken)
 
--- src/transactions.rt:32:9
 transaction-from-requires : tie.Need-transaction-from-requires
 transaction-from-requires c κs = search needs
 
--- src/transactions.rt:33:15
 takes-part-requires : tie.Need-takes-part-requires
 takes-part-requires c κs = search needs
 
--- src/transactions.rt:33:5
 yes-or-no-requires : tie.Need-yes-or-no-requires
 yes-or-no-requires c κs = search needs
 
--- src/transactions.rt:25:1
 returns-2 : tie.Need-returns-2
 returns-2 c =
     let a = c .before .before .before .before .before .args in

@@ -16,53 +16,41 @@ Inv-loop bytes records sum₀ at₀ left₀ sum at left = Left bytes records sum
 abbrev μ-loop : tie.MeasureT-loop
 μ-loop bytes records sum₀ at₀ left₀ sum at left = left
 
--- src/votes.rt:78:5
 loop-holds : tie.Need-loop-holds Inv-loop μ-loop
 loop-holds c = start (now (c .before .args .bytes)) (c .before .args .records)
 
--- src/votes.rt:79:20
 sub-part : tie.Need-sub-part Inv-loop μ-loop
 sub-part c = search needs
 
--- src/votes.rt:79:20
 part-part-start : tie.Need-part-part-start Inv-loop μ-loop
 part-part-start c = search needs
 
--- src/votes.rt:79:20
 part-part-end : tie.Need-part-part-end Inv-loop μ-loop
 part-part-end c = search needs
 
--- src/votes.rt:80:13
 read-requires : tie.Need-read-requires Inv-loop μ-loop
 read-requires c κs = search needs
 
--- src/votes.rt:83:47
 worth-requires : tie.Need-worth-requires Inv-loop μ-loop
 worth-requires c κs = search needs
 
--- src/votes.rt:83:9
 wrapping-add-u64-requires : tie.Need-wrapping-add-u64-requires Inv-loop μ-loop
 wrapping-add-u64-requires c κs = search needs
 
--- src/votes.rt:84:9
 next-place-requires : tie.Need-next-place-requires Inv-loop μ-loop
 next-place-requires c κs = within (now (c .before .before .before .before .before .before .before .before .args .bytes)) (c .before .before .before .before .before .before .loop .at) (c .before .before .before .before .before .before .loop .inv .place) (c .before .before .before .read .ensures)
 
--- src/votes.rt:85:9
 sub-left : tie.Need-sub-left Inv-loop μ-loop
 sub-left c = search needs
 
--- src/votes.rt:78:5
 loop-less : tie.Need-loop-less Inv-loop μ-loop
 loop-less c = search needs
 
--- src/votes.rt:78:5
 loop-again : tie.Need-loop-again Inv-loop μ-loop
 loop-again c =
     turn (now (c .before .before .before .before .before .before .before .before .before .args .bytes)) (c .before .before .before .before .before .before .before .before .before .args .records) (c .before .before .before .before .before .before .before .loop .sum) (c .before .before .before .before .before .before .before .loop .at) (c .before .before .before .before .before .before .before .loop .left) (c .before .before .before .before .before .before .before .loop .inv) (c .before .before .before .before .before .before .loop-test .taken)
     (c .before .before .before .before .read .ensures) (c .before .before .worth .ensures) (c .before .wrapping-add-u64 .ensures) (c .next-place .ensures)
 
--- src/votes.rt:71:1
 returns : tie.Need-returns Inv-loop μ-loop
 returns c = done (now (c .before .before .before .args .bytes)) (c .before .before .before .args .records) (c .before .loop .sum) (c .before .loop .at) (c .before .loop .left) (c .before .loop .inv) (c .loop-test .left)
 

@@ -6,15 +6,12 @@ use Rattle.ffi.proofs.votes.next_place.Tie as tie
 use Rattle.ffi.proofs.votes.next_place.Reads as reads
 use Rattle.ffi.proofs.votes.next_place.Lts as lts
 
--- src/votes.rt:67:16
 add-next : tie.Need-add-next
 add-next c = search needs
 
--- src/votes.rt:63:1
 returns : tie.Need-returns
 returns c = rw (eq-eqb _ _ (c .if1 .taken)) refl
 
--- src/votes.rt:63:1
 returns-2 : tie.Need-returns-2
 returns-2 c = rw (ne-eqb _ _ (c .if1 .left)) refl
 

@@ -6,37 +6,29 @@ use Rattle.ffi.proofs.votes.transaction_worth.Statement.{statement}
 use Rattle.ffi.proofs.votes.transaction_worth.Tie as tie
 use Rattle.ffi.proofs.votes.transaction_worth.Reads as reads
 use Rattle.ffi.proofs.votes.transaction_worth.Lts as lts
-use Rattle.ffi.proofs.votes.wide_word.Reads as wide-word-reads
+use Rattle.ffi.proofs.words.wide_word.Reads as wide-word-reads
 
--- src/votes.rt:29:17
 array-copy-out-input : tie.Need-array-copy-out-input
 array-copy-out-input c = search needs
 
--- src/votes.rt:30:18
 array-copy-out-output : tie.Need-array-copy-out-output
 array-copy-out-output c = search needs
 
--- src/votes.rt:31:5
 wide-word-requires : tie.Need-wide-word-requires
 wide-word-requires c κs = search needs
 
--- src/votes.rt:31:27
 wide-word-requires-2 : tie.Need-wide-word-requires-2
 wide-word-requires-2 c κs = search needs
 
--- src/votes.rt:31:5
 add-result : tie.Need-add-result
 add-result c = search needs
 
--- src/votes.rt:31:53
 wide-word-requires-3 : tie.Need-wide-word-requires-3
 wide-word-requires-3 c κs = search needs
 
--- src/votes.rt:31:5
 add-result-2 : tie.Need-add-result-2
 add-result-2 c = search needs
 
--- src/votes.rt:24:1
 returns : tie.Need-returns
 unfolding transactionWorth
 returns c = (rw (c .before .before .wide-word .ensures .0, c .before .wide-word2 .ensures .0, c .wide-word3 .ensures .0) refl, omega arith)

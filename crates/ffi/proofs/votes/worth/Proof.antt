@@ -6,34 +6,27 @@ use Rattle.ffi.proofs.votes.worth.Tie as tie
 use Rattle.ffi.proofs.votes.worth.Reads as reads
 use Rattle.ffi.proofs.votes.worth.Lts as lts
 use Rattle.ffi.proofs.votes.record_worth.Reads as record-worth-reads
-use Rattle.ffi.proofs.votes.wide_byte.Reads as wide-byte-reads
+use Rattle.ffi.proofs.words.wide_byte.Reads as wide-byte-reads
 
--- src/votes.rt:57:22
 enum-known-answer : tie.Need-enum-known-answer
 enum-known-answer c = search needs
 
--- src/votes.rt:57:33
 record-worth-requires : tie.Need-record-worth-requires
 record-worth-requires c κs = search needs
 
--- src/votes.rt:58:25
 enum-known-answer-2 : tie.Need-enum-known-answer-2
 enum-known-answer-2 c = search needs
 
--- src/votes.rt:58:46
 wide-byte-requires : tie.Need-wide-byte-requires
 wide-byte-requires c κs = search needs
 
--- src/votes.rt:58:36
 add-result : tie.Need-add-result
 add-result c = search needs
 
--- src/votes.rt:53:1
 returns : tie.Need-returns
 unfolding worthOf
 returns c = rw (c .before .before .answer .given .1) (c .record-worth .ensures)
 
--- src/votes.rt:53:1
 returns-2 : tie.Need-returns-2
 unfolding worthOf
 returns-2 c = rw (c .before .before .answer2 .given .1, c .wide-byte .ensures .0) refl

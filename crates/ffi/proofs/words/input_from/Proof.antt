@@ -7,83 +7,63 @@ use Rattle.ffi.proofs.words.input_from.Lts as lts
 use Rattle.ffi.proofs.words.byte.Reads as byte-reads
 use Rattle.ffi.proofs.words.word.Reads as word-reads
 
--- src/words.rt:29:25
 mul-byte : tie.Need-mul-byte
 mul-byte c = search needs
 
--- src/words.rt:29:25
 shared-slice-read-byte : tie.Need-shared-slice-read-byte
 shared-slice-read-byte c = search needs
 
--- src/words.rt:29:20
 byte-requires : tie.Need-byte-requires
 byte-requires c κs = search needs
 
--- src/words.rt:30:33
 add-word : tie.Need-add-word
 add-word c = search needs
 
--- src/words.rt:30:27
 mul-word : tie.Need-mul-word
 mul-word c = search needs
 
--- src/words.rt:30:27
 shared-slice-read-word : tie.Need-shared-slice-read-word
 shared-slice-read-word c = search needs
 
--- src/words.rt:30:22
 word-requires : tie.Need-word-requires
 word-requires c κs = search needs
 
--- src/words.rt:31:31
 add-byte : tie.Need-add-byte
 add-byte c = search needs
 
--- src/words.rt:31:25
 mul-byte-2 : tie.Need-mul-byte-2
 mul-byte-2 c = search needs
 
--- src/words.rt:31:25
 shared-slice-read-byte-2 : tie.Need-shared-slice-read-byte-2
 shared-slice-read-byte-2 c = search needs
 
--- src/words.rt:31:20
 byte-requires-2 : tie.Need-byte-requires-2
 byte-requires-2 c κs = search needs
 
--- src/words.rt:33:27
 add-word-2 : tie.Need-add-word-2
 add-word-2 c = search needs
 
--- src/words.rt:33:21
 mul-word-2 : tie.Need-mul-word-2
 mul-word-2 c = search needs
 
--- src/words.rt:33:21
 shared-slice-read-word-2 : tie.Need-shared-slice-read-word-2
 shared-slice-read-word-2 c = search needs
 
--- src/words.rt:33:16
 word-requires-2 : tie.Need-word-requires-2
 word-requires-2 c κs = search needs
 
--- src/words.rt:34:28
 add-word-3 : tie.Need-add-word-3
 add-word-3 c = search needs
 
--- src/words.rt:34:22
 mul-word-3 : tie.Need-mul-word-3
 mul-word-3 c = search needs
 
--- src/words.rt:34:22
 shared-slice-read-word-3 : tie.Need-shared-slice-read-word-3
 shared-slice-read-word-3 c = search needs
 
--- src/words.rt:34:17
 word-requires-3 : tie.Need-word-requires-3
 word-requires-3 c κs = search needs
 
--- src/words.rt:23:1
 returns : tie.Need-returns
 unfolding inputFrom
 returns c = cc

@@ -6,35 +6,27 @@ use Rattle.ffi.proofs.words.inputs_from.Reads as reads
 use Rattle.ffi.proofs.words.inputs_from.Lts as lts
 use Rattle.ffi.proofs.words.input_from.Reads as input-from-reads
 
--- src/words.rt:54:9
 input-from-requires : tie.Need-input-from-requires
 input-from-requires c κs = search needs
 
--- src/words.rt:55:27
 add-input-from : tie.Need-add-input-from
 add-input-from c = search needs
 
--- src/words.rt:55:9
 input-from-requires-2 : tie.Need-input-from-requires-2
 input-from-requires-2 c κs = search needs
 
--- src/words.rt:56:27
 add-input-from-2 : tie.Need-add-input-from-2
 add-input-from-2 c = search needs
 
--- src/words.rt:56:9
 input-from-requires-3 : tie.Need-input-from-requires-3
 input-from-requires-3 c κs = search needs
 
--- src/words.rt:57:27
 add-input-from-3 : tie.Need-add-input-from-3
 add-input-from-3 c = search needs
 
--- src/words.rt:57:9
 input-from-requires-4 : tie.Need-input-from-requires-4
 input-from-requires-4 c κs = search needs
 
--- src/words.rt:49:1
 returns : tie.Need-returns
 unfolding inputsFrom
 returns c = cc

@@ -7,51 +7,39 @@ use Rattle.ffi.proofs.words.output_from.Lts as lts
 use Rattle.ffi.proofs.words.byte.Reads as byte-reads
 use Rattle.ffi.proofs.words.word.Reads as word-reads
 
--- src/words.rt:43:21
 mul-byte : tie.Need-mul-byte
 mul-byte c = search needs
 
--- src/words.rt:43:21
 shared-slice-read-byte : tie.Need-shared-slice-read-byte
 shared-slice-read-byte c = search needs
 
--- src/words.rt:43:16
 byte-requires : tie.Need-byte-requires
 byte-requires c κs = search needs
 
--- src/words.rt:44:27
 add-word : tie.Need-add-word
 add-word c = search needs
 
--- src/words.rt:44:21
 mul-word : tie.Need-mul-word
 mul-word c = search needs
 
--- src/words.rt:44:21
 shared-slice-read-word : tie.Need-shared-slice-read-word
 shared-slice-read-word c = search needs
 
--- src/words.rt:44:16
 word-requires : tie.Need-word-requires
 word-requires c κs = search needs
 
--- src/words.rt:45:28
 add-word-2 : tie.Need-add-word-2
 add-word-2 c = search needs
 
--- src/words.rt:45:22
 mul-word-2 : tie.Need-mul-word-2
 mul-word-2 c = search needs
 
--- src/words.rt:45:22
 shared-slice-read-word-2 : tie.Need-shared-slice-read-word-2
 shared-slice-read-word-2 c = search needs
 
--- src/words.rt:45:17
 word-requires-2 : tie.Need-word-requires-2
 word-requires-2 c κs = search needs
 
--- src/words.rt:38:1
 returns : tie.Need-returns
 unfolding outputFrom
 returns c = cc

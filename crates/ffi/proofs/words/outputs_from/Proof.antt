@@ -6,35 +6,27 @@ use Rattle.ffi.proofs.words.outputs_from.Reads as reads
 use Rattle.ffi.proofs.words.outputs_from.Lts as lts
 use Rattle.ffi.proofs.words.output_from.Reads as output-from-reads
 
--- src/words.rt:66:9
 output-from-requires : tie.Need-output-from-requires
 output-from-requires c κs = search needs
 
--- src/words.rt:67:28
 add-output-from : tie.Need-add-output-from
 add-output-from c = search needs
 
--- src/words.rt:67:9
 output-from-requires-2 : tie.Need-output-from-requires-2
 output-from-requires-2 c κs = search needs
 
--- src/words.rt:68:28
 add-output-from-2 : tie.Need-add-output-from-2
 add-output-from-2 c = search needs
 
--- src/words.rt:68:9
 output-from-requires-3 : tie.Need-output-from-requires-3
 output-from-requires-3 c κs = search needs
 
--- src/words.rt:69:28
 add-output-from-3 : tie.Need-add-output-from-3
 add-output-from-3 c = search needs
 
--- src/words.rt:69:9
 output-from-requires-4 : tie.Need-output-from-requires-4
 output-from-requires-4 c κs = search needs
 
--- src/words.rt:61:1
 returns : tie.Need-returns
 unfolding outputsFrom
 returns c = cc

@@ -9,39 +9,30 @@ use Rattle.ffi.proofs.words.inputs_from.Reads as inputs-from-reads
 use Rattle.ffi.proofs.words.outputs_from.Reads as outputs-from-reads
 use Rattle.ffi.proofs.words.word.Reads as word-reads
 
--- src/words.rt:77:9
 inputs-from-requires : tie.Need-inputs-from-requires
 inputs-from-requires c κs = search needs
 
--- src/words.rt:78:9
 outputs-from-requires : tie.Need-outputs-from-requires
 outputs-from-requires c κs = search needs
 
--- src/words.rt:80:22
 shared-slice-read-word : tie.Need-shared-slice-read-word
 shared-slice-read-word c = search needs
 
--- src/words.rt:80:17
 word-requires : tie.Need-word-requires
 word-requires c κs = search needs
 
--- src/words.rt:81:27
 shared-slice-read-byte : tie.Need-shared-slice-read-byte
 shared-slice-read-byte c = search needs
 
--- src/words.rt:81:22
 byte-requires : tie.Need-byte-requires
 byte-requires c κs = search needs
 
--- src/words.rt:82:28
 shared-slice-read-byte-2 : tie.Need-shared-slice-read-byte-2
 shared-slice-read-byte-2 c = search needs
 
--- src/words.rt:82:23
 byte-requires-2 : tie.Need-byte-requires-2
 byte-requires-2 c κs = search needs
 
--- src/words.rt:73:1
 returns : tie.Need-returns
 unfolding transactionFrom
 returns c = cc

@@ -13,29 +13,23 @@ use Rattle.ffi.proofs.words.transaction_from.Reads as transaction-from-
 use Rattle.ffi.proofs.writing.code.Reads as code-reads
 use Rattle.writer.proofs.write_register.Reads as write-register-reads
 
--- src/writing.rt:32:9
 returns : tie.Need-returns
 returns c =
     let a = c .before .before .before .args in
     encodes-none (now (a .transaction)) (now (a .out)) (λ (t : Transaction). registerCause (a .receiver) t (length (now (a .out)))) (registerBytes (a .receiver)) (c .if1 .taken)
 
--- src/writing.rt:34:9
 transaction-from-requires : tie.Need-transaction-from-requires
 transaction-from-requires c κs = search needs
 
--- src/writing.rt:35:10
 write-register-requires : tie.Need-write-register-requires
 write-register-requires c κs = search needs
 
--- src/writing.rt:35:5
 code-requires : tie.Need-code-requires
 code-requires c κs = search needs
 
--- src/writing.rt:27:1
 same-length : tie.Need-same-length
 same-length c = search needs
 
--- src/writing.rt:27:1
 returns-2 : tie.Need-returns-2
 returns-2 c =
     let a = c .before .before .before .before .before .before .before .before .before .args in

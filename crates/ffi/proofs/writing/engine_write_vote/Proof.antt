@@ -13,29 +13,23 @@ use Rattle.ffi.proofs.words.transaction_from.Reads as transaction-from-
 use Rattle.ffi.proofs.writing.code.Reads as code-reads
 use Rattle.writer.proofs.write_vote.Reads as write-vote-reads
 
--- src/writing.rt:43:9
 returns : tie.Need-returns
 returns c =
     let a = c .before .before .before .args in
     encodes-none (now (a .transaction)) (now (a .out)) (λ (t : Transaction). voteCause (a .receiver) (a .sender) (a .verdict) t (length (now (a .out)))) (voteBytes (a .receiver) (a .sender) (a .verdict)) (c .if1 .taken)
 
--- src/writing.rt:45:9
 transaction-from-requires : tie.Need-transaction-from-requires
 transaction-from-requires c κs = search needs
 
--- src/writing.rt:46:10
 write-vote-requires : tie.Need-write-vote-requires
 write-vote-requires c κs = search needs
 
--- src/writing.rt:46:5
 code-requires : tie.Need-code-requires
 code-requires c κs = search needs
 
--- src/writing.rt:38:1
 same-length : tie.Need-same-length
 same-length c = search needs
 
--- src/writing.rt:38:1
 returns-2 : tie.Need-returns-2
 returns-2 c =
     let a = c .before .before .before .before .before .before .before .before .before .args in
