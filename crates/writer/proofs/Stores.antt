@@ -16,14 +16,14 @@ sets-append l i [] ys = rw add-zero
 sets-append l i (x ∷ xs) ys = rw (add-suc, ← suc-add) (sets-append _ _ xs ys)
 
 -- a second store, right behind the n bytes of the first
-behind : {a b : List ℕ} (l : List ℕ) (at : ℕ) (xs ys : List ℕ) (n : ℕ) → length xs ≡ n → a ≡ sets l at xs → b ≡ sets a (at + n) ys
+pub behind : {a b : List ℕ} (l : List ℕ) (at : ℕ) (xs ys : List ℕ) (n : ℕ) → length xs ≡ n → a ≡ sets l at xs → b ≡ sets a (at + n) ys
     → b ≡ sets l at (xs ++ ys)
 behind l at xs ys n q ea eb =
     eb ∙ ap (λ (z : List ℕ). sets z (at + n) ys) ea ∙ ap (λ (m : ℕ). sets (sets l at xs) (at + m) ys) (sym q)
     ∙ sym (sets-append l at xs ys)
 
 -- a store from the front leaves what stands behind it
-front : {a : List ℕ} (l xs : List ℕ) (n : ℕ) → length xs ≡ n → n ≤ length l → a ≡ sets l 0 xs → a ≡ xs ++ drop n l
+pub front : {a : List ℕ} (l xs : List ℕ) (n : ℕ) → length xs ≡ n → n ≤ length l → a ≡ sets l 0 xs → a ≡ xs ++ drop n l
 front l xs n q h e =
     e ∙ sets-eq xs l 0 (rw (zero-add, q) h) ∙ rw (zero-add, q) refl
 

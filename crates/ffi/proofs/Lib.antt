@@ -1,0 +1,4 @@
+pub mod Lists
+pub mod Runs
+pub mod Answers
+pub mod Sums

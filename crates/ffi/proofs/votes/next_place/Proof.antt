@@ -1,0 +1,19 @@
+use borrow.Author.Tests.{eq-eqb, ne-eqb}
+use mathlib.Core.Path.{_≡_, refl, sym, ap, _∙_}
+use borrow.Author.Needs.{needs}
+use Rattle.ffi.proofs.votes.next_place.Statement.{statement}
+use Rattle.ffi.proofs.votes.next_place.Tie as tie
+use Rattle.ffi.proofs.votes.next_place.Reads as reads
+use Rattle.ffi.proofs.votes.next_place.Lts as lts
+
+add-next : tie.Need-add-next
+add-next c = search needs
+
+returns : tie.Need-returns
+returns c = rw (eq-eqb _ _ (c .if1 .taken)) refl
+
+returns-2 : tie.Need-returns-2
+returns-2 c = rw (ne-eqb _ _ (c .if1 .left)) refl
+
+pub next-place-spec : {M : Type 1} → statement M
+next-place-spec = tie.close (tie.spec add-next returns returns-2)

@@ -1,0 +1,52 @@
+use Rattle.ffi.specs.Words.{transactionFrom}
+use borrow.Author.Needs.{needs}
+use Rattle.ffi.proofs.words.transaction_from.Statement.{statement}
+use Rattle.ffi.proofs.words.transaction_from.Tie as tie
+use Rattle.ffi.proofs.words.transaction_from.Reads as reads
+use Rattle.ffi.proofs.words.transaction_from.Lts as lts
+use Rattle.ffi.proofs.words.byte.Reads as byte-reads
+use Rattle.ffi.proofs.words.inputs_from.Reads as inputs-from-reads
+use Rattle.ffi.proofs.words.outputs_from.Reads as outputs-from-reads
+use Rattle.ffi.proofs.words.word.Reads as word-reads
+
+inputs-from-requires : tie.Need-inputs-from-requires
+inputs-from-requires c κs = search needs
+
+outputs-from-requires : tie.Need-outputs-from-requires
+outputs-from-requires c κs = search needs
+
+shared-slice-read-word : tie.Need-shared-slice-read-word
+shared-slice-read-word c = search needs
+
+word-requires : tie.Need-word-requires
+word-requires c κs = search needs
+
+shared-slice-read-byte : tie.Need-shared-slice-read-byte
+shared-slice-read-byte c = search needs
+
+byte-requires : tie.Need-byte-requires
+byte-requires c κs = search needs
+
+shared-slice-read-byte-2 : tie.Need-shared-slice-read-byte-2
+shared-slice-read-byte-2 c = search needs
+
+byte-requires-2 : tie.Need-byte-requires-2
+byte-requires-2 c κs = search needs
+
+returns : tie.Need-returns
+unfolding transactionFrom
+returns c = cc
+
+pub transaction-from-spec : {M : Type 1} → statement M
+transaction-from-spec =
+    tie.close
+    (tie.spec
+    inputs-from-requires
+    outputs-from-requires
+    shared-slice-read-word
+    word-requires
+    shared-slice-read-byte
+    byte-requires
+    shared-slice-read-byte-2
+    byte-requires-2
+    returns)

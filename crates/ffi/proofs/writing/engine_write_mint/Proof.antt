@@ -1,0 +1,23 @@
+use Rattle.ffi.proofs.Answers.{encodes}
+use borrow.Author.Needs.{needs}
+use Rattle.ffi.proofs.writing.engine_write_mint.Statement.{statement}
+use Rattle.ffi.proofs.writing.engine_write_mint.Tie as tie
+use Rattle.ffi.proofs.writing.engine_write_mint.Reads as reads
+use Rattle.ffi.proofs.writing.engine_write_mint.Lts as lts
+use Rattle.ffi.proofs.writing.code.Reads as code-reads
+use Rattle.writer.proofs.write_mint.Reads as write-mint-reads
+
+write-mint-requires : tie.Need-write-mint-requires
+write-mint-requires c κs = search needs
+
+code-requires : tie.Need-code-requires
+code-requires c κs = search needs
+
+same-length : tie.Need-same-length
+same-length c = search needs
+
+returns : tie.Need-returns
+returns c = encodes (c .before .before .before .write-mint .ensures) (c .code .ensures)
+
+pub engine-write-mint-spec : {M : Type 1} → statement M
+engine-write-mint-spec = tie.close (tie.spec write-mint-requires code-requires same-length returns)

@@ -1,0 +1,48 @@
+use Rattle.ffi.proofs.Answers.{encodes-none, encodes-words}
+use Rattle.writer.specs.Writing.{registerCause}
+use Rattle.writer.specs.Layout.{registerBytes}
+use Rattle.transaction.specs.declared.Transaction.{Transaction}
+use lib.ListN.{length}
+use denote.Ref.{now}
+use borrow.Author.Needs.{needs}
+use Rattle.ffi.proofs.writing.engine_write_register.Statement.{statement}
+use Rattle.ffi.proofs.writing.engine_write_register.Tie as tie
+use Rattle.ffi.proofs.writing.engine_write_register.Reads as reads
+use Rattle.ffi.proofs.writing.engine_write_register.Lts as lts
+use Rattle.ffi.proofs.words.transaction_from.Reads as transaction-from-reads
+use Rattle.ffi.proofs.writing.code.Reads as code-reads
+use Rattle.writer.proofs.write_register.Reads as write-register-reads
+
+returns : tie.Need-returns
+returns c =
+    let a = c .before .before .before .args in
+    encodes-none (now (a .transaction)) (now (a .out)) (λ (t : Transaction). registerCause (a .receiver) t (length (now (a .out)))) (registerBytes (a .receiver)) (c .if1 .taken)
+
+transaction-from-requires : tie.Need-transaction-from-requires
+transaction-from-requires c κs = search needs
+
+write-register-requires : tie.Need-write-register-requires
+write-register-requires c κs = search needs
+
+code-requires : tie.Need-code-requires
+code-requires c κs = search needs
+
+same-length : tie.Need-same-length
+same-length c = search needs
+
+returns-2 : tie.Need-returns-2
+returns-2 c =
+    let a = c .before .before .before .before .before .before .before .before .before .args in
+    encodes-words (now (a .transaction)) (now (a .out)) (λ (t : Transaction). registerCause (a .receiver) t (length (now (a .out)))) (registerBytes (a .receiver))
+    (c .before .before .before .before .before .before .if1 .left) (c .before .before .before .before .before .transaction-from .ensures) (c .before .before .before .write-register .ensures) (c .code .ensures)
+
+pub engine-write-register-spec : {M : Type 1} → statement M
+engine-write-register-spec =
+    tie.close
+    (tie.spec
+    returns
+    transaction-from-requires
+    write-register-requires
+    code-requires
+    same-length
+    returns-2)
