@@ -8,7 +8,9 @@ use Rattle.transaction.specs.declared.Transaction.{Transaction}
 use Rattle.model.specs.declared.Token.{Token}
 use Rattle.model.specs.declared.Known.{Known}
 use Rattle.model.specs.Steps.{noted, hearing, outcomeOf, settle, nothingKnown}
+use Rattle.model.specs.declared.Answer.the-variants.{Heard}
 use Rattle.shard.specs.declared.Shard.{Shard}
+use Rattle.shard.specs.declared.Stepped.{Stepped}
 use Rattle.shard.specs.View.{view, Sound}
 
 -- a transaction that becomes known with this own verdict
@@ -33,6 +35,11 @@ pub record Changed (s : Shard) (tokens : List Token) (k : Known) (held place : �
 abbrev pub heardAt : Shard → ℕ → ℕ → ℕ → Known
 heardAt s place sender verdict = hearing sender verdict (getD (view s .known) place nothingKnown)
 
+-- the tokens after the decision that it brings
+abbrev pub tokensAfter : Shard → ℕ → ℕ → ℕ → List Token
+tokensAfter s place sender verdict =
+    settle (outcomeOf (heardAt s place sender verdict)) (s .number) (heardAt s place sender verdict .transaction) (view s .tokens)
+
 -- a fresh vote can be carried out: there is such an entry, and the tokens after the decision fit
 pub record FreshVote (s : Shard) (place sender verdict : ℕ) : Type 0 where
   pub held : s .held ≤ 128
@@ -40,4 +47,9 @@ pub record FreshVote (s : Shard) (place sender verdict : ℕ) : Type 0 where
   pub entry : place < s .known
   pub from : sender < 8
   pub says : verdict ≤ 1
-  pub room : length (settle (outcomeOf (heardAt s place sender verdict)) (s .number) (heardAt s place sender verdict .transaction) (view s .tokens)) ≤ 128
+  pub room : length (tokensAfter s place sender verdict) ≤ 128
+
+-- it is carried out
+pub record FreshDone (s : Shard) (place sender verdict : ℕ) (r : Stepped) : Type 0 where
+  pub answered : r .answer ≡ Heard (outcomeOf (heardAt s place sender verdict))
+  pub changed : Changed s (tokensAfter s place sender verdict) (heardAt s place sender verdict) (length (tokensAfter s place sender verdict)) place (r .shard)

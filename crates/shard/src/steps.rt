@@ -7,7 +7,7 @@ ghost use Rattle.transaction.specs.Lists.{firstOf};
 ghost use Rattle.model.specs.Steps.{house, availableHere, pledges, vote, noted, newlyKnown, outcomeOf, settle, afterMint, hearing, entryOf, heardFrom};
 ghost use Rattle.model.specs.Shard.{mintRefusals, registerRefusals, deliverRefusals, mint, register, deliver};
 ghost use Rattle.shard.specs.View.{view, Sound, Steps};
-ghost use Rattle.shard.specs.Parts.{knownWith, Grown, Changed, FreshVote, heardAt};
+ghost use Rattle.shard.specs.Parts.{knownWith, Grown, Changed, FreshVote, FreshDone};
 use crate::Shard;
 use crate::Stepped;
 use holdings::availability::available_of;
@@ -162,7 +162,7 @@ fn with_changed(s: Shard, tokens: [Token; 128], held: usize, place: usize, k: Kn
 // A fresh vote on the known transaction at a place.
 fn fresh_vote(s: Shard, place: usize, sender: u8, verdict: u8) -> Stepped
     requires { ⌜ FreshVote s place sender verdict ⌝ }
-    ensures { λ r. ⌜ (r .answer ≡ Answer.Heard (outcomeOf (heardAt s place sender verdict))) × Changed s (settle (outcomeOf (heardAt s place sender verdict)) (s .number) (heardAt s place sender verdict .transaction) (view s .tokens)) (heardAt s place sender verdict) (r .shard .held) place (r .shard) ⌝ }
+    ensures { λ r. ⌜ FreshDone s place sender verdict r ⌝ }
 {
     let me = s.number;
     let held = s.held;

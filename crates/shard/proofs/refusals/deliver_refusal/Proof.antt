@@ -1,3 +1,9 @@
+use Rattle.model.specs.Shard.{deliverForm, deliverRefusals}
+use Rattle.model.specs.Steps.{house}
+use Rattle.shard.specs.View.{view}
+use Rattle.shard.specs.Tables.{deliverLedger}
+use Rattle.transaction.proofs.Tables.{table-stands, table-behind}
+use mathlib.Core.Path.{_≡_, refl, sym, ap, _∙_}
 use borrow.Author.Needs.{needs}
 use Rattle.shard.proofs.refusals.deliver_refusal.Statement.{statement}
 use Rattle.shard.proofs.refusals.deliver_refusal.Tie as tie
@@ -12,7 +18,10 @@ deliver-form-requires c κs = search needs
 
 -- src/refusals.rt:183:9
 returns : tie.Need-returns
-returns c = ?
+unfolding deliverRefusals
+returns c = 
+    let a = c .before .before .args in
+    table-stands (deliverForm house (a .s .number) (a .receiver) (a .sender) (a .verdict) (a .t)) (deliverLedger (view (a .s)) (a .sender) (a .verdict) (a .t)) (c .before .deliver-form .ensures) (c .if1 .taken)
 
 -- src/refusals.rt:185:5
 deliver-ledger-requires : tie.Need-deliver-ledger-requires
@@ -20,7 +29,10 @@ deliver-ledger-requires c κs = search needs
 
 -- src/refusals.rt:177:1
 returns-2 : tie.Need-returns-2
-returns-2 c = ?
+unfolding deliverRefusals deliverForm
+returns-2 c = 
+    let a = c .before .before .before .args in
+    table-behind (deliverForm house (a .s .number) (a .receiver) (a .sender) (a .verdict) (a .t)) (deliverLedger (view (a .s)) (a .sender) (a .verdict) (a .t)) (c .before .before .deliver-form .ensures) refl (c .before .if1 .left) (c .deliver-ledger .ensures)
 
 pub deliver-refusal-spec : {M : Type 1} → statement M
 deliver-refusal-spec =

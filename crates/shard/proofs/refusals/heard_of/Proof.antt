@@ -1,3 +1,9 @@
+use Rattle.model.specs.Steps.{nothingKnown}
+use Rattle.shard.specs.View.{view}
+use Rattle.shard.proofs.Ledgers.{noted-at, noted-none, entry-at, known-count}
+use Rattle.shard.proofs.Long.{long-of}
+use native.Mathlib.Omega.{arith}
+use mathlib.Core.Path.{_≡_, refl, sym, ap, _∙_}
 use borrow.Author.Needs.{needs}
 use Rattle.shard.proofs.refusals.heard_of.Statement.{statement}
 use Rattle.shard.proofs.refusals.heard_of.Tie as tie
@@ -24,11 +30,20 @@ heard-from-requires c κs = search needs
 
 -- src/refusals.rt:145:9
 returns : tie.Need-returns
-returns c = ?
+unfolding view
+returns c = 
+    let s = c .before .before .before .before .before .before .args .s in
+    let long = long-of s (c .before .before .before .before .before .before .good .0) in
+    noted-at (c .before .before .before .before .before .before .args .t) (view s .known) (c .before .before .before .before .before .before .args .sender) (c .before .before .before .before .place-of .ensures .0)
+    (entry-at (s .transactions) (s .known) (c .before .before .before .before .place-of .result) _ nothingKnown (c .before .before .before .if1 .taken) (omega (arith, c .before .before .before .before .before .before .pre .known, long .transactions))) (c .heard-from .ensures)
 
 -- src/refusals.rt:135:1
 returns-2 : tie.Need-returns-2
-returns-2 c = ?
+unfolding view
+returns-2 c = 
+    let s = c .before .before .before .args .s in
+    let long = long-of s (c .before .before .before .good .0) in
+    noted-none (c .before .before .before .args .t) (view s .known) (c .before .before .before .args .sender) (c .before .place-of .ensures .0) (omega (arith, c .if1 .left, known-count s long (c .before .before .before .pre .known)))
 
 pub heard-of-spec : {M : Type 1} → statement M
 heard-of-spec =

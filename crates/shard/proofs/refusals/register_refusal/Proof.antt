@@ -1,3 +1,8 @@
+use Rattle.model.specs.Shard.{registerRefusals}
+use Rattle.shard.specs.View.{view}
+use Rattle.shard.specs.Tables.{registerForm, registerLedger}
+use Rattle.transaction.proofs.Tables.{table-stands, table-behind}
+use mathlib.Core.Path.{_≡_, refl, sym, ap, _∙_}
 use borrow.Author.Needs.{needs}
 use Rattle.shard.proofs.refusals.register_refusal.Statement.{statement}
 use Rattle.shard.proofs.refusals.register_refusal.Tie as tie
@@ -12,7 +17,10 @@ register-form-requires c κs = search needs
 
 -- src/refusals.rt:109:9
 returns : tie.Need-returns
-returns c = ?
+unfolding registerRefusals
+returns c = 
+    let a = c .before .before .args in
+    table-stands (registerForm (a .s .number) (a .receiver) (a .t)) (registerLedger (a .s .number) (view (a .s)) (a .t)) (c .before .register-form .ensures) (c .if1 .taken)
 
 -- src/refusals.rt:111:5
 register-ledger-requires : tie.Need-register-ledger-requires
@@ -20,7 +28,10 @@ register-ledger-requires c κs = search needs
 
 -- src/refusals.rt:103:1
 returns-2 : tie.Need-returns-2
-returns-2 c = ?
+unfolding registerRefusals
+returns-2 c = 
+    let a = c .before .before .before .args in
+    table-behind (registerForm (a .s .number) (a .receiver) (a .t)) (registerLedger (a .s .number) (view (a .s)) (a .t)) (c .before .before .register-form .ensures) refl (c .before .if1 .left) (c .register-ledger .ensures)
 
 pub register-refusal-spec : {M : Type 1} → statement M
 register-refusal-spec =

@@ -1,0 +1,3 @@
+pub mod Long
+pub mod Ledgers
+pub mod Carried
