@@ -1,25 +1,24 @@
 -- Calls that pass: what the model's step then is, what the table of refusals has said, and the promise of the whole call.
-use Prim.Native.Nat.{ℕ, _+_, _≤_, _<_}
+use Prim.Native.Nat.{ℕ, _≤_, _<_}
 use mathlib.Core.Path.{_≡_, refl, sym, ap, _∙_, subst}
-use mathlib.Core.Bool.{Bool, true, false, cond}
-use mathlib.Core.List.{List, [], _∷_, _++_}
+use mathlib.Core.Bool.{Bool}
+use mathlib.Core.List.{List, [], _∷_}
 use native.Mathlib.Omega.{arith}
-use borrow.Author.Tests.{eq-eqb, ne-eqb}
-use lib.Dec.{eqb}
-use lib.ListN.{length, getD, take, set, length-append}
+use borrow.Author.Tests.{ne-eqb}
+use lib.ListN.{length, getD, set, length-append}
 use Rattle.transaction.specs.declared.Transaction.{Transaction}
-use Rattle.transaction.specs.Lists.{any, firstOf}
+use Rattle.transaction.specs.Lists.{firstOf}
 use Rattle.model.specs.declared.Token.{Token}
 use Rattle.model.specs.declared.Known.{Known}
 use Rattle.model.specs.declared.Outcome.{Outcome}
 use Rattle.model.specs.declared.Answer.{Answer}
 use Rattle.model.specs.declared.Answer.the-variants.{Refused, Minted, Registered, Heard, Again}
-use Rattle.model.specs.Steps.{Limits, house, Ledger, genesisToken, afterMint, availableHere, pledges, vote, noted, newlyKnown, outcomeOf, decide, settle, afterRegister, isFor, placeOf, entryOf, nothingKnown, heardFrom, hearing, afterVote}
+use Rattle.model.specs.Steps.{house, Ledger, genesisToken, afterMint, availableHere, pledges, vote, newlyKnown, outcomeOf, decide, settle, afterRegister, isFor, placeOf, entryOf, nothingKnown, heardFrom, hearing, afterVote}
 use Rattle.model.specs.Shard.{Call, mint, register, deliver, mintRefusals, registerRefusals, deliverRefusals, hear, shardStep}
 use Rattle.model.proofs.Capacity.{Fit, fit-step, find-below}
 use Rattle.model.proofs.Tables.{unless-refused, unless-done}
 use Rattle.model.proofs.Entries.{whole-known}
-use Rattle.model.proofs.Refusals.{shard-below, MintPasses, mint-passes, RegisterPasses, register-passes, DeliverPasses, deliver-passes}
+use Rattle.model.proofs.Refusals.{shard-below, mint-passes, RegisterPasses, register-passes, DeliverPasses, deliver-passes}
 use Rattle.shard.specs.declared.Shard.{Shard}
 use Rattle.shard.specs.declared.Stepped.{Stepped}
 use Rattle.shard.specs.View.{view, Sound, Steps}
@@ -39,24 +38,27 @@ module _ (s : Shard) (sound : Sound s) (call : Call) where
   pub stays-put : {answer : Answer} {after : Shard} → stepped ≡ (view s, answer) → after ≡ s
       → Steps s call (record { answer = answer; shard = after })
   stays-put e p = record {
-      answered = sym (ap (λ (x : Ledger × Answer). x .1) e);
-      ledger = ap view p ∙ sym (ap (λ (x : Ledger × Answer). x .0) e);
-      numbered = ap (λ (x : Shard). x .number) p;
-      sound = subst Sound (sym p) sound }
+    answered = sym (ap (λ (x : Ledger × Answer). x .1) e);
+    ledger = ap view p ∙ sym (ap (λ (x : Ledger × Answer). x .0) e);
+    numbered = ap (λ (x : Shard). x .number) p;
+    sound = subst Sound (sym p) sound;
+  }
 
   -- a call that leaves another ledger
   pub goes-on : {answer : Answer} {after : Shard} (ledger : Ledger) → stepped ≡ (ledger, answer) → view after ≡ ledger
       → after .number ≡ s .number → after .held ≤ 128 → after .known ≤ 32 → Steps s call (record { answer = answer; shard = after })
   goes-on {after = after} ledger e v n h k = record {
-      answered = sym (ap (λ (x : Ledger × Answer). x .1) e);
-      ledger = v ∙ sym (ap (λ (x : Ledger × Answer). x .0) e);
-      numbered = n;
-      sound = record {
-        held = h;
-        known = k;
-        fit =
+    answered = sym (ap (λ (x : Ledger × Answer). x .1) e);
+    ledger = v ∙ sym (ap (λ (x : Ledger × Answer). x .0) e);
+    numbered = n;
+    sound = record {
+      held = h;
+      known = k;
+      fit =
           subst (λ (m : ℕ). Fit house m (view after)) (sym n)
-          (subst (Fit house (s .number)) (ap (λ (x : Ledger × Answer). x .0) e ∙ sym v) still-fit) } }
+          (subst (Fit house (s .number)) (ap (λ (x : Ledger × Answer). x .0) e ∙ sym v) still-fit);
+    };
+  }
 
 -- a refused call
 module _ (s : Shard) (sound : Sound s) {cause : ℕ} {after : Shard} {answer : Answer} (n : cause ≡ 0 → ⊥) (a : answer ≡ Refused cause) (p : after ≡ s) where
@@ -176,8 +178,12 @@ module _ (s : Shard) (sound : Sound s) (long : Long s) (sender verdict : ℕ) (t
   pub vote-place : place < s .known
   unfolding placeOf
   vote-place =
-      omega (arith, ep, known-count s long (sound .known),
-      find-below (isFor t) (view s .known) (whole-known t (view s .known) (vote-passes .number-known) (vote-passes .no-other)))
+      omega (
+        arith,
+        ep,
+        known-count s long (sound .known),
+        find-below (isFor t) (view s .known) (whole-known t (view s .known) (vote-passes .number-known) (vote-passes .no-other)),
+      )
 
   entry-is : getD (view s .known) place nothingKnown ≡ entryOf t (view s .known)
   unfolding entryOf
@@ -209,12 +215,13 @@ module _ (s : Shard) (sound : Sound s) (long : Long s) (sender verdict : ℕ) (t
 
     pub fresh-ready : FreshVote s place sender verdict
     fresh-ready = record {
-        held = sound .held;
-        known = sound .known;
-        entry = vote-place;
-        from = shard-below sender (vote-passes .sender-fits);
-        says = vote-passes .verdict-fits;
-        room = fresh-room }
+      held = sound .held;
+      known = sound .known;
+      entry = vote-place;
+      from = shard-below sender (vote-passes .sender-fits);
+      says = vote-passes .verdict-fits;
+      room = fresh-room;
+    }
 
     answer-is : Heard (outcomeOf (hearing sender verdict (entryOf t (view s .known)))) ≡ Heard (outcomeOf (heardAt s place sender verdict))
     answer-is = ap (λ (k : Known). Heard (outcomeOf k)) (sym heard-is)
@@ -253,3 +260,53 @@ module _ (s : Shard) (sound : Sound s) (long : Long s) (sender verdict : ℕ) (t
       let e : k ≡ entryOf t (view s .known) = ek ∙ entry-is in
       let z : heardFrom sender (entryOf t (view s .known)) ≡ 0 → ⊥ = λ q. n (eh ∙ ap (λ (x : Known). getD (x .heard) sender 0) e ∙ q) in
       stays-put s sound (deliver here sender verdict t) (hear-step ∙ rw (ne-eqb (heardFrom sender (entryOf t (view s .known))) 0 z, eo, e) refl) refl
+
+-- a fresh vote from what its parts found
+module _ (s : Shard) (place sender verdict : ℕ) {k : Known} {decided : Outcome} (ek : k ≡ heardAt s place sender verdict)
+    (ed : decided ≡ decide (k .transaction) (k .heard)) where
+  outcome-is : decided ≡ outcomeOf (heardAt s place sender verdict)
+  outcome-is = ed ∙ ap outcomeOf ek
+
+  pub fresh-settled : settle decided (s .number) (k .transaction) (view s .tokens) ≡ tokensAfter s place sender verdict
+  fresh-settled =
+      ap (λ (o : Outcome). settle o (s .number) (k .transaction) (view s .tokens)) ed
+      ∙ ap (λ (x : Known). settle (outcomeOf x) (s .number) (x .transaction) (view s .tokens)) ek
+
+  pub fresh-done : {list : List Token} {held : ℕ} {after : Shard} → list ≡ settle decided (s .number) (k .transaction) (view s .tokens)
+      → held ≡ length (settle decided (s .number) (k .transaction) (view s .tokens)) → Changed s list k held place after
+      → FreshDone s place sender verdict (record { answer = Heard decided; shard = after })
+  fresh-done {list} {held} {after} el eh g =
+      let at : list ≡ tokensAfter s place sender verdict = el ∙ fresh-settled in
+      let size : held ≡ length (tokensAfter s place sender verdict) = eh ∙ ap length fresh-settled in
+      record {
+        answered = ap Heard outcome-is;
+        changed = record {
+          seen = g .seen ∙ rw (at, ek) refl;
+          numbered = g .numbered;
+          holds = g .holds ∙ size;
+          knows = g .knows;
+        };
+      }
+
+-- a call that passes is addressed to this shard
+module _ (s : Shard) (receiver : ℕ) (t : Transaction)
+    (pass : firstOf (registerRefusals house (s .number) (view s) receiver t) ≡ 0) where
+  register-addressed : receiver ≡ s .number
+  register-addressed = register-passes house (s .number) (view s) receiver t pass .form .addressed
+
+  pub register-own : firstOf (registerRefusals house (s .number) (view s) (s .number) t) ≡ 0
+  register-own = subst (λ (r : ℕ). firstOf (registerRefusals house (s .number) (view s) r t) ≡ 0) register-addressed pass
+
+  pub register-back : {r : Stepped} → Steps s (register (s .number) t) r → Steps s (register receiver t) r
+  register-back {r} h = subst (λ (p : ℕ). Steps s (register p t) r) (sym register-addressed) h
+
+module _ (s : Shard) (receiver sender verdict : ℕ) (t : Transaction)
+    (pass : firstOf (deliverRefusals house (s .number) (view s) receiver sender verdict t) ≡ 0) where
+  deliver-addressed : receiver ≡ s .number
+  deliver-addressed = deliver-passes house (s .number) (view s) receiver sender verdict t pass .form .addressed
+
+  pub deliver-own : firstOf (deliverRefusals house (s .number) (view s) (s .number) sender verdict t) ≡ 0
+  deliver-own = subst (λ (r : ℕ). firstOf (deliverRefusals house (s .number) (view s) r sender verdict t) ≡ 0) deliver-addressed pass
+
+  pub deliver-back : {r : Stepped} → Steps s (deliver (s .number) sender verdict t) r → Steps s (deliver receiver sender verdict t) r
+  deliver-back {r} h = subst (λ (p : ℕ). Steps s (deliver p sender verdict t) r) (sym deliver-addressed) h

@@ -1,10 +1,9 @@
 -- What the arrays of a shard say of its ledger: counts, entries, and the ledger after a store.
 use Prim.Native.Nat.{ℕ, zero, suc, _+_, _≤_, _<_}
-use mathlib.Core.Path.{_≡_, refl, sym, ap, _∙_}
+use mathlib.Core.Path.{_≡_, refl, sym, _∙_}
 use mathlib.Core.Bool.{Bool, true, false, cond, _||_}
 use mathlib.Core.List.{List, [], _∷_, _++_}
 use native.Mathlib.Omega.{arith}
-use lib.Dec.{ltb}
 use lib.ListN.{length, getD, take, set, List·getD-eq-default}
 use lib.Seq.{length-take-le, getD-take, take-set-lt}
 use Rattle.transaction.specs.declared.Transaction.{Transaction}
@@ -12,12 +11,11 @@ use Rattle.transaction.specs.Lists.{any}
 use Rattle.model.specs.declared.Known.{Known}
 use Rattle.model.specs.declared.Token.{Token}
 use Rattle.model.specs.Lists.{find}
-use Rattle.model.specs.Steps.{Ledger, isFor, placeOf, entryOf, nothingKnown, heardFrom, afterMint}
+use Rattle.model.specs.Steps.{placeOf, entryOf, nothingKnown, heardFrom, afterMint}
 use Rattle.model.proofs.Capacity.{find-below}
 use Rattle.loops.proofs.Loops.{append-one}
 use Rattle.shard.specs.declared.Shard.{Shard}
-use Rattle.shard.specs.View.{view, Sound}
-use Rattle.shard.specs.Parts.{Grown, Changed}
+use Rattle.shard.specs.View.{view}
 use Rattle.shard.proofs.Long.{Long}
 
 -- the counts are the lengths

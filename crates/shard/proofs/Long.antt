@@ -16,6 +16,7 @@ pub record Long (s : Shard) : Type 0 where
 
 pub long-of : (s : Shard) → shadow ((row shard.the-type) .own s (val shard.the-type shard-laws.the-laws s ∷ [])) → Long s
 long-of s g = record {
-    tokens = sym (length-map (s .tokens) _) ∙ g .1 .1 .1 .1 .1 .0 .1 .0 .1;
-    transactions = sym (length-map (s .transactions) _) ∙ g .1 .1 .1 .1 .1 .1 .0 .1 .0 .1;
-    given = sym (length-map (s .given) _) ∙ g .1 .1 .1 .1 .1 .1 .1 .0 .1 .0 .1 }
+  tokens = sym (length-map (s .tokens) _) ∙ g .1 .1 .1 .1 .1 .0 .1 .0 .1;
+  transactions = sym (length-map (s .transactions) _) ∙ g .1 .1 .1 .1 .1 .1 .0 .1 .0 .1;
+  given = sym (length-map (s .given) _) ∙ g .1 .1 .1 .1 .1 .1 .1 .0 .1 .0 .1;
+}

@@ -3,7 +3,7 @@ use Prim.Native.Nat.{ℕ, _+_, _≤_, _<_}
 use mathlib.Core.Path.{_≡_}
 use mathlib.Core.Bool.{Bool}
 use mathlib.Core.List.{List, [], _∷_, _++_}
-use lib.ListN.{length, take, set, getD, replicate}
+use lib.ListN.{length, set, getD, replicate}
 use Rattle.transaction.specs.declared.Transaction.{Transaction}
 use Rattle.model.specs.declared.Token.{Token}
 use Rattle.model.specs.declared.Known.{Known}
@@ -11,7 +11,7 @@ use Rattle.model.specs.Steps.{noted, hearing, outcomeOf, settle, nothingKnown}
 use Rattle.model.specs.declared.Answer.the-variants.{Heard}
 use Rattle.shard.specs.declared.Shard.{Shard}
 use Rattle.shard.specs.declared.Stepped.{Stepped}
-use Rattle.shard.specs.View.{view, Sound}
+use Rattle.shard.specs.View.{view}
 
 -- a transaction that becomes known with this own verdict
 abbrev pub knownWith : ℕ → Bool → Transaction → Known

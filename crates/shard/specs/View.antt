@@ -2,7 +2,6 @@
 use Prim.Native.Nat.{ℕ, _≤_}
 use mathlib.Core.Path.{_≡_}
 use lib.ListN.{take}
-use Rattle.model.specs.declared.Answer.{Answer}
 use Rattle.model.specs.Steps.{Ledger, house, emptyLedger}
 use Rattle.model.specs.Shard.{Call, shardStep}
 use Rattle.model.proofs.Capacity.{Fit}

@@ -72,6 +72,13 @@ fn registration(tokens: [Token; 128], held: usize, me: u8, t: Transaction) -> Pl
     }
 }
 
+// A verdict as it is noted.
+fn note(verdict: bool) -> u8
+    ensures { λ r. ⌜ r ≡ noted verdict ⌝ }
+{
+    if verdict { 2 } else { 1 }
+}
+
 // The transaction as it becomes known: the own vote counts as heard.
 fn newly_known(me: u8, verdict: bool, t: Transaction) -> Known
     requires { ⌜ me < 8 ⌝ }
@@ -79,7 +86,7 @@ fn newly_known(me: u8, verdict: bool, t: Transaction) -> Known
 {
     let at = me as usize;
     let mut heard = [0u8; 8];
-    heard[at] = if verdict { 2 } else { 1 };
+    heard[at] = note(verdict);
     Known {
         transaction: t,
         heard: heard,

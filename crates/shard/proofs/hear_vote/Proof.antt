@@ -1,31 +1,27 @@
+use Rattle.shard.proofs.Carried.{deliver-refused, deliver-own, deliver-back}
+use mathlib.Core.Path.{sym, _∙_}
 use borrow.Author.Needs.{needs}
 use Rattle.shard.proofs.hear_vote.Statement.{statement}
 use Rattle.shard.proofs.hear_vote.Tie as tie
-use Rattle.shard.proofs.hear_vote.Reads as reads
-use Rattle.shard.proofs.hear_vote.Lts as lts
-use Rattle.shard.proofs.refusals.deliver_refusal.Reads as deliver-refusal-reads
-use Rattle.shard.proofs.refused.Reads as refused-reads
-use Rattle.shard.proofs.steps.carry_vote.Reads as carry-vote-reads
 
--- src/lib.rt:76:9
 deliver-refusal-requires : tie.Need-deliver-refusal-requires
 deliver-refusal-requires c κs = search needs
 
--- src/lib.rt:78:9
 refused-requires : tie.Need-refused-requires
 refused-requires c κs = search needs
 
--- src/lib.rt:78:9
 returns : tie.Need-returns
-returns c = ?
+returns c = deliver-refused (c .before .before .before .args .s) (c .before .before .before .pre) (c .before .if1 .taken) (c .refused .ensures .0) (c .refused .ensures .1) (c .before .before .before .args .receiver) (c .before .before .before .args .sender) (c .before .before .before .args .verdict) (c .before .before .before .args .t) (c .before .before .deliver-refusal .ensures)
 
--- src/lib.rt:80:5
 carry-vote-requires : tie.Need-carry-vote-requires
-carry-vote-requires c κs = ?
+carry-vote-requires c κs =
+    let a = c .before .before .args in
+    (c .before .before .pre, deliver-own (a .s) (a .receiver) (a .sender) (a .verdict) (a .t) (sym (c .before .deliver-refusal .ensures) ∙ c .if1 .left))
 
--- src/lib.rt:72:1
 returns-2 : tie.Need-returns-2
-returns-2 c = ?
+returns-2 c =
+    let a = c .before .before .before .args in
+    deliver-back (a .s) (a .receiver) (a .sender) (a .verdict) (a .t) (sym (c .before .before .deliver-refusal .ensures) ∙ c .before .if1 .left) (c .carry-vote .ensures)
 
 pub hear-vote-spec : {M : Type 1} → statement M
 hear-vote-spec =

@@ -1,31 +1,31 @@
+use Rattle.shard.proofs.Carried.{mint-refused, mint-room, mint-index, mint-carried}
+use Rattle.shard.proofs.Long.{long-of}
+use mathlib.Core.Path.{sym, _∙_}
 use borrow.Author.Needs.{needs}
 use Rattle.shard.proofs.mint_token.Statement.{statement}
 use Rattle.shard.proofs.mint_token.Tie as tie
-use Rattle.shard.proofs.mint_token.Reads as reads
-use Rattle.shard.proofs.mint_token.Lts as lts
-use Rattle.shard.proofs.refusals.mint_refusal.Reads as mint-refusal-reads
-use Rattle.shard.proofs.refused.Reads as refused-reads
-use Rattle.shard.proofs.steps.after_mint.Reads as after-mint-reads
 
--- src/lib.rt:51:9
 mint-refusal-requires : tie.Need-mint-refusal-requires
 mint-refusal-requires c κs = search needs
 
--- src/lib.rt:53:9
 refused-requires : tie.Need-refused-requires
 refused-requires c κs = search needs
 
--- src/lib.rt:53:9
 returns : tie.Need-returns
-returns c = ?
+returns c = mint-refused (c .before .before .before .args .s) (c .before .before .before .pre) (c .before .if1 .taken) (c .refused .ensures .0) (c .refused .ensures .1) (c .before .before .before .args .receiver) (c .before .before .before .args .index) (c .before .before .before .args .owner) (c .before .before .before .args .amount) (c .before .before .mint-refusal .ensures)
 
--- src/lib.rt:55:9
 after-mint-requires : tie.Need-after-mint-requires
-after-mint-requires c κs = ?
+after-mint-requires c κs =
+    let a = c .before .before .args in
+    let z = sym (c .before .mint-refusal .ensures) ∙ c .if1 .left in
+    (mint-room (a .s) (c .before .before .pre) (a .receiver) (a .index) (a .owner) (a .amount) z (long-of (a .s) (c .before .before .good .0)), mint-index (a .s) (c .before .before .pre) (a .receiver) (a .index) (a .owner) (a .amount) z)
 
--- src/lib.rt:47:1
 returns-2 : tie.Need-returns-2
-returns-2 c = ?
+returns-2 c =
+    let a = c .before .before .before .args in
+    let z = sym (c .before .before .mint-refusal .ensures) ∙ c .before .if1 .left in
+    let d = c .after-mint .ensures in
+    mint-carried (a .s) (c .before .before .before .pre) (a .receiver) (a .index) (a .owner) (a .amount) z (d .0) (d .1 .0) (d .1 .1 .0) (d .1 .1 .1)
 
 pub mint-token-spec : {M : Type 1} → statement M
 mint-token-spec =

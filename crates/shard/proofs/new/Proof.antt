@@ -1,17 +1,23 @@
+use Rattle.shard.specs.View.{view}
+use Rattle.model.specs.Steps.{house}
+use Rattle.model.proofs.Capacity.{empty-fit}
+use mathlib.Core.Path.{refl}
 use borrow.Author.Needs.{needs}
 use Rattle.shard.proofs.new.Statement.{statement}
 use Rattle.shard.proofs.new.Tie as tie
-use Rattle.shard.proofs.new.Reads as reads
-use Rattle.shard.proofs.new.Lts as lts
-use Rattle.transaction.proofs.parts.blank.Reads as blank-reads
 
--- src/lib.rt:36:34
 blank-requires : tie.Need-blank-requires
 blank-requires c κs = search needs
 
--- src/lib.rt:32:1
 returns : tie.Need-returns
-returns c = ?
+unfolding view
+returns c =
+    let n = c .before .args .number in
+    record {
+      numbered = refl;
+      empty = refl;
+      sound = record { held = search needs; known = search needs; fit = empty-fit house n };
+    }
 
 pub new-spec : {M : Type 1} → statement M
 new-spec = tie.close (tie.spec blank-requires returns)

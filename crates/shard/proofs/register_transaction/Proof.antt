@@ -1,31 +1,27 @@
+use Rattle.shard.proofs.Carried.{register-refused, register-own, register-back}
+use mathlib.Core.Path.{sym, _∙_}
 use borrow.Author.Needs.{needs}
 use Rattle.shard.proofs.register_transaction.Statement.{statement}
 use Rattle.shard.proofs.register_transaction.Tie as tie
-use Rattle.shard.proofs.register_transaction.Reads as reads
-use Rattle.shard.proofs.register_transaction.Lts as lts
-use Rattle.shard.proofs.refusals.register_refusal.Reads as register-refusal-reads
-use Rattle.shard.proofs.refused.Reads as refused-reads
-use Rattle.shard.proofs.steps.carry_registration.Reads as carry-registration-reads
 
--- src/lib.rt:64:9
 register-refusal-requires : tie.Need-register-refusal-requires
 register-refusal-requires c κs = search needs
 
--- src/lib.rt:66:9
 refused-requires : tie.Need-refused-requires
 refused-requires c κs = search needs
 
--- src/lib.rt:66:9
 returns : tie.Need-returns
-returns c = ?
+returns c = register-refused (c .before .before .before .args .s) (c .before .before .before .pre) (c .before .if1 .taken) (c .refused .ensures .0) (c .refused .ensures .1) (c .before .before .before .args .receiver) (c .before .before .before .args .t) (c .before .before .register-refusal .ensures)
 
--- src/lib.rt:68:5
 carry-registration-requires : tie.Need-carry-registration-requires
-carry-registration-requires c κs = ?
+carry-registration-requires c κs =
+    let a = c .before .before .args in
+    (c .before .before .pre, register-own (a .s) (a .receiver) (a .t) (sym (c .before .register-refusal .ensures) ∙ c .if1 .left))
 
--- src/lib.rt:60:1
 returns-2 : tie.Need-returns-2
-returns-2 c = ?
+returns-2 c =
+    let a = c .before .before .before .args in
+    register-back (a .s) (a .receiver) (a .t) (sym (c .before .before .register-refusal .ensures) ∙ c .before .if1 .left) (c .carry-registration .ensures)
 
 pub register-transaction-spec : {M : Type 1} → statement M
 register-transaction-spec =

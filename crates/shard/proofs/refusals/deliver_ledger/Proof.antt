@@ -4,63 +4,49 @@ use Rattle.model.specs.Shard.{hasNumber, isOther, otherVerdict}
 use Rattle.model.specs.Steps.{entryOf, heardFrom}
 use Rattle.shard.specs.View.{view}
 use Rattle.transaction.proofs.Tables.{row-holds, row-passes}
-use mathlib.Core.List.{[], _∷_, _++_}
-use mathlib.Core.Bool.{true, false, not}
-use mathlib.Core.Path.{_≡_, refl, sym, ap, _∙_}
+use mathlib.Core.List.{[], _∷_}
+use mathlib.Core.Bool.{not}
+use mathlib.Core.Path.{refl, sym, ap, _∙_}
 use borrow.Author.Needs.{needs}
 use Rattle.shard.proofs.refusals.deliver_ledger.Statement.{statement}
 use Rattle.shard.proofs.refusals.deliver_ledger.Tie as tie
-use Rattle.shard.proofs.refusals.deliver_ledger.Reads as reads
-use Rattle.shard.proofs.refusals.deliver_ledger.Lts as lts
-use Rattle.registry.proofs.finding.knows_number.Reads as knows-number-reads
-use Rattle.registry.proofs.finding.knows_other.Reads as knows-other-reads
-use Rattle.shard.proofs.refusals.heard_of.Reads as heard-of-reads
-use Rattle.shard.proofs.refusals.is_other_verdict.Reads as is-other-verdict-reads
 
--- src/refusals.rt:157:9
 knows-number-requires : tie.Need-knows-number-requires
 knows-number-requires c κs = search needs
 
--- src/refusals.rt:158:9
 returns : tie.Need-returns
 unfolding view
-returns c = 
+returns c =
     let s = c .before .before .before .args .s in
     row-holds (not (any (hasNumber (c .before .before .before .args .t)) (view s .known))) 11 (((any (isOther (c .before .before .before .args .t)) (view s .known)), 7) ∷ ((otherVerdict (heardFrom (c .before .before .before .args .sender) (entryOf (c .before .before .before .args .t) (view s .known))) (c .before .before .before .args .verdict)), 12) ∷ []) (ap not (sym (c .before .knows-number .ensures)) ∙ c .if1 .taken)
 
--- src/refusals.rt:160:8
 knows-other-requires : tie.Need-knows-other-requires
 knows-other-requires c κs = search needs
 
--- src/refusals.rt:161:9
 returns-2 : tie.Need-returns-2
 unfolding view
-returns-2 c = 
+returns-2 c =
     let s = c .before .before .before .before .before .args .s in
     row-passes (not (any (hasNumber (c .before .before .before .before .before .args .t)) (view s .known))) 11 (((any (isOther (c .before .before .before .before .before .args .t)) (view s .known)), 7) ∷ ((otherVerdict (heardFrom (c .before .before .before .before .before .args .sender) (entryOf (c .before .before .before .before .before .args .t) (view s .known))) (c .before .before .before .before .before .args .verdict)), 12) ∷ []) (ap not (sym (c .before .before .before .knows-number .ensures)) ∙ c .before .before .if1 .left)
     (row-holds (any (isOther (c .before .before .before .before .before .args .t)) (view s .known)) 7 (((otherVerdict (heardFrom (c .before .before .before .before .before .args .sender) (entryOf (c .before .before .before .before .before .args .t) (view s .known))) (c .before .before .before .before .before .args .verdict)), 12) ∷ []) (sym (c .before .knows-other .ensures) ∙ c .if2 .taken))
 
--- src/refusals.rt:163:9
 heard-of-requires : tie.Need-heard-of-requires
 heard-of-requires c κs = search needs
 
--- src/refusals.rt:164:8
 is-other-verdict-requires : tie.Need-is-other-verdict-requires
 is-other-verdict-requires c κs = search needs
 
--- src/refusals.rt:165:9
 returns-3 : tie.Need-returns-3
 unfolding view
-returns-3 c = 
+returns-3 c =
     let s = c .before .before .before .before .before .before .before .before .args .s in
     row-passes (not (any (hasNumber (c .before .before .before .before .before .before .before .before .args .t)) (view s .known))) 11 (((any (isOther (c .before .before .before .before .before .before .before .before .args .t)) (view s .known)), 7) ∷ ((otherVerdict (heardFrom (c .before .before .before .before .before .before .before .before .args .sender) (entryOf (c .before .before .before .before .before .before .before .before .args .t) (view s .known))) (c .before .before .before .before .before .before .before .before .args .verdict)), 12) ∷ []) (ap not (sym (c .before .before .before .before .before .before .knows-number .ensures)) ∙ c .before .before .before .before .before .if1 .left)
     (row-passes (any (isOther (c .before .before .before .before .before .before .before .before .args .t)) (view s .known)) 7 (((otherVerdict (heardFrom (c .before .before .before .before .before .before .before .before .args .sender) (entryOf (c .before .before .before .before .before .before .before .before .args .t) (view s .known))) (c .before .before .before .before .before .before .before .before .args .verdict)), 12) ∷ []) (sym (c .before .before .before .before .knows-other .ensures) ∙ c .before .before .before .if2 .left)
     (row-holds (otherVerdict (heardFrom (c .before .before .before .before .before .before .before .before .args .sender) (entryOf (c .before .before .before .before .before .before .before .before .args .t) (view s .known))) (c .before .before .before .before .before .before .before .before .args .verdict)) 12 [] (ap (λ (h : ℕ). otherVerdict h (c .before .before .before .before .before .before .before .before .args .verdict)) (sym (c .before .before .heard-of .ensures)) ∙ sym (c .before .is-other-verdict .ensures) ∙ c .if3 .taken)))
 
--- src/refusals.rt:151:1
 returns-4 : tie.Need-returns-4
 unfolding view
-returns-4 c = 
+returns-4 c =
     let s = c .before .before .before .before .before .before .before .before .args .s in
     row-passes (not (any (hasNumber (c .before .before .before .before .before .before .before .before .args .t)) (view s .known))) 11 (((any (isOther (c .before .before .before .before .before .before .before .before .args .t)) (view s .known)), 7) ∷ ((otherVerdict (heardFrom (c .before .before .before .before .before .before .before .before .args .sender) (entryOf (c .before .before .before .before .before .before .before .before .args .t) (view s .known))) (c .before .before .before .before .before .before .before .before .args .verdict)), 12) ∷ []) (ap not (sym (c .before .before .before .before .before .before .knows-number .ensures)) ∙ c .before .before .before .before .before .if1 .left)
     (row-passes (any (isOther (c .before .before .before .before .before .before .before .before .args .t)) (view s .known)) 7 (((otherVerdict (heardFrom (c .before .before .before .before .before .before .before .before .args .sender) (entryOf (c .before .before .before .before .before .before .before .before .args .t) (view s .known))) (c .before .before .before .before .before .before .before .before .args .verdict)), 12) ∷ []) (sym (c .before .before .before .before .knows-other .ensures) ∙ c .before .before .before .if2 .left)

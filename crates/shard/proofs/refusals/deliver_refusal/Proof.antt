@@ -3,34 +3,26 @@ use Rattle.model.specs.Steps.{house}
 use Rattle.shard.specs.View.{view}
 use Rattle.shard.specs.Tables.{deliverLedger}
 use Rattle.transaction.proofs.Tables.{table-stands, table-behind}
-use mathlib.Core.Path.{_≡_, refl, sym, ap, _∙_}
+use mathlib.Core.Path.{refl}
 use borrow.Author.Needs.{needs}
 use Rattle.shard.proofs.refusals.deliver_refusal.Statement.{statement}
 use Rattle.shard.proofs.refusals.deliver_refusal.Tie as tie
-use Rattle.shard.proofs.refusals.deliver_refusal.Reads as reads
-use Rattle.shard.proofs.refusals.deliver_refusal.Lts as lts
-use Rattle.shard.proofs.refusals.deliver_form.Reads as deliver-form-reads
-use Rattle.shard.proofs.refusals.deliver_ledger.Reads as deliver-ledger-reads
 
--- src/refusals.rt:181:9
 deliver-form-requires : tie.Need-deliver-form-requires
 deliver-form-requires c κs = search needs
 
--- src/refusals.rt:183:9
 returns : tie.Need-returns
 unfolding deliverRefusals
-returns c = 
+returns c =
     let a = c .before .before .args in
     table-stands (deliverForm house (a .s .number) (a .receiver) (a .sender) (a .verdict) (a .t)) (deliverLedger (view (a .s)) (a .sender) (a .verdict) (a .t)) (c .before .deliver-form .ensures) (c .if1 .taken)
 
--- src/refusals.rt:185:5
 deliver-ledger-requires : tie.Need-deliver-ledger-requires
 deliver-ledger-requires c κs = search needs
 
--- src/refusals.rt:177:1
 returns-2 : tie.Need-returns-2
 unfolding deliverRefusals deliverForm
-returns-2 c = 
+returns-2 c =
     let a = c .before .before .before .args in
     table-behind (deliverForm house (a .s .number) (a .receiver) (a .sender) (a .verdict) (a .t)) (deliverLedger (view (a .s)) (a .sender) (a .verdict) (a .t)) (c .before .before .deliver-form .ensures) refl (c .before .if1 .left) (c .deliver-ledger .ensures)
 

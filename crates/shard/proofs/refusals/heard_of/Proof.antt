@@ -3,44 +3,33 @@ use Rattle.shard.specs.View.{view}
 use Rattle.shard.proofs.Ledgers.{noted-at, noted-none, entry-at, known-count}
 use Rattle.shard.proofs.Long.{long-of}
 use native.Mathlib.Omega.{arith}
-use mathlib.Core.Path.{_≡_, refl, sym, ap, _∙_}
 use borrow.Author.Needs.{needs}
 use Rattle.shard.proofs.refusals.heard_of.Statement.{statement}
 use Rattle.shard.proofs.refusals.heard_of.Tie as tie
-use Rattle.shard.proofs.refusals.heard_of.Reads as reads
-use Rattle.shard.proofs.refusals.heard_of.Lts as lts
-use Rattle.registry.proofs.deciding.heard_from.Reads as heard-from-reads
-use Rattle.registry.proofs.finding.place_of.Reads as place-of-reads
 
--- src/refusals.rt:141:9
 place-of-requires : tie.Need-place-of-requires
 place-of-requires c κs = search needs
 
--- src/refusals.rt:143:17
 mul-k : tie.Need-mul-k
 mul-k c = search needs
 
--- src/refusals.rt:143:17
 array-copy-out-k : tie.Need-array-copy-out-k
 array-copy-out-k c = search needs
 
--- src/refusals.rt:145:9
 heard-from-requires : tie.Need-heard-from-requires
 heard-from-requires c κs = search needs
 
--- src/refusals.rt:145:9
 returns : tie.Need-returns
 unfolding view
-returns c = 
+returns c =
     let s = c .before .before .before .before .before .before .args .s in
     let long = long-of s (c .before .before .before .before .before .before .good .0) in
     noted-at (c .before .before .before .before .before .before .args .t) (view s .known) (c .before .before .before .before .before .before .args .sender) (c .before .before .before .before .place-of .ensures .0)
     (entry-at (s .transactions) (s .known) (c .before .before .before .before .place-of .result) _ nothingKnown (c .before .before .before .if1 .taken) (omega (arith, c .before .before .before .before .before .before .pre .known, long .transactions))) (c .heard-from .ensures)
 
--- src/refusals.rt:135:1
 returns-2 : tie.Need-returns-2
 unfolding view
-returns-2 c = 
+returns-2 c =
     let s = c .before .before .before .args .s in
     let long = long-of s (c .before .before .before .good .0) in
     noted-none (c .before .before .before .args .t) (view s .known) (c .before .before .before .args .sender) (c .before .place-of .ensures .0) (omega (arith, c .if1 .left, known-count s long (c .before .before .before .pre .known)))

@@ -1,24 +1,19 @@
 use lib.ListN.{length, List·getD-eq-default}
-use mathlib.Core.Bool.{true, false, not}
+use mathlib.Core.Bool.{false}
 use native.Mathlib.Omega.{arith}
-use mathlib.Core.Path.{_≡_, refl, sym, ap, _∙_}
+use mathlib.Core.Path.{_≡_, sym}
 use borrow.Author.Needs.{needs}
 use Rattle.shard.proofs.refusals.is_given.Statement.{statement}
 use Rattle.shard.proofs.refusals.is_given.Tie as tie
-use Rattle.shard.proofs.refusals.is_given.Reads as reads
-use Rattle.shard.proofs.refusals.is_given.Lts as lts
 
--- src/refusals.rt:35:16
 array-read-result : tie.Need-array-read-result
 array-read-result c = search needs
 
--- src/refusals.rt:35:9
 returns : tie.Need-returns
 returns c = search needs
 
--- src/refusals.rt:30:1
 returns-2 : tie.Need-returns-2
-returns-2 c = 
+returns-2 c =
     let long : length (c .before .args .t1) ≡ 128 = search needs in
     sym (List·getD-eq-default (c .before .args .t1) false (omega arith))
 

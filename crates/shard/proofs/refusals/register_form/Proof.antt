@@ -3,48 +3,38 @@ use Rattle.transaction.specs.Tokens.{takesPart}
 use Rattle.transaction.specs.Checks.{registerChecks}
 use Rattle.transaction.proofs.Tables.{row-holds, row-passes, table-stands, table-behind}
 use mathlib.Core.List.{[], _∷_, _++_}
-use mathlib.Core.Bool.{true, false, not}
-use borrow.Author.Tests.{eq-eqb, ne-eqb, not-true, not-false, le-leb, lt-leb, lt-ltb, le-ltb}
-use mathlib.Core.Path.{_≡_, refl, sym, ap, _∙_}
+use mathlib.Core.Bool.{not}
+use borrow.Author.Tests.{eq-eqb, ne-eqb}
+use mathlib.Core.Path.{refl, sym, ap, _∙_}
 use borrow.Author.Needs.{needs}
 use Rattle.shard.proofs.refusals.register_form.Statement.{statement}
 use Rattle.shard.proofs.refusals.register_form.Tie as tie
-use Rattle.shard.proofs.refusals.register_form.Reads as reads
-use Rattle.shard.proofs.refusals.register_form.Lts as lts
-use Rattle.transaction.proofs.checks.register_cause.Reads as register-cause-reads
-use Rattle.transaction.proofs.parts.takes_part.Reads as takes-part-reads
 
--- src/refusals.rt:66:9
 returns : tie.Need-returns
-returns c = 
+returns c =
     let a = c .before .args in
     row-holds (not (eqb (a .receiver) (a .me))) 3 ((registerChecks 128 (a .receiver) (a .t)) ++ ((not (takesPart (a .receiver) (a .t)), 6) ∷ [])) (ap not (ne-eqb (a .receiver) (a .me) (c .if1 .taken)))
 
--- src/refusals.rt:68:9
 register-cause-requires : tie.Need-register-cause-requires
 register-cause-requires c κs = search needs
 
--- src/refusals.rt:70:9
 returns-2 : tie.Need-returns-2
-returns-2 c = 
+returns-2 c =
     let a = c .before .before .before .args in
     row-passes (not (eqb (a .receiver) (a .me))) 3 ((registerChecks 128 (a .receiver) (a .t)) ++ ((not (takesPart (a .receiver) (a .t)), 6) ∷ [])) (ap not (eq-eqb (a .receiver) (a .me) (c .before .before .if1 .left)))
     (table-stands (registerChecks 128 (a .receiver) (a .t)) ((not (takesPart (a .receiver) (a .t)), 6) ∷ []) (c .before .register-cause .ensures) (c .if2 .taken))
 
--- src/refusals.rt:72:9
 takes-part-requires : tie.Need-takes-part-requires
 takes-part-requires c κs = search needs
 
--- src/refusals.rt:73:9
 returns-3 : tie.Need-returns-3
-returns-3 c = 
+returns-3 c =
     let a = c .before .before .before .before .before .args in
     row-passes (not (eqb (a .receiver) (a .me))) 3 ((registerChecks 128 (a .receiver) (a .t)) ++ ((not (takesPart (a .receiver) (a .t)), 6) ∷ [])) (ap not (eq-eqb (a .receiver) (a .me) (c .before .before .before .before .if1 .left)))
     (table-behind (registerChecks 128 (a .receiver) (a .t)) ((not (takesPart (a .receiver) (a .t)), 6) ∷ []) (c .before .before .before .register-cause .ensures) refl (c .before .before .if2 .left) (row-holds (not (takesPart (a .receiver) (a .t))) 6 [] (ap not (sym (c .before .takes-part .ensures)) ∙ c .if3 .taken)))
 
--- src/refusals.rt:62:1
 returns-4 : tie.Need-returns-4
-returns-4 c = 
+returns-4 c =
     let a = c .before .before .before .before .before .args in
     row-passes (not (eqb (a .receiver) (a .me))) 3 ((registerChecks 128 (a .receiver) (a .t)) ++ ((not (takesPart (a .receiver) (a .t)), 6) ∷ [])) (ap not (eq-eqb (a .receiver) (a .me) (c .before .before .before .before .if1 .left)))
     (table-behind (registerChecks 128 (a .receiver) (a .t)) ((not (takesPart (a .receiver) (a .t)), 6) ∷ []) (c .before .before .before .register-cause .ensures) refl (c .before .before .if2 .left) (row-passes (not (takesPart (a .receiver) (a .t))) 6 [] (ap not (sym (c .before .takes-part .ensures)) ∙ c .if3 .left) refl))

@@ -8,75 +8,59 @@ use Rattle.shard.specs.View.{view}
 use Rattle.shard.proofs.Ledgers.{known-count, held-count, any-found, none-found}
 use Rattle.transaction.proofs.Tables.{row-holds, row-passes}
 use Rattle.shard.proofs.Long.{long-of}
-use mathlib.Core.List.{[], _∷_, _++_}
-use borrow.Author.Tests.{eq-eqb, ne-eqb, not-true, not-false, le-leb, lt-leb, lt-ltb, le-ltb}
+use mathlib.Core.List.{[], _∷_}
+use borrow.Author.Tests.{le-leb, lt-leb, lt-ltb, le-ltb}
 use native.Mathlib.Omega.{arith}
-use mathlib.Core.Path.{_≡_, refl, sym, ap, _∙_}
+use mathlib.Core.Path.{refl, sym, _∙_}
 use borrow.Author.Needs.{needs}
 use Rattle.shard.proofs.refusals.register_ledger.Statement.{statement}
 use Rattle.shard.proofs.refusals.register_ledger.Tie as tie
-use Rattle.shard.proofs.refusals.register_ledger.Reads as reads
-use Rattle.shard.proofs.refusals.register_ledger.Lts as lts
-use Rattle.registry.proofs.finding.knows_other.Reads as knows-other-reads
-use Rattle.registry.proofs.finding.place_of.Reads as place-of-reads
-use Rattle.registry.proofs.reserving.count_here.Reads as count-here-reads
-use Rattle.registry.proofs.reserving.reserved_here.Reads as reserved-here-reads
 
--- src/refusals.rt:86:8
 knows-other-requires : tie.Need-knows-other-requires
 knows-other-requires c κs = search needs
 
--- src/refusals.rt:87:9
 returns : tie.Need-returns
 unfolding view
-returns c = 
+returns c =
     let s = c .before .before .before .args .s in
     let long = long-of s (c .before .before .before .good .0) in
     row-holds (any (isOther (c .before .before .before .args .t)) (view s .known)) 7 (((any (isFor (c .before .before .before .args .t)) (view s .known)), 8) ∷ ((leb 32 (length (view s .known))), 9) ∷ ((ltb 128 (length (view s .tokens) + reserved (s .number) (view s .known) + length (outputsHere (s .number) (c .before .before .before .args .t)))), 10) ∷ []) (sym (c .before .knows-other .ensures) ∙ c .if1 .taken)
 
--- src/refusals.rt:89:8
 place-of-requires : tie.Need-place-of-requires
 place-of-requires c κs = search needs
 
--- src/refusals.rt:90:9
 returns-2 : tie.Need-returns-2
 unfolding view placeOf
-returns-2 c = 
+returns-2 c =
     let s = c .before .before .before .before .before .args .s in
     let long = long-of s (c .before .before .before .before .before .good .0) in
     row-passes (any (isOther (c .before .before .before .before .before .args .t)) (view s .known)) 7 (((any (isFor (c .before .before .before .before .before .args .t)) (view s .known)), 8) ∷ ((leb 32 (length (view s .known))), 9) ∷ ((ltb 128 (length (view s .tokens) + reserved (s .number) (view s .known) + length (outputsHere (s .number) (c .before .before .before .before .before .args .t)))), 10) ∷ []) (sym (c .before .before .before .knows-other .ensures) ∙ c .before .before .if1 .left)
     (row-holds (any (isFor (c .before .before .before .before .before .args .t)) (view s .known)) 8 (((leb 32 (length (view s .known))), 9) ∷ ((ltb 128 (length (view s .tokens) + reserved (s .number) (view s .known) + length (outputsHere (s .number) (c .before .before .before .before .before .args .t)))), 10) ∷ []) (any-found (isFor (c .before .before .before .before .before .args .t)) (view s .known) (omega (arith, c .before .place-of .ensures .0, c .if2 .taken, known-count s long (c .before .before .before .before .before .pre .known)))))
 
--- src/refusals.rt:93:9
 returns-3 : tie.Need-returns-3
 unfolding view placeOf
-returns-3 c = 
+returns-3 c =
     let s = c .before .before .before .before .before .before .args .s in
     let long = long-of s (c .before .before .before .before .before .before .good .0) in
     row-passes (any (isOther (c .before .before .before .before .before .before .args .t)) (view s .known)) 7 (((any (isFor (c .before .before .before .before .before .before .args .t)) (view s .known)), 8) ∷ ((leb 32 (length (view s .known))), 9) ∷ ((ltb 128 (length (view s .tokens) + reserved (s .number) (view s .known) + length (outputsHere (s .number) (c .before .before .before .before .before .before .args .t)))), 10) ∷ []) (sym (c .before .before .before .before .knows-other .ensures) ∙ c .before .before .before .if1 .left)
     (row-passes (any (isFor (c .before .before .before .before .before .before .args .t)) (view s .known)) 8 (((leb 32 (length (view s .known))), 9) ∷ ((ltb 128 (length (view s .tokens) + reserved (s .number) (view s .known) + length (outputsHere (s .number) (c .before .before .before .before .before .before .args .t)))), 10) ∷ []) (none-found (isFor (c .before .before .before .before .before .before .args .t)) (view s .known) (omega (arith, c .before .before .place-of .ensures .0, c .before .if2 .left, known-count s long (c .before .before .before .before .before .before .pre .known))))
     (row-holds (leb 32 (length (view s .known))) 9 (((ltb 128 (length (view s .tokens) + reserved (s .number) (view s .known) + length (outputsHere (s .number) (c .before .before .before .before .before .before .args .t)))), 10) ∷ []) (le-leb 32 (length (view s .known)) (omega (arith, c .if3 .taken, known-count s long (c .before .before .before .before .before .before .pre .known))))))
 
--- src/refusals.rt:95:9
 reserved-here-requires : tie.Need-reserved-here-requires
 reserved-here-requires c κs = search needs
 
--- src/refusals.rt:96:9
 count-here-requires : tie.Need-count-here-requires
 count-here-requires c κs = search needs
 
--- src/refusals.rt:97:14
 add-if4 : tie.Need-add-if4
 add-if4 c = search needs
 
--- src/refusals.rt:97:14
 add-if4-2 : tie.Need-add-if4-2
 add-if4-2 c = search needs
 
--- src/refusals.rt:98:9
 returns-4 : tie.Need-returns-4
 unfolding view placeOf
-returns-4 c = 
+returns-4 c =
     let s = c .before .before .before .before .before .before .before .before .before .args .s in
     let long = long-of s (c .before .before .before .before .before .before .before .before .before .good .0) in
     row-passes (any (isOther (c .before .before .before .before .before .before .before .before .before .args .t)) (view s .known)) 7 (((any (isFor (c .before .before .before .before .before .before .before .before .before .args .t)) (view s .known)), 8) ∷ ((leb 32 (length (view s .known))), 9) ∷ ((ltb 128 (length (view s .tokens) + reserved (s .number) (view s .known) + length (outputsHere (s .number) (c .before .before .before .before .before .before .before .before .before .args .t)))), 10) ∷ []) (sym (c .before .before .before .before .before .before .before .knows-other .ensures) ∙ c .before .before .before .before .before .before .if1 .left)
@@ -84,10 +68,9 @@ returns-4 c =
     (row-passes (leb 32 (length (view s .known))) 9 (((ltb 128 (length (view s .tokens) + reserved (s .number) (view s .known) + length (outputsHere (s .number) (c .before .before .before .before .before .before .before .before .before .args .t)))), 10) ∷ []) (lt-leb 32 (length (view s .known)) (omega (arith, c .before .before .before .if3 .left, known-count s long (c .before .before .before .before .before .before .before .before .before .pre .known))))
     (row-holds (ltb 128 (length (view s .tokens) + reserved (s .number) (view s .known) + length (outputsHere (s .number) (c .before .before .before .before .before .before .before .before .before .args .t)))) 10 [] (lt-ltb 128 (length (view s .tokens) + reserved (s .number) (view s .known) + length (outputsHere (s .number) (c .before .before .before .before .before .before .before .before .before .args .t))) (omega (arith, c .if4 .taken, held-count s long (c .before .before .before .before .before .before .before .before .before .pre .held), c .before .before .reserved-here .ensures .0, c .before .count-here .ensures .0))))))
 
--- src/refusals.rt:79:1
 returns-5 : tie.Need-returns-5
 unfolding view placeOf
-returns-5 c = 
+returns-5 c =
     let s = c .before .before .before .before .before .before .before .before .before .args .s in
     let long = long-of s (c .before .before .before .before .before .before .before .before .before .good .0) in
     row-passes (any (isOther (c .before .before .before .before .before .before .before .before .before .args .t)) (view s .known)) 7 (((any (isFor (c .before .before .before .before .before .before .before .before .before .args .t)) (view s .known)), 8) ∷ ((leb 32 (length (view s .known))), 9) ∷ ((ltb 128 (length (view s .tokens) + reserved (s .number) (view s .known) + length (outputsHere (s .number) (c .before .before .before .before .before .before .before .before .before .args .t)))), 10) ∷ []) (sym (c .before .before .before .before .before .before .before .knows-other .ensures) ∙ c .before .before .before .before .before .before .if1 .left)

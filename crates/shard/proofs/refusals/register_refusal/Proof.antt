@@ -2,34 +2,26 @@ use Rattle.model.specs.Shard.{registerRefusals}
 use Rattle.shard.specs.View.{view}
 use Rattle.shard.specs.Tables.{registerForm, registerLedger}
 use Rattle.transaction.proofs.Tables.{table-stands, table-behind}
-use mathlib.Core.Path.{_≡_, refl, sym, ap, _∙_}
+use mathlib.Core.Path.{refl}
 use borrow.Author.Needs.{needs}
 use Rattle.shard.proofs.refusals.register_refusal.Statement.{statement}
 use Rattle.shard.proofs.refusals.register_refusal.Tie as tie
-use Rattle.shard.proofs.refusals.register_refusal.Reads as reads
-use Rattle.shard.proofs.refusals.register_refusal.Lts as lts
-use Rattle.shard.proofs.refusals.register_form.Reads as register-form-reads
-use Rattle.shard.proofs.refusals.register_ledger.Reads as register-ledger-reads
 
--- src/refusals.rt:107:9
 register-form-requires : tie.Need-register-form-requires
 register-form-requires c κs = search needs
 
--- src/refusals.rt:109:9
 returns : tie.Need-returns
 unfolding registerRefusals
-returns c = 
+returns c =
     let a = c .before .before .args in
     table-stands (registerForm (a .s .number) (a .receiver) (a .t)) (registerLedger (a .s .number) (view (a .s)) (a .t)) (c .before .register-form .ensures) (c .if1 .taken)
 
--- src/refusals.rt:111:5
 register-ledger-requires : tie.Need-register-ledger-requires
 register-ledger-requires c κs = search needs
 
--- src/refusals.rt:103:1
 returns-2 : tie.Need-returns-2
 unfolding registerRefusals
-returns-2 c = 
+returns-2 c =
     let a = c .before .before .before .args in
     table-behind (registerForm (a .s .number) (a .receiver) (a .t)) (registerLedger (a .s .number) (view (a .s)) (a .t)) (c .before .before .register-form .ensures) refl (c .before .if1 .left) (c .register-ledger .ensures)
 

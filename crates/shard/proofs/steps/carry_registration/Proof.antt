@@ -1,37 +1,41 @@
+use Rattle.shard.specs.View.{view}
+use Rattle.shard.proofs.Carried.{register-shard, register-room, register-known, register-carried}
+use Rattle.shard.proofs.Long.{long-of}
 use borrow.Author.Needs.{needs}
 use Rattle.shard.proofs.steps.carry_registration.Statement.{statement}
 use Rattle.shard.proofs.steps.carry_registration.Tie as tie
-use Rattle.shard.proofs.steps.carry_registration.Reads as reads
-use Rattle.shard.proofs.steps.carry_registration.Lts as lts
-use Rattle.holdings.proofs.committing.settle_here.Reads as settle-here-reads
-use Rattle.registry.proofs.deciding.outcome.Reads as outcome-reads
-use Rattle.shard.proofs.steps.newly_known.Reads as newly-known-reads
-use Rattle.shard.proofs.steps.registration.Reads as registration-reads
-use Rattle.shard.proofs.steps.with_known.Reads as with-known-reads
 
--- src/steps.rt:90:9
 registration-requires : tie.Need-registration-requires
 registration-requires c κs = search needs
 
--- src/steps.rt:92:9
 newly-known-requires : tie.Need-newly-known-requires
-newly-known-requires c κs = ?
+newly-known-requires c κs =
+    let s = c .before .before .before .args .s in
+    let long = long-of s (c .before .before .before .good .0) in
+    register-shard s (c .before .before .before .pre .0) long (c .before .before .before .args .t) (c .before .before .before .pre .1)
 
--- src/steps.rt:94:9
 outcome-requires : tie.Need-outcome-requires
 outcome-requires c κs = search needs
 
--- src/steps.rt:95:9
 settle-here-requires : tie.Need-settle-here-requires
-settle-here-requires c κs = ?
+unfolding view
+settle-here-requires c κs =
+    let s = c .before .before .before .before .before .before .args .s in
+    let long = long-of s (c .before .before .before .before .before .before .good .0) in
+    (c .before .before .before .before .before .before .pre .0 .held, register-room s (c .before .before .before .before .before .before .pre .0) long (c .before .before .before .before .before .before .args .t) (c .before .before .before .before .before .before .pre .1) (c .before .before .before .before .registration .ensures .0) (c .before .before .before .before .registration .ensures .1) (c .before .before .newly-known .ensures) (c .outcome .ensures))
 
--- src/steps.rt:97:9
 with-known-requires : tie.Need-with-known-requires
-with-known-requires c κs = ?
+with-known-requires c κs =
+    let s = c .before .before .before .before .before .before .before .before .args .s in
+    let long = long-of s (c .before .before .before .before .before .before .before .before .good .0) in
+    register-known s (c .before .before .before .before .before .before .before .before .pre .0) long (c .before .before .before .before .before .before .before .before .args .t) (c .before .before .before .before .before .before .before .before .pre .1)
 
--- src/steps.rt:83:1
 returns : tie.Need-returns
-returns c = ?
+unfolding view
+returns c =
+    let s = c .before .before .before .before .before .before .before .before .before .args .s in
+    let long = long-of s (c .before .before .before .before .before .before .before .before .before .good .0) in
+    register-carried s (c .before .before .before .before .before .before .before .before .before .pre .0) long (c .before .before .before .before .before .before .before .before .before .args .t) (c .before .before .before .before .before .before .before .before .before .pre .1) (c .before .before .before .before .before .before .before .registration .ensures .0) (c .before .before .before .before .before .before .before .registration .ensures .1) (c .before .before .before .before .before .newly-known .ensures) (c .before .before .before .outcome .ensures) (c .before .before .settle-here .ensures .0) (c .before .before .settle-here .ensures .1) (c .with-known .ensures)
 
 pub carry-registration-spec : {M : Type 1} → statement M
 carry-registration-spec =

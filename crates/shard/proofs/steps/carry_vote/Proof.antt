@@ -1,44 +1,53 @@
+use Rattle.model.specs.Steps.{nothingKnown}
+use Rattle.shard.specs.View.{view}
+use Rattle.shard.proofs.Carried.{vote-place, fresh-ready, fresh-carried, again-carried}
+use Rattle.shard.proofs.Ledgers.{entry-at, noted-at}
+use Rattle.shard.proofs.Long.{long-of}
+use native.Mathlib.Omega.{arith}
+use mathlib.Core.Path.{sym, _∙_}
 use borrow.Author.Needs.{needs}
 use Rattle.shard.proofs.steps.carry_vote.Statement.{statement}
 use Rattle.shard.proofs.steps.carry_vote.Tie as tie
-use Rattle.shard.proofs.steps.carry_vote.Reads as reads
-use Rattle.shard.proofs.steps.carry_vote.Lts as lts
-use Rattle.registry.proofs.deciding.heard_from.Reads as heard-from-reads
-use Rattle.registry.proofs.deciding.outcome.Reads as outcome-reads
-use Rattle.registry.proofs.finding.place_of.Reads as place-of-reads
-use Rattle.shard.proofs.steps.fresh_vote.Reads as fresh-vote-reads
 
--- src/steps.rt:190:9
 place-of-requires : tie.Need-place-of-requires
 place-of-requires c κs = search needs
 
--- src/steps.rt:191:13
 mul-k : tie.Need-mul-k
 mul-k c = search needs
 
--- src/steps.rt:191:13
 array-copy-out-k : tie.Need-array-copy-out-k
-array-copy-out-k c = ?
+unfolding view
+array-copy-out-k c =
+    let s = c .before .before .args .s in
+    let long = long-of s (c .before .before .good .0) in
+    omega (arith, vote-place s (c .before .before .pre .0) long (c .before .before .args .sender) (c .before .before .args .verdict) (c .before .before .args .t) (c .before .before .pre .1) (c .place-of .result) (c .place-of .ensures .0), c .before .before .pre .0 .known)
 
--- src/steps.rt:193:8
 heard-from-requires : tie.Need-heard-from-requires
 heard-from-requires c κs = search needs
 
--- src/steps.rt:194:9
 fresh-vote-requires : tie.Need-fresh-vote-requires
-fresh-vote-requires c κs = ?
+unfolding view
+fresh-vote-requires c κs =
+    let s = c .before .before .before .before .before .before .args .s in
+    let long = long-of s (c .before .before .before .before .before .before .good .0) in
+    fresh-ready s (c .before .before .before .before .before .before .pre .0) long (c .before .before .before .before .before .before .args .sender) (c .before .before .before .before .before .before .args .verdict) (c .before .before .before .before .before .before .args .t) (c .before .before .before .before .before .before .pre .1) (c .before .before .before .before .place-of .result) (c .before .before .before .before .place-of .ensures .0) (sym (noted-at (c .before .before .before .before .before .before .args .t) (view s .known) (c .before .before .before .before .before .before .args .sender) (c .before .before .before .before .place-of .ensures .0) (entry-at (s .transactions) (s .known) (c .before .before .before .before .place-of .result) _ nothingKnown (vote-place s (c .before .before .before .before .before .before .pre .0) long (c .before .before .before .before .before .before .args .sender) (c .before .before .before .before .before .before .args .verdict) (c .before .before .before .before .before .before .args .t) (c .before .before .before .before .before .before .pre .1) (c .before .before .before .before .place-of .result) (c .before .before .before .before .place-of .ensures .0)) (omega (arith, c .before .before .before .before .before .before .pre .0 .known, long .transactions))) (c .before .heard-from .ensures)) ∙ c .if1 .taken)
 
--- src/steps.rt:194:9
 returns : tie.Need-returns
-returns c = ?
+unfolding view
+returns c =
+    let s = c .before .before .before .before .before .before .before .args .s in
+    let long = long-of s (c .before .before .before .before .before .before .before .good .0) in
+    fresh-carried s (c .before .before .before .before .before .before .before .pre .0) long (c .before .before .before .before .before .before .before .args .sender) (c .before .before .before .before .before .before .before .args .verdict) (c .before .before .before .before .before .before .before .args .t) (c .before .before .before .before .before .before .before .pre .1) (c .before .before .before .before .before .place-of .result) (c .before .before .before .before .before .place-of .ensures .0) (sym (noted-at (c .before .before .before .before .before .before .before .args .t) (view s .known) (c .before .before .before .before .before .before .before .args .sender) (c .before .before .before .before .before .place-of .ensures .0) (entry-at (s .transactions) (s .known) (c .before .before .before .before .before .place-of .result) _ nothingKnown (vote-place s (c .before .before .before .before .before .before .before .pre .0) long (c .before .before .before .before .before .before .before .args .sender) (c .before .before .before .before .before .before .before .args .verdict) (c .before .before .before .before .before .before .before .args .t) (c .before .before .before .before .before .before .before .pre .1) (c .before .before .before .before .before .place-of .result) (c .before .before .before .before .before .place-of .ensures .0)) (omega (arith, c .before .before .before .before .before .before .before .pre .0 .known, long .transactions))) (c .before .before .heard-from .ensures)) ∙ c .before .if1 .taken) (c .fresh-vote .ensures)
 
--- src/steps.rt:197:9
 outcome-requires : tie.Need-outcome-requires
 outcome-requires c κs = search needs
 
--- src/steps.rt:184:1
 returns-2 : tie.Need-returns-2
-returns-2 c = ?
+unfolding view
+returns-2 c =
+    let s = c .before .before .before .before .before .before .before .before .args .s in
+    let long = long-of s (c .before .before .before .before .before .before .before .before .good .0) in
+    again-carried s (c .before .before .before .before .before .before .before .before .pre .0) long (c .before .before .before .before .before .before .before .before .args .sender) (c .before .before .before .before .before .before .before .before .args .verdict) (c .before .before .before .before .before .before .before .before .args .t) (c .before .before .before .before .before .before .before .before .pre .1) (c .before .before .before .before .before .before .place-of .result) (c .before .before .before .before .before .before .place-of .ensures .0) (entry-at (s .transactions) (s .known) (c .before .before .before .before .before .before .place-of .result) _ nothingKnown (vote-place s (c .before .before .before .before .before .before .before .before .pre .0) long (c .before .before .before .before .before .before .before .before .args .sender) (c .before .before .before .before .before .before .before .before .args .verdict) (c .before .before .before .before .before .before .before .before .args .t) (c .before .before .before .before .before .before .before .before .pre .1) (c .before .before .before .before .before .before .place-of .result) (c .before .before .before .before .before .before .place-of .ensures .0)) (omega (arith, c .before .before .before .before .before .before .before .before .pre .0 .known, long .transactions))) (c .before .before .before .heard-from .ensures) (c .before .before .if1 .left) (c .outcome .ensures)
 
 pub carry-vote-spec : {M : Type 1} → statement M
 carry-vote-spec =
