@@ -5,6 +5,8 @@ ghost use lib.ListN.{take};
 ghost use Rattle.transaction.specs.Lists.{any};
 ghost use Rattle.model.specs.Steps.{isFor, placeOf};
 ghost use Rattle.model.specs.Shard.{hasNumber, isOther};
+ghost use Rattle.model.specs.Cluster.{hasGiven};
+use crate::deciding::heard_from;
 use model::Known;
 use transaction::Transaction;
 use transaction::equality::same_transaction;
@@ -76,4 +78,29 @@ pub fn place_of(known: [Known; 32], count: usize, t: Transaction) -> usize
         i += 1;
     }
     i
+}
+
+// The sender has given this vote on this transaction.
+fn is_given_vote(sender: u8, verdict: u8, t: Transaction, k: Known) -> bool
+    ensures { λ r. ⌜ r ≡ hasGiven sender verdict t k ⌝ }
+{
+    let heard = k.heard;
+    let said = heard_from(heard, sender);
+    let noted = (verdict as u16) + 1;
+    is_for(t, k) & ((said as u16) == noted)
+}
+
+pub fn has_given(known: [Known; 32], count: usize, sender: u8, verdict: u8, t: Transaction) -> bool
+    requires { ⌜ count ≤ 32 ⌝ }
+    ensures { λ r. ⌜ r ≡ any (hasGiven sender verdict t) (take count known) ⌝ }
+{
+    let mut i = 0;
+    while i < count {
+        let k = known[i];
+        if is_given_vote(sender, verdict, t, k) {
+            return true;
+        }
+        i += 1;
+    }
+    false
 }

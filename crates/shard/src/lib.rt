@@ -2,7 +2,8 @@
 ghost use mathlib.Core.Path.{_≡_};
 ghost use Prim.Native.Nat.{_≤_, _<_};
 ghost use Rattle.model.specs.Shard.{mint, register, deliver};
-ghost use Rattle.shard.specs.View.{Sound, Fresh, Steps};
+ghost use Rattle.model.specs.Cluster.{gave};
+ghost use Rattle.shard.specs.View.{view, Sound, Fresh, Steps};
 use model::Answer;
 use model::Known;
 use model::Token;
@@ -99,4 +100,14 @@ pub fn hear_vote(s: Shard, receiver: u8, sender: u8, verdict: u8, t: Transaction
         return refused(s, cause);
     }
     steps::carry_vote(s, sender, verdict, t)
+}
+
+// The shard has given this vote on this transaction; asked of the sender before a cluster delivers it.
+pub fn has_given_vote(s: Shard, sender: u8, verdict: u8, t: Transaction) -> bool
+    requires { ⌜ Sound s ⌝ }
+    ensures { λ r. ⌜ r ≡ gave (view s) sender verdict t ⌝ }
+{
+    let known = s.known;
+    let list = s.transactions;
+    registry::finding::has_given(list, known, sender, verdict, t)
 }
