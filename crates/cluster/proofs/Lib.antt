@@ -1,2 +1,3 @@
 pub mod Long
 pub mod Shards
+pub mod Demand
