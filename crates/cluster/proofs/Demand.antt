@@ -34,7 +34,7 @@ Returns c (deliver p q v t) c′ answer =
     → deliver-vote.Learnt tt (c, (p, (q, (v, (t, tt))))) (record { answer = answer; cluster = c′ }) (c, (p, (q, (v, (t, tt)))))
 
 -- every call may be made on a cluster that the public calls built, and keeps the promise `Steps`
-promised : (c c′ : Cluster) (call : Call) (answer : Answer) → Sound c → Returns c call c′ answer → Steps c call (record { answer = answer; cluster = c′ })
+pub promised : (c c′ : Cluster) (call : Call) (answer : Answer) → Sound c → Returns c call c′ answer → Steps c call (record { answer = answer; cluster = c′ })
 promised c c′ (mint p i o a) answer sound x = x sound
 promised c c′ (register p t) answer sound x = x sound
 promised c c′ (deliver p q v t) answer sound x = x sound
