@@ -1,3 +1,4 @@
 pub mod Long
 pub mod Ledgers
 pub mod Carried
+pub mod Asked

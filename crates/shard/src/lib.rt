@@ -11,6 +11,7 @@ use transaction::Transaction;
 
 pub mod refusals; // the tables of refusals
 pub mod steps; // the steps that a call that passes takes
+pub mod queries; // what can be asked of a shard
 
 // The shard's number, the tokens held, the known transactions, and the genesis indices given. The counts say how many slots are used.
 pub struct Shard {

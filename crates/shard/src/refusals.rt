@@ -26,7 +26,7 @@ use transaction::checks::vote_cause;
 use transaction::parts::takes_part;
 
 // The genesis index was given.
-fn is_given(given: [bool; 128], index: u8) -> bool
+pub fn is_given(given: [bool; 128], index: u8) -> bool
     ensures { λ r. ⌜ r ≡ getD given index false ⌝ }
 {
     let at = index as usize;

@@ -1,0 +1,13 @@
+use mathlib.Core.Path.{refl}
+use borrow.Author.Needs.{needs}
+use Rattle.shard.proofs.queries.blank_known.Statement.{statement}
+use Rattle.shard.proofs.queries.blank_known.Tie as tie
+
+blank-requires : tie.Need-blank-requires
+blank-requires c κs = search needs
+
+returns : tie.Need-returns
+returns c = rw (c .blank .ensures) refl
+
+pub blank-known-spec : {M : Type 1} → statement M
+blank-known-spec = tie.close (tie.spec blank-requires returns)
