@@ -10,6 +10,8 @@ use model::Answer;
 use shard::Shard;
 use transaction::Transaction;
 
+pub mod queries; // what can be asked of a cluster
+
 pub struct Cluster {
     shards: [Shard; 8],
 }

@@ -171,7 +171,7 @@ fn wide(x: u32) -> u64
 
 fn sum_of(tokens: [Token; 128], held: usize) -> u64
     requires { ⌜ held ≤ 128 ⌝ }
-    ensures { λ r. ⌜ r ≡ totalAmount (take held tokens) ⌝ }
+    ensures { λ r. ⌜ (r ≡ totalAmount (take held tokens)) × (r ≤ 549755813888) ⌝ }
 {
     let mut sum: u64 = 0;
     let mut i = 0;
@@ -184,10 +184,10 @@ fn sum_of(tokens: [Token; 128], held: usize) -> u64
     sum
 }
 
-// The sum of the held amounts.
+// The sum of the held amounts, of 128 tokens at most.
 pub fn total_amount(s: Shard) -> u64
     requires { ⌜ Sound s ⌝ }
-    ensures { λ r. ⌜ r ≡ totalAmount (view s .tokens) ⌝ }
+    ensures { λ r. ⌜ (r ≡ totalAmount (view s .tokens)) × (r ≤ 549755813888) ⌝ }
 {
     let held = s.held;
     let tokens = s.tokens;
