@@ -1,7 +1,9 @@
-//! The benchmark's loop with the reference reader, for comparison with the
-//! engine's own.
+//! The benchmarks' loops with the reference, for comparison with the engine's
+//! own: here its reader, in [`ledgers`] its shard and cluster.
 
 #![forbid(unsafe_code)]
+
+pub mod ledgers;
 
 use reference::{Reading, Record};
 

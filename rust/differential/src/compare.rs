@@ -6,9 +6,9 @@ use std::{ptr, thread};
 use engine::{READING_WORDS, ReadingWords};
 use reference::{GENESIS, REGISTER_LENGTH, Reading, Record, Refusal, Transaction, VOTE_LENGTH};
 
+use crate::Rng;
 use crate::SEED;
 use crate::fields::encode;
-use crate::rng::Rng;
 
 /// What is being tried. Printed if the comparison panics, wherever that is, so
 /// that no assertion has to carry it.

@@ -2,8 +2,8 @@
 
 use reference::{GENESIS, Input, MAX_AMOUNT, Output, Record, SLOTS, TokenId, Transaction};
 
+use crate::Rng;
 use crate::fields::{FIELDS, Field};
-use crate::rng::Rng;
 
 /// A valid transaction. Token ids often agree in all parts but one, and sums
 /// often lie at their ends.

@@ -5,11 +5,15 @@
 
 #![warn(missing_docs)]
 
+mod ledger;
 mod raw;
 mod words;
 
 use reference::{MINT_LENGTH, REGISTER_LENGTH, Reading, Record, Refusal, Transaction, VOTE_LENGTH};
 
+pub use ledger::{CALL_WORDS, CLUSTER_WORDS, CallWords, SHARD_WORDS, State};
+pub use ledger::{answer_word, call_words, push_state, state_part, word_answer};
+pub use ledger::{cluster_play, cluster_run, shard_play, shard_run};
 pub use words::{READING_WORDS, ReadingWords, TRANSACTION_WORDS, TransactionWords};
 pub use words::{from_words, to_words};
 
@@ -114,12 +118,12 @@ pub fn read_votes(bytes: &[u8], records: usize) -> u64 {
     unsafe { raw::engine_read_votes(bytes.as_ptr(), bytes.len(), records) }
 }
 
-/// A refusal's number, or 0 for none.
+/// A reader's refusal by its number, or 0 for none.
 fn refusal(number: u8) -> Option<Refusal> {
     if number == 0 {
         return None;
     }
-    let refusal = Refusal::from_number(number);
+    let refusal = Refusal::from_number(number).filter(|_| number <= 5);
     Some(refusal.unwrap_or_else(|| panic!("the engine answered refusal {number}")))
 }
 
@@ -137,7 +141,8 @@ fn written(length: usize, answer: u64) -> Result<usize, Refusal> {
         return Ok(length);
     }
     let number = u8::try_from(answer / 1000).ok();
-    let refusal = number.filter(|_| answer.is_multiple_of(1000));
+    let writers = |number: &u8| answer.is_multiple_of(1000) && matches!(number, 3..=5 | 15);
+    let refusal = number.filter(writers);
     match refusal.and_then(Refusal::from_number) {
         Some(refusal) => Err(refusal),
         None => panic!("the engine answered {answer} for a record of {length} bytes"),

@@ -43,4 +43,28 @@ unsafe extern "C" {
     ) -> u64;
 
     pub fn engine_read_votes(bytes: *const u8, length: usize, records: usize) -> u64;
+
+    pub fn engine_shard_play(
+        number: u8,
+        calls: *const u64,
+        call_words: usize,
+        answers: *mut u64,
+        answer_room: usize,
+        states: *mut u64,
+        state_room: usize,
+    ) -> usize;
+
+    pub fn engine_cluster_play(
+        calls: *const u64,
+        call_words: usize,
+        answers: *mut u64,
+        answer_room: usize,
+        states: *mut u64,
+        state_room: usize,
+    ) -> usize;
+
+    pub fn engine_shard_run(number: u8, calls: *const u64, call_words: usize, rounds: usize)
+    -> u64;
+
+    pub fn engine_cluster_run(calls: *const u64, call_words: usize, rounds: usize) -> u64;
 }

@@ -160,3 +160,15 @@ fn writers_answers_are_told_apart() {
         assert!(caught.is_err(), "{odd} passed for an answer");
     }
 }
+
+#[test]
+fn calls_answers_are_told_apart() {
+    let words = (1..=16).chain([100, 200, 201, 202, 210, 211, 212]);
+    for word in words.chain([300, 301, 302, 400, 401, 402]) {
+        assert_eq!(crate::answer_word(crate::word_answer(word)), word);
+    }
+    for odd in [0, 17, 101, 103, 203, 220, 303, 310, 403, 500, 259, u64::MAX] {
+        let caught = std::panic::catch_unwind(|| crate::word_answer(odd));
+        assert!(caught.is_err(), "{odd} passed for an answer");
+    }
+}

@@ -123,6 +123,6 @@ pub(crate) fn reading(refusal: Option<Refusal>, words: &ReadingWords) -> Reading
 }
 
 /// A cut word would pass for another value, so one too large is a fault.
-fn narrow<T: TryFrom<u64>>(word: u64) -> T {
+pub(crate) fn narrow<T: TryFrom<u64>>(word: u64) -> T {
     T::try_from(word).unwrap_or_else(|_| panic!("word {word} is too large for its field"))
 }

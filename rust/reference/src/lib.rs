@@ -1,20 +1,27 @@
-//! Independent implementation of the record codec, written from document 01
-//! alone. The proved engine is compared with it through the C boundary.
+//! Independent implementation of the record codec, of one shard's ledger and of
+//! the cluster of eight, written from document 01 alone. The proved engine is
+//! compared with it through the C boundary.
 //!
-//! The code speaks the field's language: a pantry is a shard, a swap a
-//! transaction, a household an owner, portions an amount, an opening a mint.
+//! The code speaks the field's language: a pantry is a shard, a round a
+//! cluster, a swap a transaction, a household an owner, portions an amount, an
+//! opening a mint.
 
 #![forbid(unsafe_code)]
 #![warn(missing_docs)]
 
+mod cluster;
 mod record;
 mod refusal;
+mod shard;
 mod transaction;
 
+pub use cluster::Cluster;
 pub use record::{
     MINT_LENGTH, REGISTER_LENGTH, Reading, Record, VOTE_LENGTH, read, read_inline, rest, write,
 };
 pub use refusal::Refusal;
+pub use shard::{Answer, Done, Known, LIMITS, Limits, Outcome, Shard, Token, Verdict};
 pub use transaction::{
-    GENESIS, Input, MAX_AMOUNT, MAX_SHARD, Output, SLOTS, TokenId, Transaction, cause, takes_part,
+    GENESIS, Input, MAX_AMOUNT, MAX_SHARD, Output, SHARDS, SLOTS, TokenId, Transaction, cause,
+    takes_part,
 };

@@ -2,6 +2,8 @@ use crate::Refusal;
 
 /// Shards (document 01: pantries) are numbered from 0 to this.
 pub const MAX_SHARD: u8 = 7;
+/// How many shards there are.
+pub const SHARDS: usize = MAX_SHARD as usize + 1;
 /// Places for inputs, and for outputs, in every transaction.
 pub const SLOTS: usize = 4;
 /// Largest amount (document 01: portions) of one token.
@@ -10,7 +12,7 @@ pub const MAX_AMOUNT: u32 = 1_000_000;
 pub const GENESIS: u8 = 128;
 
 /// Names a token (document 01: a token's name).
-#[derive(Clone, Copy, Debug, Default, PartialEq, Eq)]
+#[derive(Clone, Copy, Debug, Default, PartialEq, Eq, Hash)]
 pub struct TokenId {
     /// Document 01: pantry.
     pub shard: u8,
@@ -23,7 +25,7 @@ pub struct TokenId {
 }
 
 /// A token to be consumed (document 01: input).
-#[derive(Clone, Copy, Debug, Default, PartialEq, Eq)]
+#[derive(Clone, Copy, Debug, Default, PartialEq, Eq, Hash)]
 pub struct Input {
     /// Document 01: the token's name.
     pub token: TokenId,
@@ -34,7 +36,7 @@ pub struct Input {
 }
 
 /// A token to be made (document 01: output).
-#[derive(Clone, Copy, Debug, Default, PartialEq, Eq)]
+#[derive(Clone, Copy, Debug, Default, PartialEq, Eq, Hash)]
 pub struct Output {
     /// Document 01: pantry.
     pub shard: u8,
@@ -46,7 +48,7 @@ pub struct Output {
 
 /// Consumes input tokens and makes output tokens (document 01: swap). Two
 /// transactions are the same if every field agrees, unused slots too.
-#[derive(Clone, Copy, Debug, Default, PartialEq, Eq)]
+#[derive(Clone, Copy, Debug, Default, PartialEq, Eq, Hash)]
 pub struct Transaction {
     /// Document 01: the swap's number.
     pub number: u32,
@@ -92,14 +94,21 @@ pub(crate) fn holding_fits(owner: u32, amount: u32) -> bool {
 impl Transaction {
     /// The used inputs: all slots if the count is beyond them.
     #[inline]
-    fn used_inputs(&self) -> &[Input] {
+    pub fn used_inputs(&self) -> &[Input] {
         &self.inputs[..SLOTS.min(self.input_count.into())]
     }
 
     /// The used outputs: all slots if the count is beyond them.
     #[inline]
-    fn used_outputs(&self) -> &[Output] {
+    pub fn used_outputs(&self) -> &[Output] {
         &self.outputs[..SLOTS.min(self.output_count.into())]
+    }
+
+    /// The shards of the used inputs and then of the used outputs, some
+    /// perhaps more than once (document 01: the swap's pantries).
+    pub fn shards(&self) -> impl Iterator<Item = u8> {
+        let inputs = self.used_inputs().iter().map(|input| input.token.shard);
+        inputs.chain(self.used_outputs().iter().map(|output| output.shard))
     }
 
     #[inline]

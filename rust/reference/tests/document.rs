@@ -203,8 +203,6 @@ fn shards_that_take_part() {
 #[test]
 fn refusals_have_the_numbers_of_document_01() {
     let known = (0..=255).filter_map(Refusal::from_number);
-    assert_eq!(
-        known.map(Refusal::number).collect::<Vec<u8>>(),
-        [1, 2, 3, 4, 5, 15]
-    );
+    let numbers: Vec<u8> = known.map(Refusal::number).collect();
+    assert_eq!(numbers, (1..=16).collect::<Vec<u8>>());
 }

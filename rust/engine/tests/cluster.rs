@@ -1,0 +1,102 @@
+//! The cluster's boundary: what the answers' and states' words are, room, and
+//! words wider than their fields.
+
+mod common;
+
+use common::{FILL, calls, check_room, records, widened};
+use engine::{CLUSTER_WORDS, CallWords, cluster_play, cluster_run};
+
+#[rustfmt::skip]
+const ANSWERS: [u64; 11] = [100, 100, 14, 100, 210, 210, 6, 301, 301, 401, 8];
+
+fn play(calls: &[CallWords]) -> (Vec<u64>, Vec<u64>) {
+    let mut answers = vec![FILL; calls.len()];
+    let mut states = vec![FILL; calls.len() * CLUSTER_WORDS];
+    let played = cluster_play(calls, &mut answers, &mut states);
+    assert_eq!(played, calls.len());
+    (answers, states)
+}
+
+#[test]
+fn a_state_has_at_most_16160_words() {
+    assert_eq!(CLUSTER_WORDS, 16_160);
+}
+
+#[test]
+fn answers_and_states() {
+    let (answers, states) = play(&calls());
+    assert_eq!(answers, ANSWERS);
+
+    let owner = 0x0102_0304;
+    let first = [0, 127, owner, 1000, 0];
+    let second = [0, 64, owner, 1000, 0];
+    let pledged = [0, 127, owner, 1000, 0x0506_0708];
+    let made = [0x0506_0708, 1, u64::from(u32::MAX) - 1, 500, 0];
+    let known = |heard: [u64; 8]| [&calls()[4][8..], &heard].concat();
+    let own = known([0, 2, 0, 0, 0, 0, 0, 0]);
+    let both = known([0, 2, 2, 0, 0, 0, 0, 0]);
+    let high = 1 << 63;
+    let one = [&[1, 0, 0, high][..], &first].concat();
+    let two = [&[2, 0, 0, high | 1][..], &first, &second].concat();
+    let waiting = [&[2, 1, 0, high | 1][..], &pledged, &second, &own].concat();
+    let committed = [&[2, 1, 0, high | 1][..], &second, &made, &both].concat();
+
+    let genesis = [0, 0, owner, 1000, 0];
+    let other_own = known([0, 0, 2, 0, 0, 0, 0, 0]);
+    let other_made = [0x0506_0708, 0, u64::from(u32::MAX), 500, 0];
+    let other_one = [&[1, 0, 1, 0][..], &genesis].concat();
+    let other_waiting = [&[1, 1, 1, 0][..], &genesis, &other_own].concat();
+    let other_committed = [&[2, 1, 1, 0][..], &genesis, &other_made, &both].concat();
+
+    let empty = vec![0; 4];
+    let pairs: [(&[u64], &[u64]); 11] = [
+        (&one, &empty),
+        (&two, &empty),
+        (&two, &empty),
+        (&two, &other_one),
+        (&waiting, &other_one),
+        (&waiting, &other_waiting),
+        (&waiting, &other_waiting),
+        (&committed, &other_waiting),
+        (&committed, &other_committed),
+        (&committed, &other_committed),
+        (&committed, &other_committed),
+    ];
+    let expected: Vec<u64> = pairs
+        .iter()
+        .flat_map(|(one, two)| [&empty[..], one, two, &empty.repeat(5)].concat())
+        .collect();
+    let (written, behind) = states.split_at(expected.len());
+    assert_eq!(written, expected);
+    assert!(behind.iter().all(|&word| word == FILL));
+}
+
+#[test]
+fn room_for_answers_and_states() {
+    check_room(CLUSTER_WORDS, cluster_play);
+}
+
+#[test]
+fn words_are_reduced_to_their_fields() {
+    let expected = play(&calls());
+    for (what, wide) in widened(&calls()) {
+        assert!(play(&wide) == expected, "{what}");
+    }
+}
+
+#[test]
+fn runs_sum_up_the_answers() {
+    let calls = calls();
+    assert_eq!(calls.len(), records().len());
+    for count in 0..=calls.len() {
+        let sum: u64 = ANSWERS[..count].iter().sum();
+        for rounds in [0, 1, 2, 7] {
+            let answer = cluster_run(&calls[..count], rounds);
+            assert_eq!(
+                answer,
+                sum * rounds as u64,
+                "{count} calls, {rounds} rounds"
+            );
+        }
+    }
+}

@@ -1,0 +1,390 @@
+//! One shard's ledger (document 01: a pantry).
+
+use crate::transaction::{
+    GENESIS, Input, MAX_SHARD, Output, SHARDS, TokenId, Transaction, cause, holding_fits,
+    takes_part,
+};
+use crate::{Record, Refusal, Refusal::*};
+
+/// A shard's vote on a transaction (document 01: verdict).
+#[derive(Clone, Copy, Debug, PartialEq, Eq, Hash)]
+pub enum Verdict {
+    /// Some input here was not available.
+    No,
+    /// All inputs here were available.
+    Yes,
+}
+
+/// What a shard makes of a transaction (document 01: outcome).
+#[derive(Clone, Copy, Debug, PartialEq, Eq)]
+pub enum Outcome {
+    /// Votes are still missing.
+    Wait,
+    /// All votes were yes; the tokens here are exchanged.
+    Commit,
+    /// Some vote was no; no token has changed.
+    Abort,
+}
+
+/// What a call did that was not refused.
+#[derive(Clone, Copy, Debug, PartialEq, Eq)]
+pub enum Done {
+    /// Document 01: opened.
+    Minted,
+    /// The transaction is known now.
+    Registered {
+        /// This shard's own vote.
+        verdict: Verdict,
+        /// The outcome here.
+        outcome: Outcome,
+    },
+    /// A fresh vote was noted; the outcome here after it.
+    Heard(Outcome),
+    /// The same vote was heard before; the outcome here.
+    Again(Outcome),
+}
+
+/// The answer to a call.
+pub type Answer = Result<Done, Refusal>;
+
+/// How much a shard can keep.
+#[derive(Clone, Copy, Debug, PartialEq, Eq, Hash)]
+pub struct Limits {
+    /// Tokens held, those still to be made included.
+    pub tokens: usize,
+    /// Transactions known, decided ones included.
+    pub transactions: usize,
+    /// Genesis indices.
+    pub genesis: u8,
+}
+
+/// Document 01's limits.
+pub const LIMITS: Limits = Limits {
+    tokens: 128,
+    transactions: 32,
+    genesis: GENESIS,
+};
+
+/// A token held. Its shard is the one that holds it.
+#[derive(Clone, Copy, Debug, PartialEq, Eq, Hash)]
+pub struct Token {
+    /// Document 01: making swap, 0 for an opening token.
+    pub creator: u32,
+    /// Document 01: position.
+    pub index: u8,
+    /// Document 01: household.
+    pub owner: u32,
+    /// Document 01: portions.
+    pub amount: u32,
+    /// Number of the transaction it is pledged to. A shard knows a number for
+    /// one transaction only.
+    pub pledge: Option<u32>,
+}
+
+/// A transaction registered at a shard.
+#[derive(Clone, Copy, Debug, PartialEq, Eq, Hash)]
+pub struct Known {
+    /// Document 01: swap.
+    pub transaction: Transaction,
+    /// The verdicts heard, by sender, the shard's own included.
+    pub heard: [Option<Verdict>; SHARDS],
+}
+
+/// One shard's ledger.
+#[derive(Clone, Debug, PartialEq, Eq, Hash)]
+pub struct Shard {
+    number: u8,
+    limits: Limits,
+    tokens: Vec<Token>,
+    given: Vec<bool>,
+    known: Vec<Known>,
+}
+
+impl Token {
+    fn is_named(&self, shard: u8, id: TokenId) -> bool {
+        id.shard == shard && id.creator == self.creator && id.index == self.index
+    }
+
+    /// Whether the input at this shard is available as this token.
+    fn is_available(&self, shard: u8, input: &Input) -> bool {
+        self.is_named(shard, input.token)
+            && self.owner == input.owner
+            && self.amount == input.amount
+            && self.pledge.is_none()
+    }
+}
+
+impl Known {
+    /// The outcome that the verdicts heard so far bring.
+    pub fn outcome(&self) -> Outcome {
+        let mut outcome = Outcome::Commit;
+        for shard in self.transaction.shards() {
+            match self.heard[usize::from(shard)] {
+                None => return Outcome::Wait,
+                Some(Verdict::No) => outcome = Outcome::Abort,
+                Some(Verdict::Yes) => {}
+            }
+        }
+        outcome
+    }
+}
+
+impl Shard {
+    /// An empty shard with this number, 0 to 7.
+    pub fn new(number: u8, limits: Limits) -> Self {
+        assert!(number <= MAX_SHARD, "there is no shard {number}");
+        Shard {
+            number,
+            limits,
+            tokens: Vec::with_capacity(limits.tokens),
+            given: vec![false; limits.genesis.into()],
+            known: Vec::with_capacity(limits.transactions),
+        }
+    }
+
+    /// This shard's number.
+    pub fn number(&self) -> u8 {
+        self.number
+    }
+
+    /// The tokens held: made ones behind those held before.
+    pub fn tokens(&self) -> &[Token] {
+        &self.tokens
+    }
+
+    /// Which genesis indices were given.
+    pub fn given(&self) -> &[bool] {
+        &self.given
+    }
+
+    /// The transactions known, in order of registration.
+    pub fn known(&self) -> &[Known] {
+        &self.known
+    }
+
+    /// The sum of the amounts held.
+    pub fn total(&self) -> u64 {
+        self.tokens
+            .iter()
+            .map(|token| u64::from(token.amount))
+            .sum()
+    }
+
+    /// Makes the call that the record's fields stand for.
+    pub fn play(&mut self, record: &Record) -> Answer {
+        match *record {
+            Record::Register {
+                receiver,
+                ref transaction,
+            } => self.register(receiver, transaction),
+            Record::Vote {
+                receiver,
+                sender,
+                verdict,
+                ref transaction,
+            } => self.hear(receiver, sender, verdict, transaction),
+            Record::Mint {
+                receiver,
+                index,
+                owner,
+                amount,
+            } => self.mint(receiver, index, owner, amount),
+        }
+    }
+
+    /// Gives the shard a genesis token (document 01: opening).
+    pub fn mint(&mut self, receiver: u8, index: u8, owner: u32, amount: u32) -> Answer {
+        let fits =
+            receiver == self.number && index < self.limits.genesis && holding_fits(owner, amount);
+        if !fits {
+            return Err(OutOfRange);
+        }
+        if !self.known.is_empty() {
+            return Err(MintTooLate);
+        }
+        let given = &mut self.given[usize::from(index)];
+        if *given {
+            return Err(IndexGiven);
+        }
+        *given = true;
+        self.tokens.push(Token {
+            creator: 0,
+            index,
+            owner,
+            amount,
+            pledge: None,
+        });
+        Ok(Done::Minted)
+    }
+
+    /// Pledges the inputs here and votes (document 01: registration).
+    pub fn register(&mut self, receiver: u8, transaction: &Transaction) -> Answer {
+        if receiver != self.number {
+            return Err(OutOfRange);
+        }
+        self.check_transaction(transaction)?;
+        if !takes_part(receiver, transaction) {
+            return Err(NotTakingPart);
+        }
+        if let Some(place) = self.find(transaction.number) {
+            let same = self.known[place].transaction == *transaction;
+            return Err(if same { KnownAlready } else { NumberTaken });
+        }
+        if self.known.len() >= self.limits.transactions {
+            return Err(TransactionsFull);
+        }
+        let new = outputs_at(self.number, transaction).count();
+        if self.tokens.len() + self.reserved() + new > self.limits.tokens {
+            return Err(TokensFull);
+        }
+
+        let verdict = self.pledge(transaction);
+        let mut heard = [None; SHARDS];
+        heard[usize::from(self.number)] = Some(verdict);
+        self.known.push(Known {
+            transaction: *transaction,
+            heard,
+        });
+        let outcome = self.decide(self.known.len() - 1);
+        Ok(Done::Registered { verdict, outcome })
+    }
+
+    /// Notes another shard's vote (document 01: vote).
+    pub fn hear(
+        &mut self,
+        receiver: u8,
+        sender: u8,
+        verdict: u8,
+        transaction: &Transaction,
+    ) -> Answer {
+        let verdict = self.check_vote(receiver, sender, verdict, transaction)?;
+        self.note(sender, verdict, transaction)
+    }
+
+    /// The checks of a vote that its fields and this shard's number decide,
+    /// refusals 3 to 6; the cluster has one of its own behind them.
+    pub(crate) fn check_vote(
+        &self,
+        receiver: u8,
+        sender: u8,
+        verdict: u8,
+        transaction: &Transaction,
+    ) -> Result<Verdict, Refusal> {
+        if receiver != self.number || sender > MAX_SHARD {
+            return Err(OutOfRange);
+        }
+        let verdict = match verdict {
+            0 => Verdict::No,
+            1 => Verdict::Yes,
+            _ => return Err(OutOfRange),
+        };
+        self.check_transaction(transaction)?;
+        if !takes_part(receiver, transaction) || !takes_part(sender, transaction) {
+            return Err(NotTakingPart);
+        }
+        Ok(verdict)
+    }
+
+    /// Notes a vote that passed [`Self::check_vote`].
+    pub(crate) fn note(
+        &mut self,
+        sender: u8,
+        verdict: Verdict,
+        transaction: &Transaction,
+    ) -> Answer {
+        let place = self.find(transaction.number).ok_or(NumberUnknown)?;
+        let known = &mut self.known[place];
+        if known.transaction != *transaction {
+            return Err(NumberTaken);
+        }
+        let heard = &mut known.heard[usize::from(sender)];
+        match *heard {
+            Some(before) if before != verdict => Err(OtherVerdict),
+            Some(_) => Ok(Done::Again(known.outcome())),
+            None => {
+                *heard = Some(verdict);
+                Ok(Done::Heard(self.decide(place)))
+            }
+        }
+    }
+
+    /// The vote that this shard has given on this very transaction.
+    pub(crate) fn vote_given(&self, transaction: &Transaction) -> Option<Verdict> {
+        let known = &self.known[self.find(transaction.number)?];
+        if known.transaction == *transaction {
+            known.heard[usize::from(self.number)]
+        } else {
+            None
+        }
+    }
+
+    fn check_transaction(&self, transaction: &Transaction) -> Result<(), Refusal> {
+        cause(self.limits.genesis, transaction).map_or(Ok(()), Err)
+    }
+
+    /// Place of the known transaction with this number.
+    fn find(&self, number: u32) -> Option<usize> {
+        self.known
+            .iter()
+            .position(|known| known.transaction.number == number)
+    }
+
+    /// Tokens that undecided transactions may still make here.
+    fn reserved(&self) -> usize {
+        self.known
+            .iter()
+            .filter(|known| known.outcome() == Outcome::Wait)
+            .map(|known| outputs_at(self.number, &known.transaction).count())
+            .sum()
+    }
+
+    /// Pledges every available input here, also beside one that is not, and
+    /// gives the vote.
+    fn pledge(&mut self, transaction: &Transaction) -> Verdict {
+        let shard = self.number;
+        let mut verdict = Verdict::Yes;
+        let inputs = transaction.used_inputs().iter();
+        for input in inputs.filter(|input| input.token.shard == shard) {
+            let mut tokens = self.tokens.iter_mut();
+            match tokens.find(|token| token.is_available(shard, input)) {
+                Some(token) => token.pledge = Some(transaction.number),
+                None => verdict = Verdict::No,
+            }
+        }
+        verdict
+    }
+
+    /// The outcome after a verdict was added; a commit is carried out at once.
+    /// An abort changes no token: pledges stay.
+    fn decide(&mut self, place: usize) -> Outcome {
+        let outcome = self.known[place].outcome();
+        if outcome == Outcome::Commit {
+            self.commit(place);
+        }
+        outcome
+    }
+
+    fn commit(&mut self, place: usize) {
+        let shard = self.number;
+        let transaction = &self.known[place].transaction;
+        self.tokens.retain(|token| {
+            let mut inputs = transaction.used_inputs().iter();
+            !inputs.any(|input| token.is_named(shard, input.token))
+        });
+        let made = outputs_at(shard, transaction).map(|(index, output)| Token {
+            creator: transaction.number,
+            index,
+            owner: output.owner,
+            amount: output.amount,
+            pledge: None,
+        });
+        self.tokens.extend(made);
+    }
+}
+
+/// The outputs at a shard, each with its place among all outputs.
+fn outputs_at(shard: u8, transaction: &Transaction) -> impl Iterator<Item = (u8, &Output)> {
+    (0..)
+        .zip(transaction.used_outputs())
+        .filter(move |(_, output)| output.shard == shard)
+}

@@ -1,0 +1,279 @@
+//! Demand 3's clauses, computed from the calls and the states after them
+//! alone: what was registered, available and decided is read off the states,
+//! and nothing the reference computes is used.
+
+use std::collections::btree_map::Entry as Place;
+use std::collections::{BTreeMap, BTreeSet};
+
+use reference::{Cluster, Known, Outcome, Record, SHARDS, SLOTS, Token, Transaction, Verdict};
+
+/// What the clauses look at in one shard.
+#[derive(Clone, Copy, Debug, PartialEq)]
+pub struct View<'a> {
+    /// The tokens held.
+    pub tokens: &'a [Token],
+    /// The transactions known, in order of registration.
+    pub known: &'a [Known],
+}
+
+/// The reference's shards.
+pub fn views(cluster: &Cluster) -> [View<'_>; SHARDS] {
+    cluster.shards().each_ref().map(|shard| View {
+        tokens: shard.tokens(),
+        known: shard.known(),
+    })
+}
+
+/// A registration (document 01: an entry in the book's row). Its place is that
+/// in the list.
+struct Entry {
+    shard: u8,
+    transaction: Transaction,
+    /// Which inputs there were available.
+    available: [bool; SLOTS],
+}
+
+#[derive(Default)]
+struct Kept {
+    tokens: Vec<Token>,
+    known: Vec<Known>,
+}
+
+impl Kept {
+    fn view(&self) -> View<'_> {
+        View {
+            tokens: &self.tokens,
+            known: &self.known,
+        }
+    }
+}
+
+/// A token's name, and what is kept under it.
+type Name = (u8, u32, u8);
+type Holding = (u32, u32);
+type Ledger = BTreeMap<Name, Holding>;
+
+/// Follows a list of calls from an empty cluster. Panics where a clause does
+/// not hold.
+#[derive(Default)]
+pub struct Clauses {
+    before: [Kept; SHARDS],
+    genesis: Ledger,
+    log: Vec<Entry>,
+}
+
+impl Clauses {
+    /// Nothing has been called yet.
+    pub fn new() -> Self {
+        Clauses::default()
+    }
+
+    /// Follows one call: whether it was refused, and the shards after it.
+    /// Checks that a refused call changes nothing and any other only its
+    /// receiver, agreement, finality and the commit rule.
+    pub fn step(&mut self, record: &Record, refused: bool, after: &[View; SHARDS]) {
+        let receiver = usize::from(crate::receiver(record));
+        for (number, (before, after)) in self.before.iter().zip(after).enumerate() {
+            if refused || number != receiver {
+                assert!(before.view() == *after, "shard {number} has changed");
+            }
+        }
+        if refused {
+            return;
+        }
+        let now = after[receiver];
+        let before = &self.before[receiver];
+        match record {
+            Record::Mint {
+                receiver,
+                index,
+                owner,
+                amount,
+            } => {
+                assert_eq!(now.tokens.len(), before.tokens.len() + 1, "tokens minted");
+                assert_eq!(now.known, before.known, "known after a mint");
+                let new = self
+                    .genesis
+                    .insert((*receiver, 0, *index), (*owner, *amount));
+                assert_eq!(new, None, "a genesis index given twice");
+            }
+            Record::Register { transaction, .. } => {
+                let (last, known) = now.known.split_last().expect("a transaction is known");
+                assert_eq!(known, before.known, "known before");
+                assert_eq!(last.transaction, *transaction, "known last");
+                self.log.push(Entry {
+                    shard: receiver as u8,
+                    transaction: *transaction,
+                    available: available(receiver as u8, transaction, &before.tokens),
+                });
+            }
+            Record::Vote { .. } => {
+                assert_eq!(now.known.len(), before.known.len(), "known after a vote");
+            }
+        }
+
+        for (place, known) in now.known.iter().enumerate() {
+            if let Some(earlier) = before.known.get(place) {
+                assert_eq!(
+                    known.transaction, earlier.transaction,
+                    "known in another order"
+                );
+                // A verdict heard stays, and so does the decision.
+                for (now, before) in known.heard.iter().zip(earlier.heard) {
+                    assert!(before.is_none() || *now == before, "a verdict has changed");
+                }
+                let decided = outcome(earlier);
+                assert!(
+                    decided == Outcome::Wait || outcome(known) == decided,
+                    "finality: {decided:?} has changed"
+                );
+            }
+            let decided = outcome(known);
+            if decided == Outcome::Wait {
+                continue;
+            }
+            for (number, other) in after.iter().enumerate() {
+                let mut same = other.known.iter();
+                if let Some(other) = same.find(|other| other.transaction == known.transaction) {
+                    let other = outcome(other);
+                    assert!(
+                        other == Outcome::Wait || other == decided,
+                        "agreement: {decided:?} at {receiver}, {other:?} at {number}"
+                    );
+                }
+            }
+            let all = self.all_available(&known.transaction);
+            assert_eq!(
+                decided == Outcome::Commit,
+                all,
+                "commit rule: {decided:?}, inputs available: {all}"
+            );
+        }
+
+        let kept = &mut self.before[receiver];
+        kept.tokens.clear();
+        kept.tokens.extend(now.tokens);
+        kept.known.clear();
+        kept.known.extend(now.known);
+    }
+
+    /// Runs the committed transactions one by one on one ledger, by last
+    /// registration. Where every one of them is decided at all its shards, that
+    /// ledger has to hold the shards' tokens; tells whether it was so.
+    pub fn serial(&self) -> bool {
+        let (committed, whole) = self.committed();
+        let mut ledger = self.genesis.clone();
+        let mut names: BTreeSet<Name> = ledger.keys().copied().collect();
+        for &transaction in committed.values() {
+            for input in transaction.used_inputs() {
+                let name = (input.token.shard, input.token.creator, input.token.index);
+                let taken = ledger.remove(&name);
+                assert_eq!(
+                    taken,
+                    Some((input.owner, input.amount)),
+                    "serial ledger: {name:?} for transaction {}",
+                    transaction.number
+                );
+            }
+            for (index, output) in (0..).zip(transaction.used_outputs()) {
+                let name = (output.shard, transaction.number, index);
+                assert!(names.insert(name), "serial ledger: {name:?} made twice");
+                ledger.insert(name, (output.owner, output.amount));
+            }
+        }
+        if whole {
+            let mut held = Ledger::new();
+            for (shard, kept) in (0..).zip(&self.before) {
+                for token in &kept.tokens {
+                    match held.entry((shard, token.creator, token.index)) {
+                        Place::Vacant(place) => place.insert((token.owner, token.amount)),
+                        Place::Occupied(place) => panic!("{:?} is held twice", place.key()),
+                    };
+                }
+            }
+            assert_eq!(
+                held, ledger,
+                "serial ledger: the shards' tokens, the ledger"
+            );
+        }
+        whole
+    }
+
+    /// How many transactions are committed.
+    pub fn commits(&self) -> usize {
+        self.committed().0.len()
+    }
+
+    /// The numbers of the committed transactions, in the serial order.
+    pub fn committed_numbers(&self) -> Vec<u32> {
+        let committed = self.committed().0;
+        committed.values().map(|t| t.number).collect()
+    }
+
+    /// The transactions that some shard has committed, by the place of their
+    /// last registration, and whether each is decided at all its shards.
+    fn committed(&self) -> (BTreeMap<usize, &Transaction>, bool) {
+        let mut committed = BTreeMap::new();
+        let mut whole = true;
+        let known = self.before.iter().flat_map(|kept| &kept.known);
+        for known in known.filter(|known| outcome(known) == Outcome::Commit) {
+            let transaction = &known.transaction;
+            let last = self
+                .log
+                .iter()
+                .rposition(|entry| entry.transaction == *transaction)
+                .expect("a committed transaction was registered");
+            committed.insert(last, transaction);
+            for shard in transaction.shards() {
+                let mut there = self.before[usize::from(shard)].known.iter();
+                let there = there.find(|there| there.transaction == *transaction);
+                whole &= there.is_some_and(|there| outcome(there) != Outcome::Wait);
+            }
+        }
+        (committed, whole)
+    }
+
+    /// Whether each input was available when its shard registered the
+    /// transaction.
+    fn all_available(&self, transaction: &Transaction) -> bool {
+        (0..)
+            .zip(transaction.used_inputs())
+            .all(|(slot, input): (usize, _)| {
+                let mut log = self.log.iter();
+                let entry = log.find(|entry| {
+                    entry.shard == input.token.shard && entry.transaction == *transaction
+                });
+                entry
+                    .expect("all votes are heard, so all shards have registered")
+                    .available[slot]
+            })
+    }
+}
+
+fn available(shard: u8, transaction: &Transaction, tokens: &[Token]) -> [bool; SLOTS] {
+    let mut available = [false; SLOTS];
+    for (slot, input) in transaction.used_inputs().iter().enumerate() {
+        available[slot] = tokens.iter().any(|token| {
+            (shard, token.creator, token.index)
+                == (input.token.shard, input.token.creator, input.token.index)
+                && (token.owner, token.amount) == (input.owner, input.amount)
+                && token.pledge.is_none()
+        });
+    }
+    available
+}
+
+/// Document 01's decision.
+fn outcome(known: &Known) -> Outcome {
+    let heard = |shard: u8| known.heard[usize::from(shard)];
+    let mut shards = known.transaction.shards();
+    if shards.any(|shard| heard(shard).is_none()) {
+        return Outcome::Wait;
+    }
+    let mut shards = known.transaction.shards();
+    if shards.all(|shard| heard(shard) == Some(Verdict::Yes)) {
+        Outcome::Commit
+    } else {
+        Outcome::Abort
+    }
+}

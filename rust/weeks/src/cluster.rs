@@ -1,0 +1,402 @@
+//! Random weeks of a cluster.
+
+use reference::{
+    Cluster, Input, LIMITS, Record, SLOTS, Shard, TokenId, Transaction, Verdict, takes_part,
+};
+
+use crate::rng::Rng;
+use crate::transactions::{add_input, damage, known, owner, transfer, variant};
+
+/// What a week is like.
+#[derive(Clone, Copy, Debug)]
+pub struct ClusterStyle {
+    /// Calls in all.
+    pub calls: usize,
+    /// Shards with tokens: the fewer, the more transactions meet.
+    pub shards: usize,
+    /// Genesis tokens of each of them, as far as the calls suffice.
+    pub mints: usize,
+    /// Amounts of genesis tokens, from 1.
+    pub amounts: u32,
+    /// How many calls of a hundred hand in a new transaction.
+    pub new: usize,
+    /// How many calls of a hundred deliver a vote that is due.
+    pub due: usize,
+    /// One record in so many is damaged.
+    pub damage: Option<usize>,
+}
+
+impl ClusterStyle {
+    /// Any style.
+    pub fn random(rng: &mut Rng) -> Self {
+        let damage = rng.pick(&[None, Some(60), Some(20), Some(6)]);
+        match rng.below(16) {
+            // A shard or two that run full.
+            0 => ClusterStyle {
+                calls: 500 + rng.below(300),
+                shards: 1 + rng.below(2),
+                mints: rng.pick(&[100, 115, 122, 126, 127, 128]),
+                amounts: 60,
+                new: 14,
+                due: 50,
+                damage,
+            },
+            _ => {
+                let shards = rng.pick(&[1, 2, 2, 3, 3, 4, 8]);
+                ClusterStyle {
+                    // Few shards know all they can before long.
+                    calls: 80 + rng.below(100 * shards.min(4)),
+                    shards,
+                    mints: 1 + rng.below(12),
+                    amounts: rng.pick(&[3, 40, 40, 9_000, 1_000_000]),
+                    new: rng.pick(&[6, 10, 14]),
+                    due: rng.pick(&[20, 40, 55]),
+                    damage,
+                }
+            }
+        }
+    }
+}
+
+/// The calls of a random week of any style.
+pub fn cluster_week(rng: &mut Rng) -> Vec<Record> {
+    let style = ClusterStyle::random(rng);
+    cluster_week_of(rng, style)
+}
+
+/// The calls of a random week of this style.
+pub fn cluster_week_of(rng: &mut Rng, style: ClusterStyle) -> Vec<Record> {
+    let first = rng.below(8);
+    let next = if rng.once_in(4) { u32::MAX - 6 } else { 1 };
+    let mut week = Week {
+        rng,
+        style,
+        shards: (0..style.shards)
+            .map(|number| ((first + number) % 8) as u8)
+            .collect(),
+        cluster: Cluster::new(LIMITS),
+        transactions: Vec::new(),
+        tokens: Vec::new(),
+        next,
+        records: Vec::with_capacity(style.calls),
+    };
+    week.mints();
+    while week.records.len() < style.calls {
+        week.step();
+    }
+    week.records
+}
+
+/// The week so far. The cluster is played along, so that calls can be aimed at
+/// what it holds and knows.
+struct Week<'a> {
+    rng: &'a mut Rng,
+    style: ClusterStyle,
+    shards: Vec<u8>,
+    cluster: Cluster,
+    transactions: Vec<Transaction>,
+    /// Inputs that named a token, for tokens that may be gone.
+    tokens: Vec<Input>,
+    next: u32,
+    records: Vec<Record>,
+}
+
+impl Week<'_> {
+    fn send(&mut self, mut record: Record) {
+        let damaged = self.style.damage.is_some_and(|once| self.rng.once_in(once));
+        if damaged {
+            damage(self.rng, &mut record);
+            // Then the first refusal in order has to win.
+            if self.rng.once_in(3) {
+                damage(self.rng, &mut record);
+            }
+        }
+        // Nothing depends on the answer, only on what the cluster keeps.
+        let _ = self.cluster.play(&record);
+        self.records.push(record);
+    }
+
+    fn shard(&self, number: u8) -> &Shard {
+        &self.cluster.shards()[usize::from(number)]
+    }
+
+    fn mints(&mut self) {
+        let start = self.rng.below(128);
+        for index in 0..self.style.mints {
+            for place in 0..self.shards.len() {
+                if self.records.len() < self.style.calls {
+                    self.mint(self.shards[place], ((start + index) % 128) as u8);
+                }
+            }
+            if self.rng.once_in(12) {
+                let shard = self.rng.pick(&self.shards);
+                self.mint(shard, start as u8);
+            }
+        }
+    }
+
+    fn mint(&mut self, receiver: u8, index: u8) {
+        let record = Record::Mint {
+            receiver,
+            index,
+            owner: owner(self.rng),
+            amount: self.rng.between(1, self.style.amounts),
+        };
+        self.send(record);
+    }
+
+    fn step(&mut self) {
+        let choice = self.rng.below(100);
+        if self.transactions.is_empty() || choice < self.style.new {
+            return self.hand_in();
+        }
+        if choice < self.style.new + self.style.due {
+            return self.due_vote();
+        }
+        let transaction = self.transaction();
+        match self.rng.below(40) {
+            0..18 => self.missing_registration(),
+            18..20 => {
+                let shard = self.shard_of(&transaction);
+                self.register(shard, transaction);
+            }
+            20..22 => {
+                let other = variant(self.rng, &transaction);
+                if self.rng.once_in(4) {
+                    self.transactions.push(other);
+                }
+                let shard = self.shard_of(&other);
+                self.register(shard, other);
+            }
+            22 => {
+                let shard = self.rng.below(8) as u8;
+                self.register(shard, transaction);
+            }
+            // Repeats, and votes that are too early.
+            23..32 => {
+                let sender = self.shard_of(&transaction);
+                let receiver = self.shard_of(&transaction);
+                self.deliver(sender, receiver, transaction);
+            }
+            32..34 => {
+                let (sender, receiver) = (self.rng.below(8) as u8, self.rng.below(8) as u8);
+                self.deliver(sender, receiver, transaction);
+            }
+            34..36 => {
+                let other = variant(self.rng, &transaction);
+                let (sender, receiver) = (self.shard_of(&other), self.shard_of(&other));
+                self.deliver(sender, receiver, other);
+            }
+            36 => {
+                let sender = self.shard_of(&transaction);
+                self.deliver(sender, sender, transaction);
+            }
+            _ => {
+                let (shard, index) = (self.rng.below(9), self.rng.below(128));
+                self.mint(shard as u8, index as u8);
+            }
+        }
+    }
+
+    fn register(&mut self, receiver: u8, transaction: Transaction) {
+        self.send(Record::Register {
+            receiver,
+            transaction,
+        });
+    }
+
+    /// The sender's own vote as far as it has given one; now and then another.
+    fn deliver(&mut self, sender: u8, receiver: u8, transaction: Transaction) {
+        let given = known(self.shard(sender), &transaction)
+            .and_then(|known| known.heard[usize::from(sender)]);
+        let verdict = match given {
+            Some(verdict) if !self.rng.once_in(30) => u8::from(verdict == Verdict::Yes),
+            _ => self.rng.below(2) as u8,
+        };
+        self.send(Record::Vote {
+            receiver,
+            sender,
+            verdict,
+            transaction,
+        });
+    }
+
+    /// A vote that was given and not heard by a shard that knows the
+    /// transaction.
+    fn due_vote(&mut self) {
+        for _ in 0..6 {
+            let transaction = self.transaction();
+            let mut due = Vec::new();
+            for receiver in transaction.shards() {
+                let Some(here) = known(self.shard(receiver), &transaction) else {
+                    continue;
+                };
+                for sender in transaction.shards() {
+                    if here.heard[usize::from(sender)].is_none()
+                        && known(self.shard(sender), &transaction).is_some()
+                    {
+                        due.push((sender, receiver));
+                    }
+                }
+            }
+            if !due.is_empty() {
+                let (sender, receiver) = self.rng.pick(&due);
+                return self.deliver(sender, receiver, transaction);
+            }
+        }
+        self.missing_registration();
+    }
+
+    /// A registration at a shard that does not know the number.
+    fn missing_registration(&mut self) {
+        let mut transaction = self.transaction();
+        let mut shard = self.shard_of(&transaction);
+        for _ in 0..6 {
+            let mut known = self.shard(shard).known().iter();
+            if known.all(|known| known.transaction.number != transaction.number) {
+                return self.register(shard, transaction);
+            }
+            transaction = self.transaction();
+            shard = self.shard_of(&transaction);
+        }
+        if self.rng.once_in(3) {
+            self.register(shard, transaction);
+        } else {
+            self.hand_in();
+        }
+    }
+
+    /// A new transaction, registered at one of its shards.
+    fn hand_in(&mut self) {
+        let new = self.new_transaction();
+        self.transactions.push(new);
+        let shard = self.shard_of(&new);
+        self.register(shard, new);
+    }
+
+    /// One of the transaction's shards.
+    fn shard_of(&mut self, transaction: &Transaction) -> u8 {
+        let shards: Vec<u8> = transaction.shards().collect();
+        self.rng.pick(&shards)
+    }
+
+    /// One of the transactions so far, mostly a late one.
+    fn transaction(&mut self) -> Transaction {
+        let all = self.transactions.len();
+        let from = if self.rng.once_in(4) {
+            0
+        } else {
+            all.saturating_sub(8)
+        };
+        self.transactions[from + self.rng.below(all - from)]
+    }
+
+    fn new_transaction(&mut self) -> Transaction {
+        let number = self.number();
+        // Few inputs where tokens are few.
+        let most = if self.style.mints < 4 { 2 } else { SLOTS };
+        let mut inputs = Vec::with_capacity(SLOTS);
+        for _ in 0..=self.rng.below(most) {
+            let input = self.input(number);
+            add_input(&mut inputs, input);
+        }
+        let mut shards = self.shards.clone();
+        if self.rng.once_in(4) {
+            shards.push(self.rng.below(8) as u8);
+        }
+        // Often all at one place.
+        if self.rng.once_in(3) {
+            shards = vec![self.rng.pick(&shards)];
+        }
+        let mut transaction = transfer(self.rng, number, &inputs, &shards);
+        // Numbers may be used twice where no shard sees both.
+        if !self.transactions.is_empty() && self.rng.once_in(6) {
+            let other = self.transaction();
+            if other.shards().all(|shard| !takes_part(shard, &transaction)) {
+                transaction.number = other.number;
+            }
+        }
+        transaction
+    }
+
+    fn number(&mut self) -> u32 {
+        if !self.transactions.is_empty() && self.rng.once_in(20) {
+            return self.transaction().number;
+        }
+        self.next = self.next.checked_add(1).unwrap_or(1);
+        self.next
+    }
+
+    /// A token, mostly one that is available.
+    fn input(&mut self, number: u32) -> Input {
+        let choice = self.rng.below(40);
+        match choice {
+            0 => return self.missing_input(number),
+            1..4 if !self.tokens.is_empty() => {
+                return self.tokens[self.rng.below(self.tokens.len())];
+            }
+            // An output that may not be made yet.
+            4..9 if !self.transactions.is_empty() => {
+                let creator = self.transaction();
+                let index = self.rng.below(creator.output_count.into());
+                let output = creator.outputs[index];
+                return Input {
+                    token: TokenId {
+                        shard: output.shard,
+                        creator: creator.number,
+                        index: index as u8,
+                    },
+                    owner: output.owner,
+                    amount: output.amount,
+                };
+            }
+            _ => {}
+        }
+        let mut found = None;
+        for _ in 0..8 {
+            let shard = self.rng.pick(&self.shards);
+            let tokens = self.cluster.shards()[usize::from(shard)].tokens();
+            if tokens.is_empty() {
+                continue;
+            }
+            let token = tokens[self.rng.below(tokens.len())];
+            found = Some((shard, token));
+            if token.pledge.is_none() || choice == 10 {
+                break;
+            }
+        }
+        let Some((shard, token)) = found else {
+            return self.missing_input(number);
+        };
+        let mut input = Input {
+            token: TokenId {
+                shard,
+                creator: token.creator,
+                index: token.index,
+            },
+            owner: token.owner,
+            amount: token.amount,
+        };
+        self.tokens.push(input);
+        match choice {
+            11 => input.owner = owner(self.rng),
+            12 => input.amount = self.rng.between(1, self.style.amounts),
+            _ => {}
+        }
+        input
+    }
+
+    /// A token that never was, or the transaction's own output.
+    fn missing_input(&mut self, number: u32) -> Input {
+        let creator = if self.rng.once_in(2) { number } else { 0 };
+        Input {
+            token: TokenId {
+                shard: self.rng.pick(&self.shards),
+                creator,
+                index: self.rng.below(SLOTS) as u8,
+            },
+            owner: owner(self.rng),
+            amount: self.rng.between(1, self.style.amounts),
+        }
+    }
+}

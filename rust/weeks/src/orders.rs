@@ -1,0 +1,413 @@
+//! Small scenarios, to be played in every order.
+
+use std::collections::{HashMap, VecDeque};
+use std::hash::{BuildHasher, BuildHasherDefault, DefaultHasher};
+
+use reference::{Cluster, Input, LIMITS, Output, Record, TokenId, Transaction, Verdict};
+
+use crate::transactions::known;
+
+/// A call whose place in the order is free. The transaction is given by its
+/// place in the scenario.
+#[derive(Clone, Copy, Debug, PartialEq, Eq)]
+enum Step {
+    Register {
+        transaction: usize,
+        shard: u8,
+    },
+    Deliver {
+        transaction: usize,
+        sender: u8,
+        receiver: u8,
+    },
+}
+
+/// Transactions on genesis tokens, with all their registrations and all
+/// deliveries.
+pub struct Scenario {
+    /// For messages.
+    pub name: &'static str,
+    /// The numbers of the committed transactions in serial order, for every
+    /// end that some order reaches, as document 01 has it.
+    pub ends: &'static [&'static [u32]],
+    mints: Vec<Record>,
+    transactions: Vec<Transaction>,
+    steps: Vec<Step>,
+    /// For each step, a bit for every step that has to come before.
+    needs: Vec<u32>,
+    orders: Orders,
+}
+
+/// What of the orders is played.
+#[derive(Clone, Copy, PartialEq, Eq)]
+enum Orders {
+    /// Every order: a delivery may come too early, and is refused.
+    All,
+    /// A transaction's last shard registers it after its others.
+    LastShardLate,
+    /// A delivery comes after both its shards have registered.
+    NoneEarly,
+    /// As `NoneEarly`, but too many to be played one by one: so many of them
+    /// that every step is taken from every state that some order leads to.
+    EveryTransition,
+}
+
+/// The scenarios.
+pub fn scenarios() -> Vec<Scenario> {
+    let genesis = |shard| (shard, 0, 0);
+    vec![
+        Scenario::new(
+            "two conflicting transactions over two shards",
+            &[0, 1],
+            &[
+                (5, &[genesis(0), genesis(1)], &[1, 0]),
+                (6, &[genesis(0), genesis(1)], &[0, 1]),
+            ],
+            Orders::All,
+            &[&[], &[5], &[6]],
+        ),
+        Scenario::new(
+            "two transactions over two shards, in conflict at one",
+            &[0, 1],
+            &[
+                (5, &[genesis(0)], &[1]),
+                (6, &[genesis(0), genesis(1)], &[1, 1]),
+            ],
+            Orders::All,
+            &[&[5], &[6]],
+        ),
+        Scenario::new(
+            "two conflicting transactions over three shards, two each",
+            &[2, 4, 7],
+            &[
+                (5, &[genesis(2), genesis(4)], &[2, 2]),
+                (6, &[genesis(4), genesis(7)], &[4, 7]),
+            ],
+            Orders::All,
+            &[&[5], &[6]],
+        ),
+        Scenario::new(
+            "a transaction over three shards, one in conflict with it at one",
+            &[0, 1, 2],
+            &[
+                (5, &[genesis(0), genesis(1), genesis(2)], &[0, 1, 2]),
+                (6, &[genesis(1)], &[1]),
+            ],
+            Orders::NoneEarly,
+            &[&[5], &[6]],
+        ),
+        Scenario::new(
+            "two conflicting transactions over three shards",
+            &[0, 1, 2],
+            &[
+                (5, &[genesis(0), genesis(1), genesis(2)], &[0, 1, 2]),
+                (6, &[genesis(2), genesis(1), genesis(0)], &[1, 2, 0]),
+            ],
+            Orders::EveryTransition,
+            &[&[], &[5], &[6]],
+        ),
+        Scenario::new(
+            "two transactions of one number that meet at a shard",
+            &[0, 1, 2],
+            &[(5, &[genesis(0)], &[1]), (5, &[genesis(1)], &[2])],
+            Orders::All,
+            &[&[5]],
+        ),
+        Scenario::new(
+            "a transaction and its successor on a fresh output",
+            &[0],
+            &[(5, &[genesis(0)], &[1]), (6, &[(1, 5, 0)], &[2])],
+            Orders::All,
+            &[&[5], &[5, 6]],
+        ),
+        Scenario::new(
+            "a transaction and its successor at the same shards",
+            &[3, 6],
+            &[
+                (5, &[genesis(3), genesis(6)], &[6, 3]),
+                (6, &[(6, 5, 0), (3, 5, 1)], &[3, 6]),
+            ],
+            Orders::All,
+            &[&[5], &[5, 6]],
+        ),
+        Scenario::new(
+            "a transaction registered late at its last shard",
+            &[0, 1, 2],
+            &[(5, &[genesis(0), genesis(1)], &[2, 2])],
+            Orders::LastShardLate,
+            &[&[5]],
+        ),
+    ]
+}
+
+/// A transaction by its number, the tokens it takes (shard, creator, index)
+/// and the shards of its outputs, as many as tokens.
+type Plan<'a> = (u32, &'a [(u8, u32, u8)], &'a [u8]);
+
+impl Scenario {
+    /// Every token is of the same amount and has an owner of its shard.
+    fn new(
+        name: &'static str,
+        mints: &[u8],
+        transactions: &[Plan],
+        orders: Orders,
+        ends: &'static [&'static [u32]],
+    ) -> Self {
+        const AMOUNT: u32 = 12;
+        let mints = mints
+            .iter()
+            .map(|&receiver| Record::Mint {
+                receiver,
+                index: 0,
+                owner: 10 + u32::from(receiver),
+                amount: AMOUNT,
+            })
+            .collect();
+        let transactions: Vec<Transaction> = transactions
+            .iter()
+            .map(|&(number, tokens, shards)| {
+                let mut transaction = Transaction {
+                    number,
+                    input_count: tokens.len() as u8,
+                    output_count: shards.len() as u8,
+                    ..Transaction::default()
+                };
+                for (slot, &(shard, creator, index)) in tokens.iter().enumerate() {
+                    transaction.inputs[slot] = Input {
+                        token: TokenId {
+                            shard,
+                            creator,
+                            index,
+                        },
+                        owner: 10 + u32::from(shard),
+                        amount: AMOUNT,
+                    };
+                }
+                for (slot, &shard) in shards.iter().enumerate() {
+                    transaction.outputs[slot] = Output {
+                        shard,
+                        owner: 10 + u32::from(shard),
+                        amount: AMOUNT,
+                    };
+                }
+                transaction
+            })
+            .collect();
+
+        let mut steps = Vec::new();
+        for (place, transaction) in transactions.iter().enumerate() {
+            let shards = shards(transaction);
+            let register = |&shard: &u8| Step::Register {
+                transaction: place,
+                shard,
+            };
+            steps.extend(shards.iter().map(register));
+            for &sender in &shards {
+                let receivers = shards.iter().filter(|&&receiver| receiver != sender);
+                steps.extend(receivers.map(|&receiver| Step::Deliver {
+                    transaction: place,
+                    sender,
+                    receiver,
+                }));
+            }
+        }
+        let needs = steps
+            .iter()
+            .map(|step| {
+                let before = steps
+                    .iter()
+                    .enumerate()
+                    .filter(|(_, other)| orders.need(step, other, &transactions));
+                before.map(|(place, _)| 1 << place).sum()
+            })
+            .collect();
+        Scenario {
+            name,
+            ends,
+            mints,
+            transactions,
+            steps,
+            needs,
+            orders,
+        }
+    }
+
+    /// Calls `visit` with every order's number and its calls: the mints, the
+    /// steps in that order, then, if some may have been too early, all
+    /// deliveries again, so that every transaction comes to be decided at all
+    /// its shards. A delivery carries the vote its sender has given; one that
+    /// is too early carries any, is refused and stays so until the end.
+    pub fn orders(&self, mut visit: impl FnMut(u64, &[Record])) -> u64 {
+        let mut number = 0;
+        let mut records = Vec::new();
+        let mut visit = |order: &[usize]| {
+            self.play(number, order, &mut records);
+            visit(number, &records);
+            number += 1;
+        };
+        if self.orders == Orders::EveryTransition {
+            self.cover(&mut visit);
+        } else {
+            self.place(&mut Vec::new(), &mut visit);
+        }
+        number
+    }
+
+    /// How many of an order's calls come before the deliveries are repeated.
+    pub fn calls(&self) -> usize {
+        self.mints.len() + self.steps.len()
+    }
+
+    /// The steps that may come next.
+    fn next(&self, order: &[usize]) -> impl Iterator<Item = usize> {
+        let done = order.iter().fold(0_u32, |done, place| done | 1 << place);
+        (0..self.steps.len())
+            .filter(move |&next| done & 1 << next == 0 && self.needs[next] & !done == 0)
+    }
+
+    /// Extends the order in every way that is left.
+    fn place(&self, order: &mut Vec<usize>, visit: &mut impl FnMut(&[usize])) {
+        if order.len() == self.steps.len() {
+            return visit(order);
+        }
+        let next: Vec<usize> = self.next(order).collect();
+        for next in next {
+            order.push(next);
+            self.place(order, visit);
+            order.pop();
+        }
+    }
+
+    /// Visits so many orders that every step is taken from every state. States
+    /// are told apart by the steps taken and a hash of the whole cluster.
+    fn cover(&self, visit: &mut impl FnMut(&[usize])) {
+        let hasher = BuildHasherDefault::<DefaultHasher>::default();
+        let mut taken: HashMap<(u32, u64), u32> = HashMap::new();
+        // Ways to states from which some step may be left. The short ones go
+        // first: they have the longest way to find other steps.
+        let mut open = VecDeque::from([Vec::new()]);
+        while let Some(mut order) = open.pop_front() {
+            let mut cluster = self.cluster();
+            for &place in &order {
+                self.take(place, &mut cluster);
+            }
+            let start = order.len();
+            while order.len() < self.steps.len() {
+                let done = order.iter().fold(0, |done, place| done | 1 << place);
+                let key = (done, hasher.hash_one(&cluster));
+                let taken = taken.entry(key).or_default();
+                let left: Vec<usize> = self
+                    .next(&order)
+                    .filter(|next| *taken & 1 << next == 0)
+                    .collect();
+                let next = match left[..] {
+                    // This way has nothing new; go on anyhow if it had.
+                    [] if order.len() == start => break,
+                    [] => self.next(&order).next().expect("some step is left"),
+                    [only] => only,
+                    [first, ..] => {
+                        open.push_back(order.clone());
+                        first
+                    }
+                };
+                *taken |= 1 << next;
+                self.take(next, &mut cluster);
+                order.push(next);
+            }
+            if order.len() == self.steps.len() {
+                visit(&order);
+            }
+        }
+    }
+
+    fn cluster(&self) -> Cluster {
+        let mut cluster = Cluster::new(LIMITS);
+        for record in &self.mints {
+            cluster.play(record).expect("the mints are valid");
+        }
+        cluster
+    }
+
+    fn take(&self, place: usize, cluster: &mut Cluster) {
+        let record = self.record(&self.steps[place], true, cluster);
+        let answer = cluster.play(&record);
+        answer.expect("no step is too early in these orders");
+    }
+
+    fn play(&self, number: u64, order: &[usize], records: &mut Vec<Record>) {
+        let mut cluster = self.cluster();
+        records.clear();
+        records.extend(&self.mints);
+        let late = matches!(self.orders, Orders::All | Orders::LastShardLate);
+        let again = |step: &&Step| late && matches!(step, Step::Deliver { .. });
+        let steps = order.iter().map(|&place| &self.steps[place]);
+        for step in steps.chain(self.steps.iter().filter(again)) {
+            let record = self.record(step, number.is_multiple_of(2), &cluster);
+            // Some are refused; which, is for the comparison to see.
+            let _ = cluster.play(&record);
+            records.push(record);
+        }
+    }
+
+    fn record(&self, step: &Step, early: bool, cluster: &Cluster) -> Record {
+        match *step {
+            Step::Register { transaction, shard } => Record::Register {
+                receiver: shard,
+                transaction: self.transactions[transaction],
+            },
+            Step::Deliver {
+                transaction,
+                sender,
+                receiver,
+            } => {
+                let transaction = self.transactions[transaction];
+                let shard = &cluster.shards()[usize::from(sender)];
+                let given = known(shard, &transaction)
+                    .and_then(|known| known.heard[usize::from(sender)])
+                    .map(|verdict| verdict == Verdict::Yes);
+                Record::Vote {
+                    receiver,
+                    sender,
+                    verdict: given.unwrap_or(early).into(),
+                    transaction,
+                }
+            }
+        }
+    }
+}
+
+impl Orders {
+    /// Whether `step` has to come after `other`.
+    fn need(self, step: &Step, other: &Step, transactions: &[Transaction]) -> bool {
+        let &Step::Register {
+            transaction: registered,
+            shard: at,
+        } = other
+        else {
+            return false;
+        };
+        match (self, *step) {
+            (
+                Orders::NoneEarly | Orders::EveryTransition,
+                Step::Deliver {
+                    transaction,
+                    sender,
+                    receiver,
+                },
+            ) => transaction == registered && (at == sender || at == receiver),
+            (Orders::LastShardLate, Step::Register { transaction, shard }) => {
+                let last = shards(&transactions[transaction]).pop();
+                transaction == registered && Some(shard) == last && at != shard
+            }
+            _ => false,
+        }
+    }
+}
+
+/// The transaction's shards, each once.
+fn shards(transaction: &Transaction) -> Vec<u8> {
+    let mut shards: Vec<u8> = transaction.shards().collect();
+    shards.sort_unstable();
+    shards.dedup();
+    shards
+}

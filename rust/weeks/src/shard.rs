@@ -1,0 +1,389 @@
+//! Random weeks of a lone shard.
+
+use reference::{Input, LIMITS, Record, SLOTS, Shard, TokenId, Transaction, Verdict};
+
+use crate::rng::Rng;
+use crate::transactions::{add_input, damage, owner, transfer, variant};
+
+/// What a week is like.
+#[derive(Clone, Copy, Debug)]
+pub struct ShardStyle {
+    /// Calls in all.
+    pub calls: usize,
+    /// Genesis tokens, as far as the calls suffice.
+    pub mints: usize,
+    /// Amounts of genesis tokens, from 1.
+    pub amounts: u32,
+    /// How many transactions of eight are of this shard alone.
+    pub local: usize,
+    /// How many outputs of eight are made here.
+    pub here: usize,
+    /// One record in so many is damaged.
+    pub damage: Option<usize>,
+    /// How many of sixteen votes are yes.
+    pub yes: usize,
+}
+
+impl ShardStyle {
+    /// Any style.
+    pub fn random(rng: &mut Rng) -> Self {
+        let calls = match rng.below(4) {
+            0 => 1 + rng.below(40),
+            1 => 40 + rng.below(200),
+            _ => 200 + rng.below(400),
+        };
+        let mints = match rng.below(4) {
+            0 => rng.below(8),
+            1 => rng.below(50),
+            2 => 90 + rng.below(38),
+            _ => 128,
+        };
+        ShardStyle {
+            calls,
+            mints,
+            amounts: rng.pick(&[1, 5, 60, 60, 5_000, 1_000_000]),
+            local: rng.pick(&[0, 1, 4, 7]),
+            here: rng.pick(&[1, 4, 7, 8]),
+            damage: rng.pick(&[None, Some(40), Some(12), Some(4)]),
+            yes: rng.pick(&[8, 14, 16]),
+        }
+    }
+}
+
+/// A random week of any style: the shard's number and the calls.
+pub fn shard_week(rng: &mut Rng) -> (u8, Vec<Record>) {
+    let style = ShardStyle::random(rng);
+    shard_week_of(rng, style)
+}
+
+/// A random week of this style: the shard's number and the calls.
+pub fn shard_week_of(rng: &mut Rng, style: ShardStyle) -> (u8, Vec<Record>) {
+    let here = rng.below(8) as u8;
+    let next = match rng.below(4) {
+        0 => u32::MAX - 20,
+        1 => rng.between(1, u32::MAX),
+        _ => 1,
+    };
+    let mut week = Week {
+        rng,
+        style,
+        here,
+        shard: Shard::new(here, LIMITS),
+        transactions: Vec::new(),
+        tokens: Vec::new(),
+        next,
+        records: Vec::with_capacity(style.calls),
+    };
+    week.mints();
+    while week.records.len() < style.calls {
+        week.step();
+    }
+    (here, week.records)
+}
+
+/// The week so far. The shard is played along, so that calls can be aimed at
+/// what it holds and knows.
+struct Week<'a> {
+    rng: &'a mut Rng,
+    style: ShardStyle,
+    here: u8,
+    shard: Shard,
+    /// All that were handed to the shard.
+    transactions: Vec<Transaction>,
+    /// Inputs that named a token here, for tokens that may be gone.
+    tokens: Vec<Input>,
+    next: u32,
+    records: Vec<Record>,
+}
+
+impl Week<'_> {
+    fn send(&mut self, mut record: Record) {
+        let damaged = self.style.damage.is_some_and(|once| self.rng.once_in(once));
+        if damaged {
+            damage(self.rng, &mut record);
+            // Then the first refusal in order has to win.
+            if self.rng.once_in(3) {
+                damage(self.rng, &mut record);
+            }
+        }
+        // Nothing depends on the answer, only on what the shard keeps.
+        let _ = self.shard.play(&record);
+        self.records.push(record);
+    }
+
+    fn mints(&mut self) {
+        // All 128 indices occur, in an order of the week's own.
+        let (start, stride) = (self.rng.below(128), 1 + 2 * self.rng.below(64));
+        for number in 0..self.style.mints.min(self.style.calls) {
+            let index = ((start + number * stride) % 128) as u8;
+            self.mint(index);
+            if self.rng.once_in(12) {
+                let given = ((start + self.rng.below(number + 1) * stride) % 128) as u8;
+                self.mint(given);
+            }
+        }
+    }
+
+    fn mint(&mut self, index: u8) {
+        let record = Record::Mint {
+            receiver: self.here,
+            index,
+            owner: owner(self.rng),
+            amount: self.rng.between(1, self.style.amounts),
+        };
+        self.send(record);
+    }
+
+    fn step(&mut self) {
+        match self.rng.below(100) {
+            0..27 => {
+                let new = self.new_transaction();
+                self.register(new);
+            }
+            27..31 => {
+                let old = self.old_transaction();
+                self.register(old);
+            }
+            31..34 => {
+                let old = self.old_transaction();
+                let other = variant(self.rng, &old);
+                self.register(other);
+            }
+            34..72 => self.fresh_vote(),
+            72..84 => self.vote_again(),
+            84..87 => {
+                let old = self.old_transaction();
+                let other = variant(self.rng, &old);
+                self.vote(other);
+            }
+            87..90 => {
+                let new = self.new_transaction();
+                self.vote(new);
+            }
+            90..94 => self.elsewhere(),
+            94..97 => {
+                let index = self.rng.below(128) as u8;
+                self.mint(index);
+            }
+            _ => self.other_receiver(),
+        }
+    }
+
+    fn register(&mut self, transaction: Transaction) {
+        self.send(Record::Register {
+            receiver: self.here,
+            transaction,
+        });
+        self.transactions.push(transaction);
+    }
+
+    fn send_vote(&mut self, sender: u8, verdict: u8, transaction: Transaction) {
+        self.send(Record::Vote {
+            receiver: self.here,
+            sender,
+            verdict,
+            transaction,
+        });
+    }
+
+    /// A vote of one of the transaction's shards, whatever was heard.
+    fn vote(&mut self, transaction: Transaction) {
+        let shards: Vec<u8> = transaction.shards().collect();
+        let (sender, verdict) = (self.rng.pick(&shards), self.verdict());
+        self.send_vote(sender, verdict, transaction);
+    }
+
+    fn verdict(&mut self) -> u8 {
+        u8::from(self.rng.below(16) < self.style.yes)
+    }
+
+    /// A vote not heard yet, on a transaction known here.
+    fn fresh_vote(&mut self) {
+        for _ in 0..8 {
+            if self.shard.known().is_empty() {
+                break;
+            }
+            let known = self.shard.known()[self.rng.below(self.shard.known().len())];
+            let heard = |shard: &u8| known.heard[usize::from(*shard)].is_some();
+            let missing: Vec<u8> = known.transaction.shards().filter(|s| !heard(s)).collect();
+            if !missing.is_empty() {
+                let (sender, verdict) = (self.rng.pick(&missing), self.verdict());
+                return self.send_vote(sender, verdict, known.transaction);
+            }
+        }
+        let new = self.new_transaction();
+        self.register(new);
+    }
+
+    /// A vote heard before, its own included, or its contrary.
+    fn vote_again(&mut self) {
+        if self.shard.known().is_empty() {
+            return self.step();
+        }
+        let known = self.shard.known()[self.rng.below(self.shard.known().len())];
+        let heard: Vec<(u8, Verdict)> = (0..)
+            .zip(known.heard)
+            .filter_map(|(sender, verdict)| Some((sender, verdict?)))
+            .collect();
+        let (sender, verdict) = self.rng.pick(&heard);
+        let contrary = self.rng.once_in(3);
+        let verdict = u8::from((verdict == Verdict::Yes) != contrary);
+        self.send_vote(sender, verdict, known.transaction);
+    }
+
+    /// A transaction that is none of this shard's, or a vote of a shard that
+    /// does not take part.
+    fn elsewhere(&mut self) {
+        let mut transaction = self.new_transaction();
+        let sender = self.rng.below(8) as u8;
+        let verdict = self.verdict();
+        match self.rng.below(3) {
+            0 => self.send_vote(sender, verdict, transaction),
+            choice => {
+                let away = |shard: &mut u8| *shard = (*shard + u8::from(*shard == self.here)) % 8;
+                let inputs = usize::from(transaction.input_count);
+                for input in &mut transaction.inputs[..inputs] {
+                    away(&mut input.token.shard);
+                }
+                let outputs = usize::from(transaction.output_count);
+                for output in &mut transaction.outputs[..outputs] {
+                    away(&mut output.shard);
+                }
+                if choice == 1 {
+                    self.register(transaction);
+                } else {
+                    self.vote(transaction);
+                }
+            }
+        }
+    }
+
+    /// A record for another shard, valid but for that.
+    fn other_receiver(&mut self) {
+        let transaction = self.old_transaction();
+        let receiver = self.rng.below(9) as u8;
+        let sender = self.rng.below(8) as u8;
+        let record = match self.rng.below(3) {
+            0 => Record::Register {
+                receiver,
+                transaction,
+            },
+            1 => Record::Vote {
+                receiver,
+                sender,
+                verdict: self.verdict(),
+                transaction,
+            },
+            _ => Record::Mint {
+                receiver,
+                index: 0,
+                owner: 1,
+                amount: 1,
+            },
+        };
+        self.send(record);
+    }
+
+    fn old_transaction(&mut self) -> Transaction {
+        if self.transactions.is_empty() {
+            return self.new_transaction();
+        }
+        self.transactions[self.rng.below(self.transactions.len())]
+    }
+
+    fn new_transaction(&mut self) -> Transaction {
+        let number = self.number();
+        let local = self.rng.below(8) < self.style.local;
+        let mut inputs = Vec::with_capacity(SLOTS);
+        for _ in 0..=self.rng.below(SLOTS) {
+            let input = if local || self.rng.once_in(2) {
+                self.input_here(number)
+            } else {
+                self.input_elsewhere()
+            };
+            add_input(&mut inputs, input);
+        }
+        let shards: [u8; 8] = std::array::from_fn(|part| {
+            if local || part < self.style.here {
+                self.here
+            } else {
+                self.rng.below(8) as u8
+            }
+        });
+        transfer(self.rng, number, &inputs, &shards)
+    }
+
+    fn number(&mut self) -> u32 {
+        if !self.transactions.is_empty() && self.rng.once_in(25) {
+            return self.old_transaction().number;
+        }
+        self.next = self.next.checked_add(1).unwrap_or(1);
+        self.next
+    }
+
+    /// A token here, mostly one that is available.
+    fn input_here(&mut self, number: u32) -> Input {
+        let choice = self.rng.below(20);
+        if choice == 0 || self.shard.tokens().is_empty() {
+            return self.missing_input(number);
+        }
+        let tokens = self.shard.tokens();
+        let mut token = tokens[self.rng.below(tokens.len())];
+        for _ in 0..4 {
+            if choice > 2 && token.pledge.is_some() {
+                token = tokens[self.rng.below(tokens.len())];
+            }
+        }
+        let mut input = Input {
+            token: TokenId {
+                shard: self.here,
+                creator: token.creator,
+                index: token.index,
+            },
+            owner: token.owner,
+            amount: token.amount,
+        };
+        self.tokens.push(input);
+        match choice {
+            1 => input.owner = owner(self.rng),
+            2 => input.amount = self.rng.between(1, self.style.amounts),
+            _ => {}
+        }
+        input
+    }
+
+    /// A token that may be gone, is still to be made, or never was.
+    fn missing_input(&mut self, number: u32) -> Input {
+        if !self.tokens.is_empty() && self.rng.once_in(2) {
+            return self.tokens[self.rng.below(self.tokens.len())];
+        }
+        let creator = match self.rng.below(3) {
+            0 => number,
+            1 => self.next,
+            _ => 0,
+        };
+        let index = self.rng.below(if creator == 0 { 128 } else { SLOTS }) as u8;
+        Input {
+            token: TokenId {
+                shard: self.here,
+                creator,
+                index,
+            },
+            owner: owner(self.rng),
+            amount: self.rng.between(1, self.style.amounts),
+        }
+    }
+
+    /// Any token of another shard: a lone shard cannot know.
+    fn input_elsewhere(&mut self) -> Input {
+        Input {
+            token: TokenId {
+                shard: (self.here + 1 + self.rng.below(7) as u8) % 8,
+                creator: self.rng.between(0, 3),
+                index: self.rng.below(SLOTS) as u8,
+            },
+            owner: owner(self.rng),
+            amount: self.rng.between(1, self.style.amounts),
+        }
+    }
+}

@@ -1,0 +1,323 @@
+//! Demand 3's clauses over random weeks and over every order of the small
+//! scenarios, on the reference alone; and wrong states, which the clauses have
+//! to shut out.
+
+use std::panic::{AssertUnwindSafe, catch_unwind};
+use std::thread;
+
+use reference::{
+    Answer, Cluster, Done, Input, Known, LIMITS, Output, Record, SHARDS, Token, TokenId,
+    Transaction, Verdict,
+};
+use weeks::{
+    Before, Clauses, Rng, SEED, Tally, View, cluster_week, label, receiver, scenarios, shard_week,
+    views,
+};
+
+const WEEKS: u64 = 3000;
+
+/// Printed if a clause does not hold.
+struct Case<'a> {
+    week: u64,
+    call: usize,
+    record: &'a Record,
+}
+
+impl Drop for Case<'_> {
+    fn drop(&mut self) {
+        if thread::panicking() {
+            let Case { week, call, record } = self;
+            eprintln!("seed {SEED:#x}, week {week}, call {call}: {record:?}");
+        }
+    }
+}
+
+#[test]
+fn random_weeks_keep_the_clauses() {
+    let mut tally = Tally::default();
+    for week in 0..WEEKS {
+        let records = cluster_week(&mut Rng::new(SEED, week));
+        let mut cluster = Cluster::new(LIMITS);
+        let mut clauses = Clauses::new();
+        let mut commits = 0;
+        for (call, record) in records.iter().enumerate() {
+            let _case = Case { week, call, record };
+            let shard = cluster.shards().get(usize::from(receiver(record)));
+            let before = shard.map(Before::of);
+            let answer = cluster.play(record);
+            tally.cluster_call(record, answer, before, &cluster);
+            clauses.step(record, answer.is_err(), &views(&cluster));
+            if call % 16 == 0 || call + 1 == records.len() {
+                tally.add(if clauses.serial() {
+                    "serial ledger, all decided"
+                } else {
+                    "serial ledger, some undecided"
+                });
+                assert!(clauses.commits() >= commits, "a commit is gone");
+                commits = clauses.commits();
+            }
+        }
+    }
+    tally.report(
+        "clauses over random weeks",
+        &[
+            "HEARD COMMIT",
+            "HEARD ABORT",
+            "AGAIN COMMIT",
+            "made token destroyed",
+            "vote overtaking another",
+            "two commits of one number",
+            "serial ledger, all decided",
+            "serial ledger, some undecided",
+        ],
+        100,
+    );
+}
+
+#[test]
+fn every_order_keeps_the_clauses() {
+    for scenario in scenarios() {
+        let mut tally = Tally::default();
+        let orders = scenario.orders(|order, records| {
+            let mut cluster = Cluster::new(LIMITS);
+            let mut clauses = Clauses::new();
+            let mut whole = false;
+            for (call, record) in records.iter().enumerate() {
+                let _case = Case {
+                    week: order,
+                    call,
+                    record,
+                };
+                let answer = cluster.play(record);
+                tally.add(label(answer));
+                clauses.step(record, answer.is_err(), &views(&cluster));
+                if !matches!(answer, Err(_) | Ok(Done::Again(_))) {
+                    whole = clauses.serial();
+                }
+            }
+            assert!(whole, "order {order} leaves a transaction undecided");
+        });
+        tally.report(&format!("{}, {orders} orders", scenario.name), &[], 0);
+    }
+}
+
+/// The reference keeps its promises about a lone shard's answers: decisions
+/// come with the last vote, and twelve is never met in a cluster.
+#[test]
+fn answers_that_cannot_be() {
+    let mut lone = Tally::default();
+    let mut cluster_tally = Tally::default();
+    for week in 0..500 {
+        let (number, records) = shard_week(&mut Rng::new(SEED, week));
+        let mut shard = reference::Shard::new(number, LIMITS);
+        for record in &records {
+            lone.add(label(shard.play(record)));
+        }
+        let mut cluster = Cluster::new(LIMITS);
+        for record in &cluster_week(&mut Rng::new(SEED, week)) {
+            cluster_tally.add(label(cluster.play(record)));
+        }
+    }
+    for never in ["YES ABORT", "NO COMMIT", "REFUSED 1", "REFUSED 2"] {
+        assert_eq!(lone.count(never) + cluster_tally.count(never), 0, "{never}");
+    }
+    assert_eq!(lone.count("REFUSED 16"), 0);
+    assert!(lone.count("REFUSED 12") > 0);
+    assert_eq!(cluster_tally.count("REFUSED 12"), 0);
+    assert!(cluster_tally.count("REFUSED 16") > 0);
+}
+
+// Wrong states. Each starts from what the reference does and changes one thing.
+
+/// Token (0, 0, 0) goes to shard 1.
+fn away(number: u32) -> Transaction {
+    let mut transaction = Transaction {
+        number,
+        input_count: 1,
+        output_count: 1,
+        ..Transaction::default()
+    };
+    transaction.inputs[0] = Input {
+        token: TokenId::default(),
+        owner: 10,
+        amount: 3,
+    };
+    transaction.outputs[0] = Output {
+        shard: 1,
+        owner: 10,
+        amount: 3,
+    };
+    transaction
+}
+
+fn calls(transaction: Transaction) -> Vec<Record> {
+    let vote = |sender, receiver| Record::Vote {
+        receiver,
+        sender,
+        verdict: 1,
+        transaction,
+    };
+    vec![
+        Record::Mint {
+            receiver: 0,
+            index: 0,
+            owner: 10,
+            amount: 3,
+        },
+        Record::Register {
+            receiver: 0,
+            transaction,
+        },
+        Record::Register {
+            receiver: 1,
+            transaction,
+        },
+        vote(0, 1),
+        vote(1, 0),
+        vote(1, 0),
+    ]
+}
+
+type Shards = [(Vec<Token>, Vec<Known>); SHARDS];
+
+/// Plays the calls, with `wrong` changing the shards seen after a call; the
+/// change lasts only if it is made after every later call too.
+fn caught(records: &[Record], wrong: impl Fn(usize, &mut Shards)) -> bool {
+    let follow = || {
+        let mut cluster = Cluster::new(LIMITS);
+        let mut clauses = Clauses::new();
+        for (call, record) in records.iter().enumerate() {
+            let answer: Answer = cluster.play(record);
+            let mut shards: Shards = cluster
+                .shards()
+                .each_ref()
+                .map(|shard| (shard.tokens().to_vec(), shard.known().to_vec()));
+            wrong(call, &mut shards);
+            let views = shards
+                .each_ref()
+                .map(|(tokens, known)| View { tokens, known });
+            clauses.step(record, answer.is_err(), &views);
+            clauses.serial();
+        }
+    };
+    catch_unwind(AssertUnwindSafe(follow)).is_err()
+}
+
+#[test]
+fn wrong_states_are_caught() {
+    let records = calls(away(5));
+    assert!(!caught(&records, |_, _| ()), "nothing is wrong");
+
+    let token = |creator, index| Token {
+        creator,
+        index,
+        owner: 10,
+        amount: 3,
+        pledge: None,
+    };
+    type Wrong<'a> = (&'a str, Box<dyn Fn(usize, &mut Shards)>);
+    let cases: Vec<Wrong> = vec![
+        (
+            "a commit moves no token",
+            Box::new(move |call, shards| {
+                if call >= 4 {
+                    shards[0].0 = vec![token(0, 0)];
+                }
+            }),
+        ),
+        (
+            "an output is not made",
+            Box::new(|call, shards| {
+                if call >= 3 {
+                    shards[1].0.clear();
+                }
+            }),
+        ),
+        (
+            "an output is made at both shards",
+            Box::new(move |call, shards| {
+                if call >= 4 {
+                    shards[0].0 = vec![token(5, 0)];
+                }
+            }),
+        ),
+        (
+            "an output has another index",
+            Box::new(|call, shards| {
+                if call >= 3 {
+                    shards[1].0[0].index = 1;
+                }
+            }),
+        ),
+        (
+            "a second shard changes",
+            Box::new(move |call, shards| {
+                if call >= 2 {
+                    shards[7].0 = vec![token(0, 0)];
+                }
+            }),
+        ),
+        (
+            "votes no although all is available",
+            Box::new(|call, shards| {
+                for (_, known) in &mut shards[..2] {
+                    for known in known.iter_mut().filter(|_| call >= 1) {
+                        known.heard[0] = known.heard[0].map(|_| Verdict::No);
+                    }
+                }
+            }),
+        ),
+        (
+            "decides otherwise at one shard",
+            Box::new(|call, shards| {
+                if call >= 4 {
+                    shards[0].1[0].heard[1] = Some(Verdict::No);
+                }
+            }),
+        ),
+        (
+            "a verdict is forgotten",
+            Box::new(|call, shards| {
+                if call >= 5 {
+                    shards[0].1[0].heard[1] = None;
+                }
+            }),
+        ),
+        (
+            "a decided transaction is forgotten",
+            Box::new(|call, shards| {
+                if call >= 4 {
+                    shards[0].1.clear();
+                }
+            }),
+        ),
+    ];
+    for (name, wrong) in cases {
+        assert!(caught(&records, wrong), "{name}");
+    }
+
+    // Commits although the input is not there: nothing was minted.
+    let unminted = &records[1..];
+    assert!(!caught(unminted, |_, _| ()), "nothing is wrong");
+    let yes = |_: usize, shards: &mut Shards| {
+        for (_, known) in &mut shards[..2] {
+            for known in known {
+                known.heard[0] = known.heard[0].map(|_| Verdict::Yes);
+            }
+        }
+    };
+    assert!(
+        caught(unminted, yes),
+        "commits without its input, known to both"
+    );
+
+    // A refused call changes something.
+    let again = [&records[..2], &records[1..2]].concat();
+    assert!(!caught(&again, |_, _| ()), "nothing is wrong");
+    let released = |call: usize, shards: &mut Shards| {
+        if call >= 2 {
+            shards[0].0[0].pledge = None;
+        }
+    };
+    assert!(caught(&again, released), "a refused call releases a pledge");
+}
