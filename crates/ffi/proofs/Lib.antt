@@ -2,3 +2,5 @@ pub mod Lists
 pub mod Runs
 pub mod Answers
 pub mod Sums
+pub mod Rounds
+pub mod Compact

@@ -1,6 +1,6 @@
 -- Runs of stores: the words of a transaction, each part stored right behind the one before it.
 use Prim.Native.Nat.{ℕ, _+_, _≤_}
-use mathlib.Core.Path.{_≡_, refl, sym, ap, _∙_}
+use mathlib.Core.Path.{_≡_, refl, ap, _∙_}
 use mathlib.Core.List.{List, [], _∷_, _++_}
 use lib.ListN.{length, drop, getD, length-append}
 use lib.Seq.{sets}
@@ -8,7 +8,6 @@ use Rattle.transaction.specs.declared.Input.{Input}
 use Rattle.transaction.specs.declared.Output.{Output}
 use Rattle.transaction.specs.declared.Transaction.{Transaction}
 use Rattle.transaction.specs.Tokens.{zeroInput, zeroOutput}
-use Rattle.reader.specs.declared.Record.{Record}
 use Rattle.reader.specs.declared.Record.the-variants.{Register, Vote, Mint}
 use Rattle.reader.specs.declared.Answer.{Answer}
 use Rattle.reader.specs.declared.Answer.the-variants.{Read, Refused}
@@ -80,7 +79,7 @@ transaction-run l at t e1 e2 e3 e4 e5 =
     (behind l at (oneWord (t .number)) (oneWord (t .«input_count»)) 1 refl e1 e2) e3) e4) e5
 
 -- the eight words before a reading's transaction
-length-words : (t : Transaction) → length (wordsOf t) ≡ 35
+pub length-words : (t : Transaction) → length (wordsOf t) ≡ 35
 unfolding inputWords outputWords inputsWords outputsWords wordsOf
 length-words t = refl
 

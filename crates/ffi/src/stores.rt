@@ -8,14 +8,14 @@ use transaction::Input;
 use transaction::Output;
 use transaction::Transaction;
 
-fn put_byte(out: &mut [u64], at: usize, v: u8)
+pub fn put_byte(out: &mut [u64], at: usize, v: u8)
     requires { ⌜ at < length (now out) ⌝ }
     ensures { λ _. ⌜ now (out .exit) ≡ sets (now (out .entry)) at (oneWord v) ⌝ }
 {
     out[at] = v as u64;
 }
 
-fn put_word(out: &mut [u64], at: usize, v: u32)
+pub fn put_word(out: &mut [u64], at: usize, v: u32)
     requires { ⌜ at < length (now out) ⌝ }
     ensures { λ _. ⌜ now (out .exit) ≡ sets (now (out .entry)) at (oneWord v) ⌝ }
 {

@@ -8,13 +8,13 @@ use transaction::Output;
 use transaction::TokenId;
 use transaction::Transaction;
 
-fn byte(w: u64) -> u8
+pub fn byte(w: u64) -> u8
     ensures { λ r. ⌜ r ≡ w % 256 ⌝ }
 {
     (w % 256) as u8
 }
 
-fn word(w: u64) -> u32
+pub fn word(w: u64) -> u32
     ensures { λ r. ⌜ r ≡ w % 4294967296 ⌝ }
 {
     (w % 4294967296) as u32
