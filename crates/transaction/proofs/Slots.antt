@@ -103,6 +103,22 @@ module _ {A : Type 0} (d : A) (x : List A) (long : length x ≡ 4) where
       rw (ep, eq, er, es)
       (sym (slots-of u z (getD x 0 d) (getD x 1 d) (getD x 2 d) (getD x 3 d) n) ∙ ap (slotsFit u z n) (four d x long))
 
+  -- slot by slot, up to the first that does not pass
+  module _ (u z : A → Bool) (n : ℕ) {p : Bool} (ep : p ≡ cond (ltb 0 n) (u (getD x 0 d)) (z (getD x 0 d))) where
+    pub slot-0 : p ≡ false → false ≡ slotsFit u z n x
+    slot-0 np = rw np at (slots-by u z n ep refl refl refl)
+
+    module _ (yp : p ≡ true) {q : Bool} (eq : q ≡ cond (ltb 1 n) (u (getD x 1 d)) (z (getD x 1 d))) where
+      pub slot-1 : q ≡ false → false ≡ slotsFit u z n x
+      slot-1 nq = rw (yp, nq) at (slots-by u z n ep eq refl refl)
+
+      module _ (yq : q ≡ true) {r : Bool} (er : r ≡ cond (ltb 2 n) (u (getD x 2 d)) (z (getD x 2 d))) where
+        pub slot-2 : r ≡ false → false ≡ slotsFit u z n x
+        slot-2 nr = rw (yp, yq, nr) at (slots-by u z n ep eq er refl)
+
+        pub slot-3 : r ≡ true → {s : Bool} → s ≡ cond (ltb 3 n) (u (getD x 3 d)) (z (getD x 3 d)) → s ≡ slotsFit u z n x
+        slot-3 yr es = rw (yp, yq, yr) at (slots-by u z n ep eq er es)
+
   -- some used slot passes
   pub any-by : (f : A → Bool) (n : ℕ) {p q r s : Bool}
       → p ≡ f (getD x 0 d) → q ≡ f (getD x 1 d) → r ≡ f (getD x 2 d) → s ≡ f (getD x 3 d)
@@ -120,6 +136,39 @@ module _ {A : Type 0} (d : A) (x : List A) (long : length x ≡ 4) where
       rw (eab, eac, ebc, eae, ebe, ece)
       (sym (repeats-of f (getD x 0 d) (getD x 1 d) (getD x 2 d) (getD x 3 d) n)
       ∙ ap (λ (l : List A). repeats f (take n l)) (four d x long))
+
+  -- slot by slot, up to the first that matches an earlier one
+  module _ (f : A → A → Bool) (n : ℕ) where
+    pub repeat-1 : n < 2 → false ≡ repeats f (take n x)
+    repeat-1 h =
+        rw (le-ltb 1 n (omega arith), le-ltb 2 n (omega arith), le-ltb 3 n (omega arith)) at (repeats-by f n refl refl refl refl refl refl)
+
+    module _ (two : 2 ≤ n) {ab : Bool} (eab : ab ≡ f (getD x 0 d) (getD x 1 d)) where
+      pub repeat-2 : ab ≡ true → true ≡ repeats f (take n x)
+      repeat-2 y = rw (lt-ltb 1 n (omega arith), y) at (repeats-by f n eab refl refl refl refl refl)
+
+      module _ (nab : ab ≡ false) where
+        pub repeat-3 : n < 3 → false ≡ repeats f (take n x)
+        repeat-3 h =
+            rw (lt-ltb 1 n (omega arith), nab, le-ltb 2 n (omega arith), le-ltb 3 n (omega arith))
+            at (repeats-by f n eab refl refl refl refl refl)
+
+        module _ (three : 3 ≤ n) {ac bc : Bool} (eac : ac ≡ f (getD x 0 d) (getD x 2 d)) (ebc : bc ≡ f (getD x 1 d) (getD x 2 d)) where
+          pub repeat-4 : ac || bc ≡ true → true ≡ repeats f (take n x)
+          repeat-4 y =
+              rw (lt-ltb 1 n (omega arith), nab, lt-ltb 2 n (omega arith), y) at (repeats-by f n eab eac ebc refl refl refl)
+
+          module _ (none : ac || bc ≡ false) where
+            pub repeat-5 : n < 4 → false ≡ repeats f (take n x)
+            repeat-5 h =
+                rw (lt-ltb 1 n (omega arith), nab, lt-ltb 2 n (omega arith), none, le-ltb 3 n (omega arith))
+                at (repeats-by f n eab eac ebc refl refl refl)
+
+            pub repeat-6 : 4 ≤ n → {ae be ce : Bool} → ae ≡ f (getD x 0 d) (getD x 3 d) → be ≡ f (getD x 1 d) (getD x 3 d)
+                → ce ≡ f (getD x 2 d) (getD x 3 d) → ae || be || ce ≡ repeats f (take n x)
+            repeat-6 h eae ebe ece =
+                rw (lt-ltb 1 n (omega arith), nab, lt-ltb 2 n (omega arith), none, lt-ltb 3 n (omega arith))
+                at (repeats-by f n eab eac ebc eae ebe ece)
 
   -- the sum over all four
   pub total-by : (f : A → ℕ) {p q r s : ℕ} → p ≡ f (getD x 0 d) → q ≡ f (getD x 1 d) → r ≡ f (getD x 2 d) → s ≡ f (getD x 3 d)

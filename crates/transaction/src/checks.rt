@@ -1,6 +1,7 @@
 // The first fitting of the checks 3, 4 and 5: one function for the reader, the writers, a shard and the cluster.
 ghost use mathlib.Core.Path.{_≡_};
 ghost use Prim.Native.Nat.{_<_};
+ghost use lib.Dec.{eqb};
 ghost use lib.ListN.{take};
 ghost use Rattle.transaction.specs.Lists.{repeats, total, firstOf};
 ghost use Rattle.transaction.specs.Tokens.{sameToken};
@@ -25,11 +26,24 @@ fn named_twice(count: u8, x: [Input; 4]) -> bool
 {
     let a = x[0];
     let b = x[1];
+    if count < 2 {
+        return false;
+    }
+    if same_name(a, b) {
+        return true;
+    }
     let c = x[2];
+    if count < 3 {
+        return false;
+    }
+    if same_name(a, c) | same_name(b, c) {
+        return true;
+    }
     let d = x[3];
-    ((1 < count) & same_name(a, b))
-        | ((2 < count) & (same_name(a, c) | same_name(b, c)))
-        | ((3 < count) & (same_name(a, d) | same_name(b, d) | same_name(c, d)))
+    if count < 4 {
+        return false;
+    }
+    same_name(a, d) | same_name(b, d) | same_name(c, d)
 }
 
 fn wide(amount: u32) -> u64
@@ -58,7 +72,15 @@ fn output_total(y: [Output; 4]) -> u64
     wide(a.amount) + wide(b.amount) + wide(c.amount) + wide(d.amount)
 }
 
-// All four slots are summed: check 3 has passed, so that unused ones add nothing.
+// Check 5. All four slots are summed: where check 3 has passed, unused ones add nothing.
+fn equal_sums(t: Transaction) -> bool
+    ensures { λ r. ⌜ r ≡ eqb (total inputAmount (t .inputs)) (total outputAmount (t .outputs)) ⌝ }
+{
+    let x = t.inputs;
+    let y = t.outputs;
+    input_total(x) == output_total(y)
+}
+
 pub fn cause(genesis: u8, t: Transaction) -> u8
     ensures { λ r. ⌜ r ≡ causeOf genesis t ⌝ }
 {
@@ -70,8 +92,7 @@ pub fn cause(genesis: u8, t: Transaction) -> u8
     if named_twice(count, x) {
         return 4;
     }
-    let y = t.outputs;
-    if input_total(x) != output_total(y) {
+    if !equal_sums(t) {
         return 5;
     }
     0

@@ -96,19 +96,31 @@ fn output_slot_fits(used: bool, y: Output) -> bool
 fn inputs_fit(genesis: u8, count: u8, x: [Input; 4]) -> bool
     ensures { λ r. ⌜ r ≡ slotsFit (inputFits genesis) (sameInput zeroInput) count x ⌝ }
 {
-    input_slot_fits(genesis, 0 < count, x[0])
-        & input_slot_fits(genesis, 1 < count, x[1])
-        & input_slot_fits(genesis, 2 < count, x[2])
-        & input_slot_fits(genesis, 3 < count, x[3])
+    if !input_slot_fits(genesis, 0 < count, x[0]) {
+        return false;
+    }
+    if !input_slot_fits(genesis, 1 < count, x[1]) {
+        return false;
+    }
+    if !input_slot_fits(genesis, 2 < count, x[2]) {
+        return false;
+    }
+    input_slot_fits(genesis, 3 < count, x[3])
 }
 
 fn outputs_fit(count: u8, y: [Output; 4]) -> bool
     ensures { λ r. ⌜ r ≡ slotsFit outputFits (sameOutput zeroOutput) count y ⌝ }
 {
-    output_slot_fits(0 < count, y[0])
-        & output_slot_fits(1 < count, y[1])
-        & output_slot_fits(2 < count, y[2])
-        & output_slot_fits(3 < count, y[3])
+    if !output_slot_fits(0 < count, y[0]) {
+        return false;
+    }
+    if !output_slot_fits(1 < count, y[1]) {
+        return false;
+    }
+    if !output_slot_fits(2 < count, y[2]) {
+        return false;
+    }
+    output_slot_fits(3 < count, y[3])
 }
 
 pub fn fields_fit(genesis: u8, t: Transaction) -> bool
@@ -116,15 +128,15 @@ pub fn fields_fit(genesis: u8, t: Transaction) -> bool
 {
     let i = t.input_count;
     let o = t.output_count;
+    if !((t.number != 0) & (1 <= i) & (i <= 4) & (1 <= o) & (o <= 4)) {
+        return false;
+    }
     let x = t.inputs;
+    if !inputs_fit(genesis, i, x) {
+        return false;
+    }
     let y = t.outputs;
-    (t.number != 0)
-        & (1 <= i)
-        & (i <= 4)
-        & (1 <= o)
-        & (o <= 4)
-        & inputs_fit(genesis, i, x)
-        & outputs_fit(o, y)
+    outputs_fit(o, y)
 }
 
 // Check 3 of a genesis token for a shard.

@@ -1,8 +1,9 @@
-use Rattle.transaction.proofs.Slots.{slots-by}
 use Rattle.transaction.specs.Checks.{outputFits}
 use Rattle.transaction.specs.Tokens.{sameOutput, zeroOutput}
 use lib.ListN.{length}
+use borrow.Author.Tests.{not-true, not-false}
 use mathlib.Core.Path.{_≡_}
+use Rattle.transaction.proofs.Slots.{slot-0, slot-1, slot-2, slot-3}
 use borrow.Author.Needs.{needs}
 use Rattle.transaction.proofs.fields.outputs_fit.Statement.{statement}
 use Rattle.transaction.proofs.fields.outputs_fit.Tie as tie
@@ -13,11 +14,23 @@ array-copy-out-output-slot-fits c = search needs
 output-slot-fits-requires : tie.Need-output-slot-fits-requires
 output-slot-fits-requires c κs = search needs
 
+returns : tie.Need-returns
+returns c =
+    let a = c .before .before .before .args in
+    let long : length (a .t2) ≡ 4 = search needs in
+    slot-0 zeroOutput (a .t2) long outputFits (sameOutput zeroOutput) (a .count) (c .before .output-slot-fits .ensures) (not-true _ (c .if1 .taken))
+
 array-copy-out-output-slot-fits-2 : tie.Need-array-copy-out-output-slot-fits-2
 array-copy-out-output-slot-fits-2 c = search needs
 
 output-slot-fits-requires-2 : tie.Need-output-slot-fits-requires-2
 output-slot-fits-requires-2 c κs = search needs
+
+returns-2 : tie.Need-returns-2
+returns-2 c =
+    let a = c .before .before .before .before .before .before .args in
+    let long : length (a .t2) ≡ 4 = search needs in
+    slot-1 zeroOutput (a .t2) long outputFits (sameOutput zeroOutput) (a .count) (c .before .before .before .before .output-slot-fits .ensures) (not-false _ (c .before .before .before .if1 .left)) (c .before .output-slot-fits2 .ensures) (not-true _ (c .if2 .taken))
 
 array-copy-out-output-slot-fits-3 : tie.Need-array-copy-out-output-slot-fits-3
 array-copy-out-output-slot-fits-3 c = search needs
@@ -25,16 +38,23 @@ array-copy-out-output-slot-fits-3 c = search needs
 output-slot-fits-requires-3 : tie.Need-output-slot-fits-requires-3
 output-slot-fits-requires-3 c κs = search needs
 
+returns-3 : tie.Need-returns-3
+returns-3 c =
+    let a = c .before .before .before .before .before .before .before .before .before .args in
+    let long : length (a .t2) ≡ 4 = search needs in
+    slot-2 zeroOutput (a .t2) long outputFits (sameOutput zeroOutput) (a .count) (c .before .before .before .before .before .before .before .output-slot-fits .ensures) (not-false _ (c .before .before .before .before .before .before .if1 .left)) (c .before .before .before .before .output-slot-fits2 .ensures) (not-false _ (c .before .before .before .if2 .left)) (c .before .output-slot-fits3 .ensures) (not-true _ (c .if3 .taken))
+
 array-copy-out-output-slot-fits-4 : tie.Need-array-copy-out-output-slot-fits-4
 array-copy-out-output-slot-fits-4 c = search needs
 
 output-slot-fits-requires-4 : tie.Need-output-slot-fits-requires-4
 output-slot-fits-requires-4 c κs = search needs
 
-returns : tie.Need-returns
-returns c =
-    let long : length (c .before .before .before .before .before .before .before .before .args .t2) ≡ 4 = search needs in
-    slots-by zeroOutput (c .before .before .before .before .before .before .before .before .args .t2) long outputFits (sameOutput zeroOutput) (c .before .before .before .before .before .before .before .before .args .count) (c .before .before .before .before .before .before .output-slot-fits .ensures) (c .before .before .before .before .output-slot-fits2 .ensures) (c .before .before .output-slot-fits3 .ensures) (c .output-slot-fits4 .ensures)
+returns-4 : tie.Need-returns-4
+returns-4 c =
+    let a = c .before .before .before .before .before .before .before .before .before .before .before .args in
+    let long : length (a .t2) ≡ 4 = search needs in
+    slot-3 zeroOutput (a .t2) long outputFits (sameOutput zeroOutput) (a .count) (c .before .before .before .before .before .before .before .before .before .output-slot-fits .ensures) (not-false _ (c .before .before .before .before .before .before .before .before .if1 .left)) (c .before .before .before .before .before .before .output-slot-fits2 .ensures) (not-false _ (c .before .before .before .before .before .if2 .left)) (c .before .before .before .output-slot-fits3 .ensures) (not-false _ (c .before .before .if3 .left)) (c .output-slot-fits4 .ensures)
 
 pub outputs-fit-spec : {M : Type 1} → statement M
 outputs-fit-spec =
@@ -42,10 +62,13 @@ outputs-fit-spec =
     (tie.spec
     array-copy-out-output-slot-fits
     output-slot-fits-requires
+    returns
     array-copy-out-output-slot-fits-2
     output-slot-fits-requires-2
+    returns-2
     array-copy-out-output-slot-fits-3
     output-slot-fits-requires-3
+    returns-3
     array-copy-out-output-slot-fits-4
     output-slot-fits-requires-4
-    returns)
+    returns-4)
