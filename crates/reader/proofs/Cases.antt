@@ -1,7 +1,8 @@
 -- The reader's definitions, case by case: what no whole record gives, and what each kind of whole record gives.
-use Prim.Native.Nat.{ℕ, _+_, _≤_, _<_}
+use Prim.Native.Nat.{ℕ, _+_, _-_, _≤_, _<_}
 use mathlib.Core.Path.{_≡_, refl, sym, ap, _∙_}
-use mathlib.Core.Bool.{Bool, true, false, cond}
+use mathlib.Core.Bool.{Bool, true, false, cond, not, _&&_}
+use mathlib.Core.Logic.{_⊎_, inl, inr, ⊎-elim}
 use mathlib.Core.List.{List, [], _∷_}
 use native.Mathlib.Omega.{arith}
 use borrow.Author.Tests.{eqb-true, eqb-false, leb-false, eq-eqb, ne-eqb, lt-leb, le-leb}
@@ -10,7 +11,7 @@ use lib.ListN.{length}
 use Rattle.transaction.specs.declared.Transaction.{Transaction}
 use Rattle.transaction.specs.Lists.{firstOf}
 use Rattle.transaction.specs.Tokens.{blankTransaction}
-use Rattle.transaction.specs.Checks.{house, registerChecks, voteChecks, mintChecks}
+use Rattle.transaction.specs.Checks.{house, shardFits, checks, causeOf, registerChecks, voteChecks, mintChecks}
 use Rattle.reader.specs.declared.Record.{Record}
 use Rattle.reader.specs.declared.Record.the-variants.{Register, Vote, Mint}
 use Rattle.reader.specs.declared.Answer.the-variants.{Read}
@@ -192,6 +193,56 @@ module _ (l : List ℕ) (h : headCause l ≡ 0) (k : kindOf l ≡ 3) where
 
   pub long-3 : 11 ≤ length l
   long-3 = omega (arith, whole l h, length-3 (kindOf l) k)
+
+-- kinds 1 and 2 together: the fields in front pass check 3, and the transaction is the last 98 bytes
+abbrev front : List ℕ → Bool
+front l =
+    cond (eqb (kindOf l) 1)
+    (shardFits (byteAt l 1))
+    (shardFits (byteAt l 1) && shardFits (byteAt l 2) && leb (byteAt l 3) 1)
+
+one-row : (a : Bool) (n : ℕ) → cond (not a) 3 n ≡ cond a n 3
+one-row true n = refl
+one-row false n = refl
+
+three-rows : (a b c : Bool) (n : ℕ) → cond (not a) 3 (cond (not b) 3 (cond (not c) 3 n)) ≡ cond (a && b && c) n 3
+three-rows true true c n = one-row c n
+three-rows true false c n = refl
+three-rows false b c n = refl
+
+pub first-kinds : (l : List ℕ) → headCause l ≡ 0 → (kindOf l ≡ 3 → ⊥) → (kindOf l ≡ 1) ⊎ (kindOf l ≡ 2)
+first-kinds l h n = by-kinds l h ((kindOf l ≡ 1) ⊎ (kindOf l ≡ 2)) (λ e. inl e) (λ e. inr e) (λ e. absurd (n e))
+
+module _ (l : List ℕ) (h : headCause l ≡ 0) (k : (kindOf l ≡ 1) ⊎ (kindOf l ≡ 2)) where
+  pub second-kind : (kindOf l ≡ 1 → ⊥) → kindOf l ≡ 2
+  second-kind n = ⊎-elim (λ e. absurd (n e)) (λ e. e) k
+
+  pub size-within : 98 + 2 ≤ bodyLength (kindOf l) + 1
+  size-within = ⊎-elim (λ e. omega (arith, length-1 (kindOf l) e)) (λ e. omega (arith, length-2 (kindOf l) e)) k
+
+  pub transaction-last : transactionAt l (bodyLength (kindOf l) + 1 - 98) ≡ transactionIn l
+  transaction-last =
+      ⊎-elim
+      (λ e. rw (length-1 (kindOf l) e) (sym (transaction-1 l h e)))
+      (λ e. rw (length-2 (kindOf l) e) (sym (transaction-2 l h e)))
+      k
+
+  cause-behind : readCause l ≡ cond (front l) (causeOf house (transactionIn l)) 3
+  unfolding causeOf
+  cause-behind =
+      ⊎-elim
+      (λ e. rw (cause-1 l h e, transaction-1 l h e, e) (one-row (shardFits (byteAt l 1)) (firstOf (checks house (transactionAt l 2)))))
+      (λ e.
+      rw (cause-2 l h e, transaction-2 l h e, e)
+      (three-rows (shardFits (byteAt l 1)) (shardFits (byteAt l 2)) (leb (byteAt l 3) 1) (firstOf (checks house (transactionAt l 4)))))
+      k
+
+  module _ {fit : Bool} (e : fit ≡ front l) where
+    pub front-fails : fit ≡ false → 3 ≡ readCause l
+    front-fails n = sym (cause-behind ∙ rw (sym e ∙ n) refl)
+
+    pub front-passes : fit ≡ true → {found : ℕ} {t : Transaction} → t ≡ transactionIn l → found ≡ causeOf house t → found ≡ readCause l
+    front-passes y et ef = ef ∙ ap (causeOf house) et ∙ sym (cause-behind ∙ rw (sym e ∙ y) refl)
 
 -- a whole reading keeps the reader's promise
 number-of : (n : ℕ) (fields : Record) → numberOf (answerOf n fields) ≡ n

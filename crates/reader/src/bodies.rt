@@ -1,11 +1,22 @@
-// Reading the body of each kind where the whole record is there.
+// What `read` is made of where the whole record is there.
 ghost use mathlib.Core.Path.{_≡_};
-ghost use Rattle.reader.specs.Reading.{kindOf, headCause, readingOf, refusal};
+ghost use mathlib.Core.Bool.{cond, _&&_};
+ghost use mathlib.Core.Logic.{_⊎_};
+ghost use lib.Dec.{eqb, leb};
+ghost use Rattle.transaction.specs.Checks.{house, shardFits, causeOf};
+ghost use Rattle.reader.specs.Layout.{byteAt};
+ghost use Rattle.reader.specs.Reading.{kindOf, headCause, recordAt, readingOf, refusal};
 use crate::Answer;
 use crate::Reading;
 use crate::Record;
-use crate::layout::transaction_at;
 use crate::layout::word_at;
+use transaction::Transaction;
+use transaction::checks::equal_sums;
+use transaction::checks::named_twice;
+use transaction::fields::counts_fit;
+use transaction::fields::outputs_fit;
+use transaction::fields::shard_fits;
+use transaction::fields::two_inputs_fit;
 
 // A refusal, with the bytes that the record takes.
 pub fn refused(cause: u8, taken: usize) -> Reading
@@ -18,44 +29,64 @@ pub fn refused(cause: u8, taken: usize) -> Reading
     }
 }
 
-pub fn read_register(bytes: &[u8]) -> Reading
-    requires { ⌜ (headCause (now bytes) ≡ 0) × (kindOf (now bytes) ≡ 1) ⌝ }
-    ensures { λ r. ⌜ r ≡ readingOf (now (bytes .entry)) ⌝ }
+// The fields in front of the transaction, of kind 1 or 2.
+pub fn front_fields(bytes: &[u8]) -> Record
+    requires { ⌜ (headCause (now bytes) ≡ 0) × ((kindOf (now bytes) ≡ 1) ⊎ (kindOf (now bytes) ≡ 2)) ⌝ }
+    ensures { λ r. ⌜ r ≡ recordAt (now (bytes .entry)) ⌝ }
 {
     let receiver = bytes[1];
-    let t = transaction_at(bytes, 2);
-    let cause = transaction::checks::register_cause(128, receiver, t);
-    if cause != 0 {
-        return refused(cause, 100);
+    if bytes[0] == 1 {
+        return Record::Register { receiver };
     }
-    Reading {
-        answer: Answer::Read(Record::Register { receiver }),
-        transaction: t,
-        taken: 100,
+    let sender = bytes[2];
+    let verdict = bytes[3];
+    Record::Vote {
+        receiver,
+        sender,
+        verdict,
     }
 }
 
-pub fn read_vote(bytes: &[u8]) -> Reading
-    requires { ⌜ (headCause (now bytes) ≡ 0) × (kindOf (now bytes) ≡ 2) ⌝ }
-    ensures { λ r. ⌜ r ≡ readingOf (now (bytes .entry)) ⌝ }
+// Check 3 of these fields.
+pub fn front_fits(bytes: &[u8]) -> bool
+    requires { ⌜ (headCause (now bytes) ≡ 0) × ((kindOf (now bytes) ≡ 1) ⊎ (kindOf (now bytes) ≡ 2)) ⌝ }
+    ensures { λ r. ⌜ r ≡ cond (eqb (kindOf (now (bytes .entry))) 1) (shardFits (byteAt (now (bytes .entry)) 1)) (shardFits (byteAt (now (bytes .entry)) 1) && shardFits (byteAt (now (bytes .entry)) 2) && leb (byteAt (now (bytes .entry)) 3) 1) ⌝ }
 {
     let receiver = bytes[1];
-    let sender = bytes[2];
-    let verdict = bytes[3];
-    let t = transaction_at(bytes, 4);
-    let cause = transaction::checks::vote_cause(128, receiver, sender, verdict, t);
-    if cause != 0 {
-        return refused(cause, 102);
+    if bytes[0] == 1 {
+        return shard_fits(receiver);
     }
-    Reading {
-        answer: Answer::Read(Record::Vote {
-            receiver,
-            sender,
-            verdict,
-        }),
-        transaction: t,
-        taken: 102,
+    shard_fits(receiver) & shard_fits(bytes[2]) & (bytes[3] <= 1)
+}
+
+// The checks 3, 4 and 5 of the transaction, made of the parts that `transaction::checks::cause` is made of.
+// `read` alone calls it, so that the compiler makes it part of `read`, and stores no field before all are checked.
+pub fn cause_of(t: Transaction) -> u8
+    ensures { λ r. ⌜ r ≡ causeOf house t ⌝ }
+{
+    let i = t.input_count;
+    let o = t.output_count;
+    if !counts_fit(t.number, i, o) {
+        return 3;
     }
+    let x = t.inputs;
+    if !two_inputs_fit(128, 0 < i, 1 < i, x[0], x[1]) {
+        return 3;
+    }
+    if !two_inputs_fit(128, 2 < i, 3 < i, x[2], x[3]) {
+        return 3;
+    }
+    let y = t.outputs;
+    if !outputs_fit(o, y) {
+        return 3;
+    }
+    if named_twice(i, x) {
+        return 4;
+    }
+    if !equal_sums(t) {
+        return 5;
+    }
+    0
 }
 
 pub fn read_mint(bytes: &[u8]) -> Reading

@@ -5,7 +5,7 @@ ghost use Rattle.reader.specs.Layout.{bodyLength};
 use transaction::Transaction;
 
 pub mod layout; // fields at their places
-pub mod bodies; // the three kinds of body
+pub mod bodies; // what `read` is made of
 
 // The fields of a record beside its transaction, as they stand in the bytes.
 pub enum Record {
@@ -71,7 +71,7 @@ fn head_cause(bytes: &[u8]) -> u8
     0
 }
 
-// The record at the front of the bytes.
+// The record at the front of the bytes. A transaction is the last 98 bytes of its record.
 pub fn read(bytes: &[u8]) -> Reading
     ensures { λ r. ⌜ Reads (now (bytes .entry)) r ⌝ }
 {
@@ -80,10 +80,23 @@ pub fn read(bytes: &[u8]) -> Reading
         return bodies::refused(cause, bytes.len());
     }
     let kind = bytes[0];
-    match kind {
-        1 => bodies::read_register(bytes),
-        2 => bodies::read_vote(bytes),
-        _ => bodies::read_mint(bytes),
+    if kind == 3 {
+        return bodies::read_mint(bytes);
+    }
+    let size = body_length(kind) + 1;
+    if !bodies::front_fits(bytes) {
+        return bodies::refused(3, size);
+    }
+    let t = layout::transaction_at(bytes, size - 98);
+    let found = bodies::cause_of(t);
+    if found != 0 {
+        return bodies::refused(found, size);
+    }
+    let fields = bodies::front_fields(bytes);
+    Reading {
+        answer: Answer::Read(fields),
+        transaction: t,
+        taken: size,
     }
 }
 

@@ -3,7 +3,6 @@ use Prim.Native.Nat.{ℕ}
 use mathlib.Core.Path.{_≡_, refl, sym, ap, _∙_}
 use mathlib.Core.Bool.{Bool, true, false, not, _&&_}
 use mathlib.Core.List.{List, _∷_}
-use borrow.Author.Tests.{not-true, not-false}
 use lib.Dec.{eqb}
 use lib.ListN.{take}
 use Rattle.transaction.specs.declared.Input.{Input}
@@ -35,18 +34,19 @@ module _ (genesis : ℕ) (t : Transaction) where
   counts h = and-left (countsFit t) fits-inputs (and-left (countsFit t && fits-inputs) fits-outputs h)
 
   -- check 3 from its parts, up to the first that fails
-  pub fit-counts : not (countsFit t) ≡ true → false ≡ fieldsFit genesis t
-  unfolding fieldsFit
-  fit-counts n = rw (not-true (countsFit t) n) refl
-
-  module _ (y : not (countsFit t) ≡ false) {ins : Bool} (e : ins ≡ fits-inputs) where
-    pub fit-inputs : not ins ≡ true → false ≡ fieldsFit genesis t
+  module _ {within : Bool} (ec : within ≡ countsFit t) where
+    pub fit-counts : within ≡ false → false ≡ fieldsFit genesis t
     unfolding fieldsFit
-    fit-inputs n = rw (not-false (countsFit t) y, sym e ∙ not-true ins n) refl
+    fit-counts n = rw (sym ec ∙ n) refl
 
-    pub fit-outputs : not ins ≡ false → {outs : Bool} → outs ≡ fits-outputs → outs ≡ fieldsFit genesis t
-    unfolding fieldsFit
-    fit-outputs yi f = rw (not-false (countsFit t) y, sym e ∙ not-false ins yi) f
+    module _ (y : within ≡ true) {ins : Bool} (e : ins ≡ fits-inputs) where
+      pub fit-inputs : ins ≡ false → false ≡ fieldsFit genesis t
+      unfolding fieldsFit
+      fit-inputs n = rw (sym ec ∙ y, sym e ∙ n) refl
+
+      pub fit-outputs : ins ≡ true → {outs : Bool} → outs ≡ fits-outputs → outs ≡ fieldsFit genesis t
+      unfolding fieldsFit
+      fit-outputs yi f = rw (sym ec ∙ y, sym e ∙ yi) f
 
   -- where check 3 passes, the sums over all four slots are those over the used ones
   input-sum : fieldsFit genesis t ≡ true → total inputAmount (usedInputs t) ≡ total inputAmount (t .inputs)

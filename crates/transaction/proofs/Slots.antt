@@ -92,6 +92,10 @@ module _ {A : Type 0} (f : A → A → Bool) (a b c e : A) where
       rw (above n 1 (omega arith), above n 2 (omega arith), above n 3 (omega arith))
       (rw (take-nil {A = A} n) (six (f a b) (f a c) (f a e) (f b c) (f b e) (f c e)))
 
+-- the test of the slot at a place
+abbrev slot : {A : Type 0} → A → List A → (A → Bool) → (A → Bool) → ℕ → ℕ → Bool
+slot d x u z n place = cond (ltb place n) (u (getD x place d)) (z (getD x place d))
+
 -- The same of a list x of length 4, from what was found of each of its elements.
 module _ {A : Type 0} (d : A) (x : List A) (long : length x ≡ 4) where
   -- used slots pass the one test, unused ones the other
@@ -102,6 +106,19 @@ module _ {A : Type 0} (d : A) (x : List A) (long : length x ≡ 4) where
   slots-by u z n ep eq er es =
       rw (ep, eq, er, es)
       (sym (slots-of u z (getD x 0 d) (getD x 1 d) (getD x 2 d) (getD x 3 d) n) ∙ ap (slotsFit u z n) (four d x long))
+
+  -- two slots at a time, up to the first two that do not pass
+  module _ (u z : A → Bool) (n : ℕ) {p : Bool} (ep : p ≡ (slot d x u z n 0 && slot d x u z n 1)) where
+    pairs-by : {q : Bool} → q ≡ (slot d x u z n 2 && slot d x u z n 3) → p && q ≡ slotsFit u z n x
+    pairs-by eq =
+        rw (ep, eq)
+        (sym (and-assoc (slot d x u z n 0 && slot d x u z n 1) (slot d x u z n 2) (slot d x u z n 3)) ∙ slots-by u z n refl refl refl refl)
+
+    pub pair-0 : p ≡ false → false ≡ slotsFit u z n x
+    pair-0 np = rw np at (pairs-by refl)
+
+    pub pair-1 : p ≡ true → {q : Bool} → q ≡ (slot d x u z n 2 && slot d x u z n 3) → q ≡ slotsFit u z n x
+    pair-1 yp eq = rw yp at (pairs-by eq)
 
   -- slot by slot, up to the first that does not pass
   module _ (u z : A → Bool) (n : ℕ) {p : Bool} (ep : p ≡ cond (ltb 0 n) (u (getD x 0 d)) (z (getD x 0 d))) where

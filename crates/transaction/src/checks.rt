@@ -21,7 +21,7 @@ fn same_name(a: Input, b: Input) -> bool
 }
 
 // Check 4: one token is named twice among the used inputs.
-fn named_twice(count: u8, x: [Input; 4]) -> bool
+pub fn named_twice(count: u8, x: [Input; 4]) -> bool
     ensures { λ r. ⌜ r ≡ repeats sameName (take count x) ⌝ }
 {
     let a = x[0];
@@ -73,7 +73,7 @@ fn output_total(y: [Output; 4]) -> u64
 }
 
 // Check 5. All four slots are summed: where check 3 has passed, unused ones add nothing.
-fn equal_sums(t: Transaction) -> bool
+pub fn equal_sums(t: Transaction) -> bool
     ensures { λ r. ⌜ r ≡ eqb (total inputAmount (t .inputs)) (total outputAmount (t .outputs)) ⌝ }
 {
     let x = t.inputs;

@@ -10,7 +10,10 @@ use crate::Transaction;
 pub fn same_token(a: TokenId, b: TokenId) -> bool
     ensures { λ r. ⌜ r ≡ sameToken a b ⌝ }
 {
-    (a.shard == b.shard) & (a.creator == b.creator) & (a.index == b.index)
+    if a.creator != b.creator {
+        return false;
+    }
+    (a.shard == b.shard) & (a.index == b.index)
 }
 
 pub fn same_input(a: Input, b: Input) -> bool

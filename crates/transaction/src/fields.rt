@@ -1,6 +1,7 @@
 // Check 3: each field in its range, and slots beyond the count all zero.
 ghost use mathlib.Core.Path.{_≡_};
-ghost use mathlib.Core.Bool.{cond};
+ghost use mathlib.Core.Bool.{cond, not, _&&_};
+ghost use lib.Dec.{eqb, leb};
 ghost use Rattle.transaction.specs.Lists.{slotsFit};
 ghost use Rattle.transaction.specs.Tokens.{sameInput, sameOutput, zeroInput, zeroOutput};
 ghost use Rattle.transaction.specs.Checks.{shardFits, indexFits, valueFits, inputFits, outputFits, fieldsFit, mintFits};
@@ -93,22 +94,17 @@ fn output_slot_fits(used: bool, y: Output) -> bool
     }
 }
 
-fn inputs_fit(genesis: u8, count: u8, x: [Input; 4]) -> bool
-    ensures { λ r. ⌜ r ≡ slotsFit (inputFits genesis) (sameInput zeroInput) count x ⌝ }
+// Two slots of the inputs, one behind the other.
+pub fn two_inputs_fit(genesis: u8, first: bool, second: bool, x: Input, y: Input) -> bool
+    ensures { λ r. ⌜ r ≡ (cond first (inputFits genesis x) (sameInput zeroInput x) && cond second (inputFits genesis y) (sameInput zeroInput y)) ⌝ }
 {
-    if !input_slot_fits(genesis, 0 < count, x[0]) {
+    if !input_slot_fits(genesis, first, x) {
         return false;
     }
-    if !input_slot_fits(genesis, 1 < count, x[1]) {
-        return false;
-    }
-    if !input_slot_fits(genesis, 2 < count, x[2]) {
-        return false;
-    }
-    input_slot_fits(genesis, 3 < count, x[3])
+    input_slot_fits(genesis, second, y)
 }
 
-fn outputs_fit(count: u8, y: [Output; 4]) -> bool
+pub fn outputs_fit(count: u8, y: [Output; 4]) -> bool
     ensures { λ r. ⌜ r ≡ slotsFit outputFits (sameOutput zeroOutput) count y ⌝ }
 {
     if !output_slot_fits(0 < count, y[0]) {
@@ -123,16 +119,25 @@ fn outputs_fit(count: u8, y: [Output; 4]) -> bool
     output_slot_fits(3 < count, y[3])
 }
 
+pub fn counts_fit(number: u32, inputs: u8, outputs: u8) -> bool
+    ensures { λ r. ⌜ r ≡ (not (eqb number 0) && leb 1 inputs && leb inputs 4 && leb 1 outputs && leb outputs 4) ⌝ }
+{
+    (number != 0) & (1 <= inputs) & (inputs <= 4) & (1 <= outputs) & (outputs <= 4)
+}
+
 pub fn fields_fit(genesis: u8, t: Transaction) -> bool
     ensures { λ r. ⌜ r ≡ fieldsFit genesis t ⌝ }
 {
     let i = t.input_count;
     let o = t.output_count;
-    if !((t.number != 0) & (1 <= i) & (i <= 4) & (1 <= o) & (o <= 4)) {
+    if !counts_fit(t.number, i, o) {
         return false;
     }
     let x = t.inputs;
-    if !inputs_fit(genesis, i, x) {
+    if !two_inputs_fit(genesis, 0 < i, 1 < i, x[0], x[1]) {
+        return false;
+    }
+    if !two_inputs_fit(genesis, 2 < i, 3 < i, x[2], x[3]) {
         return false;
     }
     let y = t.outputs;

@@ -1,7 +1,9 @@
+use Rattle.reader.proofs.Cases.{whole, first-kinds, size-within, transaction-last, taken-record, front-fails, front-passes, reading-none, reading-good, reading-bad, reads}
+use Rattle.reader.specs.Layout.{transactionAt}
+use Rattle.reader.specs.Reading.{headCause, transactionIn, refusal}
+use Prim.Native.Nat.{ℕ, _+_, _-_}
 use lib.ListN.{length}
-use Prim.Native.Nat.{ℕ}
-use Rattle.reader.specs.Reading.{kindOf, headCause, refusal}
-use Rattle.reader.proofs.Cases.{whole, known, third-kind, reading-none, reads}
+use borrow.Author.Tests.{not-true, not-false}
 use native.Mathlib.Omega.{arith}
 use mathlib.Core.Path.{_≡_, sym, ap, _∙_}
 use denote.Ref.{now}
@@ -27,26 +29,78 @@ shared-slice-read-kind c =
     let h : headCause l ≡ 0 = sym (c .before .before .head-cause .ensures) ∙ c .before .if1 .left in
     omega (arith, whole l h)
 
-read-register-requires : tie.Need-read-register-requires
-read-register-requires c κs = search needs
-
-read-vote-requires : tie.Need-read-vote-requires
-read-vote-requires c κs = search needs
-
 read-mint-requires : tie.Need-read-mint-requires
-read-mint-requires c κs =
-    let l = now (c .before .before .before .before .before .args .bytes) in
-    let h : headCause l ≡ 0 = sym (c .before .before .before .head-cause .ensures) ∙ c .before .before .if1 .left in
-    (h, third-kind (kindOf l) (c .match .rest .0 .1) (c .match .rest .1) (known l h))
+read-mint-requires c κs = search needs
 
 returns-2 : tie.Need-returns-2
-returns-2 c = reads (now (c .before .before .before .before .before .before .args .bytes)) (c .read-register .ensures)
+returns-2 c = reads (now (c .before .before .before .before .before .before .args .bytes)) (c .read-mint .ensures)
+
+body-length-requires : tie.Need-body-length-requires
+body-length-requires c κs = search needs
+
+add-size : tie.Need-add-size
+add-size c =
+    let l = now (c .before .before .before .before .before .before .args .bytes) in
+    let h : headCause l ≡ 0 = sym (c .before .before .before .before .head-cause .ensures) ∙ c .before .before .before .if1 .left in
+    omega (arith, c .body-length .ensures, whole l h)
+
+front-fits-requires : tie.Need-front-fits-requires
+front-fits-requires c κs =
+    let l = now (c .before .before .before .before .before .before .args .bytes) in
+    let h : headCause l ≡ 0 = sym (c .before .before .before .before .head-cause .ensures) ∙ c .before .before .before .if1 .left in
+    (h, first-kinds l h (c .before .if2 .left))
+
+refused-requires-2 : tie.Need-refused-requires-2
+refused-requires-2 c κs = search needs
 
 returns-3 : tie.Need-returns-3
-returns-3 c = reads (now (c .before .before .before .before .before .before .args .bytes)) (c .read-vote .ensures)
+returns-3 c =
+    let l = now (c .before .before .before .before .before .before .before .before .before .args .bytes) in
+    let h : headCause l ≡ 0 = sym (c .before .before .before .before .before .before .before .head-cause .ensures) ∙ c .before .before .before .before .before .before .if1 .left in
+    let k = first-kinds l h (c .before .before .before .before .if2 .left) in
+    reads l (c .refused2 .ensures ∙ reading-bad l h (front-fails l h k (c .before .before .front-fits .ensures) (not-true _ (c .before .if3 .taken))) (λ z. omega arith) (ap (λ (n : ℕ). n + 1) (c .before .before .before .body-length .ensures) ∙ sym (taken-record l h)))
+
+sub-transaction-at : tie.Need-sub-transaction-at
+sub-transaction-at c =
+    let l = now (c .before .before .before .before .before .before .before .before .args .bytes) in
+    let h : headCause l ≡ 0 = sym (c .before .before .before .before .before .before .head-cause .ensures) ∙ c .before .before .before .before .before .if1 .left in
+    let k = first-kinds l h (c .before .before .before .if2 .left) in
+    omega (arith, c .before .before .body-length .ensures, size-within l h k)
+
+transaction-at-requires : tie.Need-transaction-at-requires
+transaction-at-requires c κs =
+    let l = now (c .before .before .before .before .before .before .before .before .args .bytes) in
+    let h : headCause l ≡ 0 = sym (c .before .before .before .before .before .before .head-cause .ensures) ∙ c .before .before .before .before .before .if1 .left in
+    let k = first-kinds l h (c .before .before .before .if2 .left) in
+    omega (arith, c .before .before .body-length .ensures, size-within l h k, whole l h)
+
+cause-of-requires : tie.Need-cause-of-requires
+cause-of-requires c κs = search needs
+
+refused-requires-3 : tie.Need-refused-requires-3
+refused-requires-3 c κs = search needs
 
 returns-4 : tie.Need-returns-4
-returns-4 c = reads (now (c .before .before .before .before .before .before .args .bytes)) (c .read-mint .ensures)
+returns-4 c =
+    let l = now (c .before .before .before .before .before .before .before .before .before .before .before .before .args .bytes) in
+    let h : headCause l ≡ 0 = sym (c .before .before .before .before .before .before .before .before .before .before .head-cause .ensures) ∙ c .before .before .before .before .before .before .before .before .before .if1 .left in
+    let k = first-kinds l h (c .before .before .before .before .before .before .before .if2 .left) in
+    let there : c .before .before .before .transaction-at .result ≡ transactionIn l = c .before .before .before .transaction-at .ensures ∙ ap (λ (n : ℕ). transactionAt l (n + 1 - 98)) (c .before .before .before .before .before .before .body-length .ensures) ∙ transaction-last l h k in
+    reads l (c .refused3 .ensures ∙ reading-bad l h (front-passes l h k (c .before .before .before .before .before .front-fits .ensures) (not-false _ (c .before .before .before .before .if3 .left)) there (c .before .before .cause-of .ensures)) (c .before .if4 .taken) (ap (λ (n : ℕ). n + 1) (c .before .before .before .before .before .before .body-length .ensures) ∙ sym (taken-record l h)))
+
+front-fields-requires : tie.Need-front-fields-requires
+front-fields-requires c κs =
+    let l = now (c .before .before .before .before .before .before .before .before .before .before .before .args .bytes) in
+    let h : headCause l ≡ 0 = sym (c .before .before .before .before .before .before .before .before .before .head-cause .ensures) ∙ c .before .before .before .before .before .before .before .before .if1 .left in
+    (h, first-kinds l h (c .before .before .before .before .before .before .if2 .left))
+
+returns-5 : tie.Need-returns-5
+returns-5 c =
+    let l = now (c .before .before .before .before .before .before .before .before .before .before .before .before .args .bytes) in
+    let h : headCause l ≡ 0 = sym (c .before .before .before .before .before .before .before .before .before .before .head-cause .ensures) ∙ c .before .before .before .before .before .before .before .before .before .if1 .left in
+    let k = first-kinds l h (c .before .before .before .before .before .before .before .if2 .left) in
+    let there : c .before .before .before .transaction-at .result ≡ transactionIn l = c .before .before .before .transaction-at .ensures ∙ ap (λ (n : ℕ). transactionAt l (n + 1 - 98)) (c .before .before .before .before .before .before .body-length .ensures) ∙ transaction-last l h k in
+    reads l (reading-good l h (front-passes l h k (c .before .before .before .before .before .front-fits .ensures) (not-false _ (c .before .before .before .before .if3 .left)) there (c .before .before .cause-of .ensures)) (c .before .if4 .left) (c .front-fields .ensures) there (ap (λ (n : ℕ). n + 1) (c .before .before .before .before .before .before .body-length .ensures) ∙ sym (taken-record l h)))
 
 pub read-spec : {M : Type 1} → statement M
 read-spec =
@@ -56,9 +110,17 @@ read-spec =
     refused-requires
     returns
     shared-slice-read-kind
-    read-register-requires
-    read-vote-requires
     read-mint-requires
     returns-2
+    body-length-requires
+    add-size
+    front-fits-requires
+    refused-requires-2
     returns-3
-    returns-4)
+    sub-transaction-at
+    transaction-at-requires
+    cause-of-requires
+    refused-requires-3
+    returns-4
+    front-fields-requires
+    returns-5)
