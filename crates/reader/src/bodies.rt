@@ -11,8 +11,9 @@ use crate::Reading;
 use crate::Record;
 use crate::layout::word_at;
 use transaction::Transaction;
-use transaction::checks::equal_sums;
+use transaction::checks::input_total;
 use transaction::checks::named_twice;
+use transaction::checks::output_total;
 use transaction::fields::counts_fit;
 use transaction::fields::outputs_fit;
 use transaction::fields::shard_fits;
@@ -83,7 +84,7 @@ pub fn cause_of(t: Transaction) -> u8
     if named_twice(i, x) {
         return 4;
     }
-    if !equal_sums(t) {
+    if input_total(x) != output_total(y) {
         return 5;
     }
     0

@@ -3,6 +3,7 @@ use Prim.Native.Nat.{ℕ}
 use mathlib.Core.Path.{_≡_, refl, sym, ap, _∙_}
 use mathlib.Core.Bool.{Bool, true, false, not, _&&_}
 use mathlib.Core.List.{List, _∷_}
+use borrow.Author.Tests.{eq-eqb, ne-eqb}
 use lib.Dec.{eqb}
 use lib.ListN.{take}
 use Rattle.transaction.specs.declared.Input.{Input}
@@ -70,23 +71,23 @@ module _ (genesis : ℕ) (t : Transaction) where
   unfolding causeOf namedTwice
   cause-4 e y f w = rw (sym e ∙ y, sym f ∙ w) refl
 
-  -- the sums over all slots are those of the used ones
-  sums : {fit equal : Bool} → fit ≡ fieldsFit genesis t → fit ≡ true
-      → equal ≡ eqb (total inputAmount (t .inputs)) (total outputAmount (t .outputs)) → balanced t ≡ equal
+  -- the sums found are those of the used slots
+  sums : {fit : Bool} {m n : ℕ} → fit ≡ fieldsFit genesis t → fit ≡ true → m ≡ total inputAmount (t .inputs)
+      → n ≡ total outputAmount (t .outputs) → balanced t ≡ eqb m n
   unfolding balanced
-  sums e y q = rw (input-sum (sym e ∙ y), output-sum (sym e ∙ y)) (sym q)
+  sums e y em en = rw (input-sum (sym e ∙ y), output-sum (sym e ∙ y), em, en) refl
 
-  pub cause-5 : {fit twice equal : Bool} → fit ≡ fieldsFit genesis t → fit ≡ true
+  pub cause-5 : {fit twice : Bool} {m n : ℕ} → fit ≡ fieldsFit genesis t → fit ≡ true
       → twice ≡ repeats sameName (take (t .«input_count») (t .inputs)) → twice ≡ false
-      → equal ≡ eqb (total inputAmount (t .inputs)) (total outputAmount (t .outputs)) → equal ≡ false → 5 ≡ causeOf genesis t
+      → m ≡ total inputAmount (t .inputs) → n ≡ total outputAmount (t .outputs) → (m ≡ n → ⊥) → 5 ≡ causeOf genesis t
   unfolding causeOf namedTwice
-  cause-5 e y f w q n = rw (sym e ∙ y, sym f ∙ w, sums e y q ∙ n) refl
+  cause-5 {fit} {twice} {m} {n} e y f w em en q = rw (sym e ∙ y, sym f ∙ w, sums e y em en, ne-eqb m n q) refl
 
-  pub cause-0 : {fit twice equal : Bool} → fit ≡ fieldsFit genesis t → fit ≡ true
+  pub cause-0 : {fit twice : Bool} {m n : ℕ} → fit ≡ fieldsFit genesis t → fit ≡ true
       → twice ≡ repeats sameName (take (t .«input_count») (t .inputs)) → twice ≡ false
-      → equal ≡ eqb (total inputAmount (t .inputs)) (total outputAmount (t .outputs)) → equal ≡ true → 0 ≡ causeOf genesis t
+      → m ≡ total inputAmount (t .inputs) → n ≡ total outputAmount (t .outputs) → m ≡ n → 0 ≡ causeOf genesis t
   unfolding causeOf namedTwice
-  cause-0 e y f w q n = rw (sym e ∙ y, sym f ∙ w, sums e y q ∙ n) refl
+  cause-0 {fit} {twice} {m} {n} e y f w em en q = rw (sym e ∙ y, sym f ∙ w, sums e y em en, eq-eqb m n q) refl
 
 -- a first check that fails, and one that passes
 pub first-fails : {fit : Bool} (test : Bool) (number : ℕ) (others : List (Bool × ℕ)) → fit ≡ test → fit ≡ false

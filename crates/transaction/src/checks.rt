@@ -1,7 +1,6 @@
 // The first fitting of the checks 3, 4 and 5: one function for the reader, the writers, a shard and the cluster.
 ghost use mathlib.Core.Path.{_≡_};
 ghost use Prim.Native.Nat.{_<_};
-ghost use lib.Dec.{eqb};
 ghost use lib.ListN.{take};
 ghost use Rattle.transaction.specs.Lists.{repeats, total, firstOf};
 ghost use Rattle.transaction.specs.Tokens.{sameToken};
@@ -52,7 +51,7 @@ fn wide(amount: u32) -> u64
     amount as u64
 }
 
-fn input_total(x: [Input; 4]) -> u64
+pub fn input_total(x: [Input; 4]) -> u64
     ensures { λ r. ⌜ r ≡ total inputAmount x ⌝ }
 {
     let a = x[0];
@@ -62,7 +61,7 @@ fn input_total(x: [Input; 4]) -> u64
     wide(a.amount) + wide(b.amount) + wide(c.amount) + wide(d.amount)
 }
 
-fn output_total(y: [Output; 4]) -> u64
+pub fn output_total(y: [Output; 4]) -> u64
     ensures { λ r. ⌜ r ≡ total outputAmount y ⌝ }
 {
     let a = y[0];
@@ -72,15 +71,7 @@ fn output_total(y: [Output; 4]) -> u64
     wide(a.amount) + wide(b.amount) + wide(c.amount) + wide(d.amount)
 }
 
-// Check 5. All four slots are summed: where check 3 has passed, unused ones add nothing.
-pub fn equal_sums(t: Transaction) -> bool
-    ensures { λ r. ⌜ r ≡ eqb (total inputAmount (t .inputs)) (total outputAmount (t .outputs)) ⌝ }
-{
-    let x = t.inputs;
-    let y = t.outputs;
-    input_total(x) == output_total(y)
-}
-
+// All four slots are summed: check 3 has passed, so that unused ones add nothing.
 pub fn cause(genesis: u8, t: Transaction) -> u8
     ensures { λ r. ⌜ r ≡ causeOf genesis t ⌝ }
 {
@@ -92,7 +83,8 @@ pub fn cause(genesis: u8, t: Transaction) -> u8
     if named_twice(count, x) {
         return 4;
     }
-    if !equal_sums(t) {
+    let y = t.outputs;
+    if input_total(x) != output_total(y) {
         return 5;
     }
     0

@@ -94,7 +94,7 @@ fn output_slot_fits(used: bool, y: Output) -> bool
     }
 }
 
-// Two slots of the inputs, one behind the other.
+// Two slots of the inputs, one behind the other: few enough steps for the compiler to make them part of each caller.
 pub fn two_inputs_fit(genesis: u8, first: bool, second: bool, x: Input, y: Input) -> bool
     ensures { λ r. ⌜ r ≡ (cond first (inputFits genesis x) (sameInput zeroInput x) && cond second (inputFits genesis y) (sameInput zeroInput y)) ⌝ }
 {
@@ -119,6 +119,7 @@ pub fn outputs_fit(count: u8, y: [Output; 4]) -> bool
     output_slot_fits(3 < count, y[3])
 }
 
+// A number that is not 0, 1 to 4 inputs and 1 to 4 outputs.
 pub fn counts_fit(number: u32, inputs: u8, outputs: u8) -> bool
     ensures { λ r. ⌜ r ≡ (not (eqb number 0) && leb 1 inputs && leb inputs 4 && leb 1 outputs && leb outputs 4) ⌝ }
 {

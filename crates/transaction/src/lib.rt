@@ -7,11 +7,10 @@ pub mod checks; // checks 3, 4 and 5 in their order
 pub mod parts; // the used slots, and the shards that take part
 
 // A token's id (document 01: a token's name): the shard (pantry) that holds it, the number of the
-// transaction that made it (0 for a genesis token), and its index (position). The widest field stands
-// first: a transaction is then 120 bytes, which are moved at once.
+// transaction that made it (0 for a genesis token), and its index (position).
 pub struct TokenId {
-    pub creator: u32,
     pub shard: u8,
+    pub creator: u32,
     pub index: u8,
 }
 

@@ -66,20 +66,23 @@ returns-5 c =
     let t = c .before .before .before .before .before .before .before .before .before .before .before .before .before .before .before .before .args .t in
     cause-4 house t (fit-outputs house t (c .before .before .before .before .before .before .before .before .before .before .before .before .before .before .before .counts-fit .ensures) (not-false _ (c .before .before .before .before .before .before .before .before .before .before .before .before .before .before .if1 .left)) (pair-1 zeroInput (t .inputs) (long-of t (c .before .before .before .before .before .before .before .before .before .before .before .before .before .before .before .before .good .0) .inputs) (inputFits house) (sameInput zeroInput) (t .«input_count») (c .before .before .before .before .before .before .before .before .before .before .two-inputs-fit .ensures) (not-false _ (c .before .before .before .before .before .before .before .before .before .if2 .left)) (c .before .before .before .before .before .before .two-inputs-fit2 .ensures)) (not-false _ (c .before .before .before .before .before .if3 .left)) (c .before .before .before .outputs-fit .ensures)) (not-false _ (c .before .before .if4 .left)) (c .before .named-twice .ensures) (c .if5 .taken)
 
-equal-sums-requires : tie.Need-equal-sums-requires
-equal-sums-requires c κs = search needs
+input-total-requires : tie.Need-input-total-requires
+input-total-requires c κs = search needs
+
+output-total-requires : tie.Need-output-total-requires
+output-total-requires c κs = search needs
 
 returns-6 : tie.Need-returns-6
 unfolding countsFit
 returns-6 c =
-    let t = c .before .before .before .before .before .before .before .before .before .before .before .before .before .before .before .before .before .before .args .t in
-    cause-5 house t (fit-outputs house t (c .before .before .before .before .before .before .before .before .before .before .before .before .before .before .before .before .before .counts-fit .ensures) (not-false _ (c .before .before .before .before .before .before .before .before .before .before .before .before .before .before .before .before .if1 .left)) (pair-1 zeroInput (t .inputs) (long-of t (c .before .before .before .before .before .before .before .before .before .before .before .before .before .before .before .before .before .before .good .0) .inputs) (inputFits house) (sameInput zeroInput) (t .«input_count») (c .before .before .before .before .before .before .before .before .before .before .before .before .two-inputs-fit .ensures) (not-false _ (c .before .before .before .before .before .before .before .before .before .before .before .if2 .left)) (c .before .before .before .before .before .before .before .before .two-inputs-fit2 .ensures)) (not-false _ (c .before .before .before .before .before .before .before .if3 .left)) (c .before .before .before .before .before .outputs-fit .ensures)) (not-false _ (c .before .before .before .before .if4 .left)) (c .before .before .before .named-twice .ensures) (c .before .before .if5 .left) (c .before .equal-sums .ensures) (not-true _ (c .if6 .taken))
+    let t = c .before .before .before .before .before .before .before .before .before .before .before .before .before .before .before .before .before .before .before .args .t in
+    cause-5 house t (fit-outputs house t (c .before .before .before .before .before .before .before .before .before .before .before .before .before .before .before .before .before .before .counts-fit .ensures) (not-false _ (c .before .before .before .before .before .before .before .before .before .before .before .before .before .before .before .before .before .if1 .left)) (pair-1 zeroInput (t .inputs) (long-of t (c .before .before .before .before .before .before .before .before .before .before .before .before .before .before .before .before .before .before .before .good .0) .inputs) (inputFits house) (sameInput zeroInput) (t .«input_count») (c .before .before .before .before .before .before .before .before .before .before .before .before .before .two-inputs-fit .ensures) (not-false _ (c .before .before .before .before .before .before .before .before .before .before .before .before .if2 .left)) (c .before .before .before .before .before .before .before .before .before .two-inputs-fit2 .ensures)) (not-false _ (c .before .before .before .before .before .before .before .before .if3 .left)) (c .before .before .before .before .before .before .outputs-fit .ensures)) (not-false _ (c .before .before .before .before .before .if4 .left)) (c .before .before .before .before .named-twice .ensures) (c .before .before .before .if5 .left) (c .before .before .input-total .ensures) (c .before .output-total .ensures) (c .if6 .taken)
 
 returns-7 : tie.Need-returns-7
 unfolding countsFit
 returns-7 c =
-    let t = c .before .before .before .before .before .before .before .before .before .before .before .before .before .before .before .before .before .before .args .t in
-    cause-0 house t (fit-outputs house t (c .before .before .before .before .before .before .before .before .before .before .before .before .before .before .before .before .before .counts-fit .ensures) (not-false _ (c .before .before .before .before .before .before .before .before .before .before .before .before .before .before .before .before .if1 .left)) (pair-1 zeroInput (t .inputs) (long-of t (c .before .before .before .before .before .before .before .before .before .before .before .before .before .before .before .before .before .before .good .0) .inputs) (inputFits house) (sameInput zeroInput) (t .«input_count») (c .before .before .before .before .before .before .before .before .before .before .before .before .two-inputs-fit .ensures) (not-false _ (c .before .before .before .before .before .before .before .before .before .before .before .if2 .left)) (c .before .before .before .before .before .before .before .before .two-inputs-fit2 .ensures)) (not-false _ (c .before .before .before .before .before .before .before .if3 .left)) (c .before .before .before .before .before .outputs-fit .ensures)) (not-false _ (c .before .before .before .before .if4 .left)) (c .before .before .before .named-twice .ensures) (c .before .before .if5 .left) (c .before .equal-sums .ensures) (not-false _ (c .if6 .left))
+    let t = c .before .before .before .before .before .before .before .before .before .before .before .before .before .before .before .before .before .before .before .args .t in
+    cause-0 house t (fit-outputs house t (c .before .before .before .before .before .before .before .before .before .before .before .before .before .before .before .before .before .before .counts-fit .ensures) (not-false _ (c .before .before .before .before .before .before .before .before .before .before .before .before .before .before .before .before .before .if1 .left)) (pair-1 zeroInput (t .inputs) (long-of t (c .before .before .before .before .before .before .before .before .before .before .before .before .before .before .before .before .before .before .before .good .0) .inputs) (inputFits house) (sameInput zeroInput) (t .«input_count») (c .before .before .before .before .before .before .before .before .before .before .before .before .before .two-inputs-fit .ensures) (not-false _ (c .before .before .before .before .before .before .before .before .before .before .before .before .if2 .left)) (c .before .before .before .before .before .before .before .before .before .two-inputs-fit2 .ensures)) (not-false _ (c .before .before .before .before .before .before .before .before .if3 .left)) (c .before .before .before .before .before .before .outputs-fit .ensures)) (not-false _ (c .before .before .before .before .before .if4 .left)) (c .before .before .before .before .named-twice .ensures) (c .before .before .before .if5 .left) (c .before .before .input-total .ensures) (c .before .output-total .ensures) (c .if6 .left)
 
 pub cause-of-spec : {M : Type 1} → statement M
 cause-of-spec =
@@ -99,6 +102,7 @@ cause-of-spec =
     returns-4
     named-twice-requires
     returns-5
-    equal-sums-requires
+    input-total-requires
+    output-total-requires
     returns-6
     returns-7)

@@ -17,18 +17,21 @@ returns-2 : tie.Need-returns-2
 returns-2 c =
     cause-4 (c .before .before .before .before .before .args .genesis) (c .before .before .before .before .before .args .t) (c .before .before .before .before .fields-fit .ensures) (not-false _ (c .before .before .before .if1 .left)) (c .before .named-twice .ensures) (c .if2 .taken)
 
-equal-sums-requires : tie.Need-equal-sums-requires
-equal-sums-requires c κs = search needs
+input-total-requires : tie.Need-input-total-requires
+input-total-requires c κs = search needs
+
+output-total-requires : tie.Need-output-total-requires
+output-total-requires c κs = search needs
 
 returns-3 : tie.Need-returns-3
 returns-3 c =
-    cause-5 (c .before .before .before .before .before .before .before .args .genesis) (c .before .before .before .before .before .before .before .args .t) (c .before .before .before .before .before .before .fields-fit .ensures) (not-false _ (c .before .before .before .before .before .if1 .left)) (c .before .before .before .named-twice .ensures) (c .before .before .if2 .left)
-    (c .before .equal-sums .ensures) (not-true _ (c .if3 .taken))
+    cause-5 (c .before .before .before .before .before .before .before .before .before .args .genesis) (c .before .before .before .before .before .before .before .before .before .args .t) (c .before .before .before .before .before .before .before .before .fields-fit .ensures) (not-false _ (c .before .before .before .before .before .before .before .if1 .left)) (c .before .before .before .before .before .named-twice .ensures) (c .before .before .before .before .if2 .left)
+    (c .before .before .input-total .ensures) (c .before .output-total .ensures) (c .if3 .taken)
 
 returns-4 : tie.Need-returns-4
 returns-4 c =
-    cause-0 (c .before .before .before .before .before .before .before .args .genesis) (c .before .before .before .before .before .before .before .args .t) (c .before .before .before .before .before .before .fields-fit .ensures) (not-false _ (c .before .before .before .before .before .if1 .left)) (c .before .before .before .named-twice .ensures) (c .before .before .if2 .left)
-    (c .before .equal-sums .ensures) (not-false _ (c .if3 .left))
+    cause-0 (c .before .before .before .before .before .before .before .before .before .args .genesis) (c .before .before .before .before .before .before .before .before .before .args .t) (c .before .before .before .before .before .before .before .before .fields-fit .ensures) (not-false _ (c .before .before .before .before .before .before .before .if1 .left)) (c .before .before .before .before .before .named-twice .ensures) (c .before .before .before .before .if2 .left)
+    (c .before .before .input-total .ensures) (c .before .output-total .ensures) (c .if3 .left)
 
 pub cause-spec : {M : Type 1} → statement M
 cause-spec =
@@ -38,6 +41,7 @@ cause-spec =
     returns
     named-twice-requires
     returns-2
-    equal-sums-requires
+    input-total-requires
+    output-total-requires
     returns-3
     returns-4)
