@@ -1,3 +1,4 @@
 pub mod Long
 pub mod Shards
 pub mod Demand
+pub mod Amounts

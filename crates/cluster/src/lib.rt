@@ -6,6 +6,7 @@ ghost use Rattle.model.specs.Shard.{mint, register, deliver};
 ghost use Rattle.model.specs.Cluster.{notGiven};
 ghost use Rattle.cluster.specs.View.{view, shardAt, Sound, Fresh, Steps};
 ghost use Rattle.cluster.specs.Parts.{Replaced};
+ghost use Rattle.cluster.specs.Queries.{heldAmount};
 use model::Answer;
 use shard::Shard;
 use transaction::Transaction;
@@ -126,4 +127,21 @@ pub fn deliver_vote(c: Cluster, receiver: u8, sender: u8, verdict: u8, t: Transa
     let next = r.shard;
     let answer = r.answer;
     replaced(c, at, answer, next)
+}
+
+// The sum of the amounts held in all eight shards.
+pub fn total_amount(c: Cluster) -> u64
+    requires { ⌜ Sound c ⌝ }
+    ensures { λ r. ⌜ r ≡ heldAmount (view c) ⌝ }
+{
+    let shards = c.shards;
+    let mut sum: u64 = 0;
+    let mut i = 0;
+    while i < 8 {
+        let s = shards[i];
+        let amount = shard::queries::total_amount(s);
+        sum += amount;
+        i += 1;
+    }
+    sum
 }

@@ -1,5 +1,6 @@
 -- What can be asked of a shard, of its ledger.
-use Prim.Native.Nat.{ℕ}
+use Prim.Native.Nat.{ℕ, _≤_}
+use mathlib.Core.Path.{_≡_}
 use mathlib.Core.Bool.{Bool, cond, _&&_}
 use mathlib.Core.List.{List}
 use lib.Dec.{eqb, ltb}
@@ -54,3 +55,8 @@ amountOf token = token .amount
 -- the sum of the amounts (document 01: all portions of a pantry)
 unfoldable pub totalAmount : List Token → ℕ
 totalAmount tokens = total amountOf tokens
+
+-- what is promised of that sum: it is the sum, and at most 128 amounts of 32 bits
+pub record Totals (tokens : List Token) (r : ℕ) : Type 0 where
+  pub sum : r ≡ totalAmount tokens
+  pub most : r ≤ 549755813760

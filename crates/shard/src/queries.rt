@@ -1,11 +1,11 @@
 // What can be asked of a shard: each answer is read off its ledger, and nothing is changed.
 ghost use mathlib.Core.Path.{_≡_};
 ghost use mathlib.Core.Bool.{false};
-ghost use Prim.Native.Nat.{_≤_, _<_};
+ghost use Prim.Native.Nat.{_*_, _≤_, _<_};
 ghost use lib.ListN.{getD, length, take};
 ghost use Rattle.model.specs.Lists.{find};
 ghost use Rattle.shard.specs.View.{view, Sound};
-ghost use Rattle.shard.specs.Queries.{tokenAt, hasId, tokenOfId, blankKnown, knownAt, isNumbered, outcomeAt, outcomeOfNumber, totalAmount};
+ghost use Rattle.shard.specs.Queries.{tokenAt, hasId, tokenOfId, blankKnown, knownAt, isNumbered, outcomeAt, outcomeOfNumber, totalAmount, Totals};
 use crate::Shard;
 use model::Known;
 use model::Outcome;
@@ -171,7 +171,7 @@ fn wide(x: u32) -> u64
 
 fn sum_of(tokens: [Token; 128], held: usize) -> u64
     requires { ⌜ held ≤ 128 ⌝ }
-    ensures { λ r. ⌜ r ≡ totalAmount (take held tokens) ⌝ }
+    ensures { λ r. ⌜ (r ≡ totalAmount (take held tokens)) × (r ≤ 4294967295 * held) ⌝ }
 {
     let mut sum: u64 = 0;
     let mut i = 0;
@@ -184,10 +184,10 @@ fn sum_of(tokens: [Token; 128], held: usize) -> u64
     sum
 }
 
-// The sum of the held amounts.
+// The sum of the held amounts; an amount has 32 bits, so eight such sums fit 64.
 pub fn total_amount(s: Shard) -> u64
     requires { ⌜ Sound s ⌝ }
-    ensures { λ r. ⌜ r ≡ totalAmount (view s .tokens) ⌝ }
+    ensures { λ r. ⌜ Totals (view s .tokens) r ⌝ }
 {
     let held = s.held;
     let tokens = s.tokens;

@@ -42,7 +42,8 @@ loop-again c =
 
 returns : tie.Need-returns Inv-loop μ-loop
 unfolding totalAmount
-returns c = sym (sum-end (c .before .loop .inv .1) (search needs))
+returns c =
+    (sym (sum-end (c .before .loop .inv .1) (search needs)), omega (arith, c .before .loop .inv .0, c .before .loop .inv .1 .within))
 
 pub sum-of-spec : {M : Type 1} → statement M
 sum-of-spec =
