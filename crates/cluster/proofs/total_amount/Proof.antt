@@ -37,7 +37,7 @@ loop-less : tie.Need-loop-less Inv-loop μ-loop
 loop-less c = search needs
 
 loop-again : tie.Need-loop-again Inv-loop μ-loop
-loop-again c = 
+loop-again c =
     let a = c .before .before .before .before .before .args .c in
     let long : length (a .shards) ≡ 8 = eight a (c .before .before .before .before .before .good .0) in
     (omega (arith, c .total-amount .ensures .most), sum-next _ _ (c .before .before .before .loop .inv .1) (search needs) (omega arith) (c .total-amount .ensures .sum))
