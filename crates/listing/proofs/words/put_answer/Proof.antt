@@ -1,0 +1,102 @@
+use native.Mathlib.Omega.{arith}
+use Rattle.listing.proofs.Stores.{wider, two}
+use borrow.Author.Needs.{needs}
+use Rattle.listing.proofs.words.put_answer.Statement.{statement}
+use Rattle.listing.proofs.words.put_answer.Tie as tie
+
+enum-known-answer : tie.Need-enum-known-answer
+enum-known-answer c = search needs
+
+slice-aggregate-put-word : tie.Need-slice-aggregate-put-word
+slice-aggregate-put-word c = search needs
+
+put-word-requires : tie.Need-put-word-requires
+put-word-requires c κs = search needs
+
+put-small-requires : tie.Need-put-small-requires
+put-small-requires c κs = search needs
+
+enum-told : tie.Need-enum-told
+enum-told c = search needs
+
+slice-aggregate-put-word-2 : tie.Need-slice-aggregate-put-word-2
+slice-aggregate-put-word-2 c = search needs
+
+put-word-requires-2 : tie.Need-put-word-requires-2
+put-word-requires-2 c κs = search needs
+
+enum-known-answer-2 : tie.Need-enum-known-answer-2
+enum-known-answer-2 c = search needs
+
+put-verdict-requires : tie.Need-put-verdict-requires
+put-verdict-requires c κs = search needs
+
+put-outcome-requires : tie.Need-put-outcome-requires
+put-outcome-requires c κs = search needs
+
+enum-known-answer-3 : tie.Need-enum-known-answer-3
+enum-known-answer-3 c = search needs
+
+slice-aggregate-put-word-3 : tie.Need-slice-aggregate-put-word-3
+slice-aggregate-put-word-3 c = search needs
+
+put-word-requires-3 : tie.Need-put-word-requires-3
+put-word-requires-3 c κs = search needs
+
+put-outcome-requires-2 : tie.Need-put-outcome-requires-2
+put-outcome-requires-2 c κs = search needs
+
+enum-known-answer-4 : tie.Need-enum-known-answer-4
+enum-known-answer-4 c = search needs
+
+slice-aggregate-put-word-4 : tie.Need-slice-aggregate-put-word-4
+slice-aggregate-put-word-4 c = search needs
+
+put-word-requires-4 : tie.Need-put-word-requires-4
+put-word-requires-4 c κs = search needs
+
+put-outcome-requires-3 : tie.Need-put-outcome-requires-3
+put-outcome-requires-3 c κs = search needs
+
+returns : tie.Need-returns
+returns c = rw (c .before .before .before .before .before .before .answer .given .1) (two _ _ 13 (omega arith) (c .before .before .put-word .ensures) (c .put-small .ensures))
+
+returns-2 : tie.Need-returns-2
+returns-2 c = rw (c .before .before .before .enum-told .given .1) (wider 13 (c .put-word2 .ensures) (omega arith))
+
+returns-3 : tie.Need-returns-3
+returns-3 c = rw (c .before .before .before .before .before .answer2 .given .1) (two _ _ 13 (omega arith) (c .before .before .put-verdict .ensures) (c .put-outcome .ensures))
+
+returns-4 : tie.Need-returns-4
+returns-4 c = rw (c .before .before .before .before .before .before .answer3 .given .1) (two _ _ 13 (omega arith) (c .before .before .put-word3 .ensures) (c .put-outcome2 .ensures))
+
+returns-5 : tie.Need-returns-5
+returns-5 c = rw (c .before .before .before .before .before .before .answer4 .given .1) (two _ _ 13 (omega arith) (c .before .before .put-word4 .ensures) (c .put-outcome3 .ensures))
+
+pub put-answer-spec : {M : Type 1} → statement M
+put-answer-spec =
+    tie.close
+    (tie.spec
+    enum-known-answer
+    slice-aggregate-put-word
+    put-word-requires
+    put-small-requires
+    enum-told
+    slice-aggregate-put-word-2
+    put-word-requires-2
+    enum-known-answer-2
+    put-verdict-requires
+    put-outcome-requires
+    enum-known-answer-3
+    slice-aggregate-put-word-3
+    put-word-requires-3
+    put-outcome-requires-2
+    enum-known-answer-4
+    slice-aggregate-put-word-4
+    put-word-requires-4
+    put-outcome-requires-3
+    returns
+    returns-2
+    returns-3
+    returns-4
+    returns-5)

@@ -1,0 +1,34 @@
+use native.Mathlib.Omega.{arith}
+use Rattle.listing.proofs.Stores.{wider}
+use borrow.Author.Needs.{needs}
+use Rattle.listing.proofs.words.put_verdict.Statement.{statement}
+use Rattle.listing.proofs.words.put_verdict.Tie as tie
+
+slice-aggregate-put-word : tie.Need-slice-aggregate-put-word
+slice-aggregate-put-word c = search needs
+
+put-word-requires : tie.Need-put-word-requires
+put-word-requires c κs = search needs
+
+returns : tie.Need-returns
+returns c = rw (c .before .before .before .if1 .taken) (wider 4 (c .put-word .ensures) (omega arith))
+
+slice-aggregate-put-word-2 : tie.Need-slice-aggregate-put-word-2
+slice-aggregate-put-word-2 c = search needs
+
+put-word-requires-2 : tie.Need-put-word-requires-2
+put-word-requires-2 c κs = search needs
+
+returns-2 : tie.Need-returns-2
+returns-2 c = rw (c .before .before .before .if1 .left) (wider 4 (c .put-word2 .ensures) (omega arith))
+
+pub put-verdict-spec : {M : Type 1} → statement M
+put-verdict-spec =
+    tie.close
+    (tie.spec
+    slice-aggregate-put-word
+    put-word-requires
+    returns
+    slice-aggregate-put-word-2
+    put-word-requires-2
+    returns-2)
