@@ -1,3 +1,4 @@
 pub mod Digits
 pub mod Stores
 pub mod Steps
+pub mod Whole
