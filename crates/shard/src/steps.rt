@@ -6,10 +6,12 @@ ghost use lib.Dec.{eqb};
 ghost use Rattle.transaction.specs.Lists.{firstOf};
 ghost use Rattle.model.specs.Steps.{house, availableHere, pledges, vote, noted, newlyKnown, outcomeOf, settle, afterMint, hearing, entryOf, heardFrom};
 ghost use Rattle.model.specs.Shard.{mintRefusals, registerRefusals, deliverRefusals, mint, register, deliver};
+ghost use Rattle.holdings.specs.Arrays.{inputsOf};
 ghost use Rattle.shard.specs.View.{view, Sound, Steps};
 ghost use Rattle.shard.specs.Parts.{knownWith, Grown, Changed, FreshVote, FreshDone};
 use crate::Shard;
 use crate::Stepped;
+use holdings::Inputs;
 use holdings::availability::available_of;
 use holdings::availability::inputs_here;
 use holdings::committing::settle_here;
@@ -57,6 +59,14 @@ pub struct Pledged {
     pub verdict: bool,
 }
 
+// The message: yes if all inputs here are available, as many as there are.
+fn own_vote(here: Inputs, found: Inputs) -> bool
+    requires { ⌜ (here .count ≤ 4) × (found .count ≤ 4) ⌝ }
+    ensures { λ r. ⌜ r ≡ eqb (length (inputsOf found)) (length (inputsOf here)) ⌝ }
+{
+    found.count == here.count
+}
+
 // The inputs at this shard, the available ones among them, the pledges, the message.
 fn registration(tokens: [Token; 128], held: usize, me: u8, t: Transaction) -> Pledged
     requires { ⌜ held ≤ 128 ⌝ }
@@ -65,7 +75,7 @@ fn registration(tokens: [Token; 128], held: usize, me: u8, t: Transaction) -> Pl
     let here = inputs_here(me, t);
     let found = available_of(tokens, held, here);
     let pledged = pledge_all(tokens, held, t.number, found);
-    let verdict = found.count == here.count;
+    let verdict = own_vote(here, found);
     Pledged {
         tokens: pledged,
         verdict: verdict,

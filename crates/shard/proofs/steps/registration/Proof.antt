@@ -2,11 +2,8 @@ use Rattle.model.specs.Steps.{inputsHere, available, availableHere, vote}
 use Rattle.model.specs.Lists.{keep}
 use Rattle.loops.proofs.Fours.{all-kept}
 use Rattle.holdings.specs.Arrays.{inputsOf}
-use Rattle.holdings.proofs.Long.{inputs-long}
-use lib.Seq.{length-take-le}
-use lib.ListN.{length, take}
-use native.Mathlib.Omega.{arith}
-use mathlib.Core.Path.{_≡_, sym, ap, _∙_}
+use lib.ListN.{take}
+use mathlib.Core.Path.{_≡_, _∙_}
 use borrow.Author.Needs.{needs}
 use Rattle.shard.proofs.steps.registration.Statement.{statement}
 use Rattle.shard.proofs.steps.registration.Tie as tie
@@ -20,20 +17,23 @@ available-of-requires c κs = search needs
 pledge-all-requires : tie.Need-pledge-all-requires
 pledge-all-requires c κs = search needs
 
+own-vote-requires : tie.Need-own-vote-requires
+own-vote-requires c κs = search needs
+
 returns : tie.Need-returns
 unfolding availableHere vote
 returns c =
-    let a = c .before .before .before .before .before .args in
+    let a = c .before .before .before .before .args in
     let t = take (a .held) (a .tokens) in
-    let here = c .before .before .before .before .inputs-here .result in
-    let found = c .before .before .before .available-of .result in
-    let h : here .count ≡ length (inputsHere (a .me) (a .t)) =
-    sym (length-take-le (here .count) (here .list) (omega (arith, c .before .before .before .before .inputs-here .ensures .1, inputs-long here (c .before .before .before .before .inputs-here .ok)))) ∙ ap length (c .before .before .before .before .inputs-here .ensures .0) in
-    let e : inputsOf found ≡ keep (available t) (inputsHere (a .me) (a .t)) = rw (← c .before .before .before .before .inputs-here .ensures .0) (c .before .before .before .available-of .ensures .0) in
-    let f : found .count ≡ length (keep (available t) (inputsHere (a .me) (a .t))) =
-    sym (length-take-le (found .count) (found .list) (omega (arith, c .before .before .before .available-of .ensures .1, inputs-long found (c .before .before .before .available-of .ok)))) ∙ ap length e in
-    (rw (← e) (c .before .before .pledge-all .ensures), rw (f, h) (all-kept (available t) (inputsHere (a .me) (a .t))))
+    let e : inputsOf (c .before .before .available-of .result) ≡ keep (available t) (inputsHere (a .me) (a .t)) = rw (← c .before .before .before .inputs-here .ensures .0) (c .before .before .available-of .ensures .0) in
+    (rw (← e) (c .before .pledge-all .ensures), c .own-vote .ensures ∙ rw (e, c .before .before .before .inputs-here .ensures .0) (all-kept (available t) (inputsHere (a .me) (a .t))))
 
 pub registration-spec : {M : Type 1} → statement M
 registration-spec =
-    tie.close (tie.spec inputs-here-requires available-of-requires pledge-all-requires returns)
+    tie.close
+    (tie.spec
+    inputs-here-requires
+    available-of-requires
+    pledge-all-requires
+    own-vote-requires
+    returns)
