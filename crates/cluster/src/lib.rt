@@ -12,8 +12,9 @@ use transaction::Transaction;
 
 pub mod queries; // what can be asked of a cluster
 
+// The shards are open to a loop that keeps all eight in a local and moves one of them a call; `Sound` is what such a loop has to keep.
 pub struct Cluster {
-    shards: [Shard; 8],
+    pub shards: [Shard; 8],
 }
 
 // What a call answers, and the cluster after it.

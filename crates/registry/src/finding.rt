@@ -11,10 +11,14 @@ use model::Known;
 use transaction::Transaction;
 use transaction::equality::same_transaction;
 
+// The numbers first: most known transactions have another one.
 pub fn is_for(t: Transaction, k: Known) -> bool
     ensures { λ r. ⌜ r ≡ isFor t k ⌝ }
 {
     let s = k.transaction;
+    if s.number != t.number {
+        return false;
+    }
     same_transaction(s, t)
 }
 
