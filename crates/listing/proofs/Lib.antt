@@ -2,3 +2,5 @@ pub mod Digits
 pub mod Stores
 pub mod Steps
 pub mod Whole
+pub mod Reaching
+pub mod Running

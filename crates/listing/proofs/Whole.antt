@@ -41,11 +41,11 @@ pub data Prints : Cluster → ℕ → List ℕ → List ℕ → Type 0 where
       → Prints c step bytes (take (r .size) after ++ text)
 
 -- the part of the lent bytes that is printed is the line
-shown : {line lent after : List ℕ} {r : ℕ} → Shows line lent after r → take r after ≡ line
+pub shown : {line lent after : List ℕ} {r : ℕ} → Shows line lent after r → take r after ≡ line
 shown {line} {lent} {after} {r} s = ap (take r) (s .text) ∙ take-at line (drop (length line) lent) r (sym (s .size))
 
 -- a record takes at least one byte
-taken-some : (l : List ℕ) → (length l ≡ 0 → ⊥) → 0 < takenOf l
+pub taken-some : (l : List ℕ) → (length l ≡ 0 → ⊥) → 0 < takenOf l
 taken-some l n = go (eqb (headCause l) 0) refl
   where
     go : (b : Bool) → eqb (headCause l) 0 ≡ b → 0 < takenOf l

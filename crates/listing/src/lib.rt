@@ -14,6 +14,8 @@ use transaction::Transaction;
 
 pub mod words; // words stored into a line
 pub mod lines; // whole lines
+pub mod fronts; // the record at the front, and the shards that it reaches
+pub mod buffers; // a buffer of records in one go
 
 // The cluster after a step, the size of its line, the bytes taken from the front, and whether reading ends.
 pub struct Listed {
