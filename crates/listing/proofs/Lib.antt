@@ -2,5 +2,6 @@ pub mod Digits
 pub mod Stores
 pub mod Steps
 pub mod Whole
+pub mod Play
 pub mod Reaching
 pub mod Running

@@ -1,6 +1,9 @@
 -- THE WHOLE TEXT. Whoever steps through any bytes from a cluster that `new` returned, prints each line and goes on behind the bytes taken until none are
 -- left or reading ends, and then prints the TOTAL line, has printed `listingOf` of the bytes: the text that document 01 asks for, by definition.
--- The lines and clusters are any that the contracts of `step` and `total` allow: `Stepped` and `Totalled` are those contracts.
+--
+-- The lines and clusters are any that the contracts of `step` and `total` allow. A contract is read off the function itself: `Asked` is what its
+-- `requires` asks of the arguments, `Learnt` what its `ensures` tells of the arguments, the result and the lent line afterwards, as the checker
+-- generates both from src/lib.rt. There is no second copy of a contract here, so that a contract that said less would break this proof.
 use Prim.Native.Nat.{ℕ, zero, suc, _+_, _≤_, _<_}
 use native.Mathlib.Omega.{arith}
 use mathlib.Core.Path.{_≡_, refl, sym, ap, _∙_}
@@ -10,23 +13,45 @@ use borrow.Author.Tests.{eqb-true, eqb-false, eq-eqb, ne-eqb}
 use lib.Dec.{eqb}
 use lib.ListN.{length, take, drop, length-drop}
 use lib.Seq.{take-at}
+use base.Fml.{GName}
+use contract.Lifetimes.{Lfts}
+use denote.Ref.{RefT}
 use Rattle.reader.specs.Reading.{headCause, takenOf, restOf}
 use Rattle.reader.proofs.Cases.{taken-all, taken-record}
 use Rattle.model.specs.Steps.{Ledger}
 use Rattle.cluster.specs.declared.Cluster.{Cluster}
-use Rattle.cluster.specs.View.{view, Sound, Fresh}
+use Rattle.cluster.specs.View.{view, Sound}
 use Rattle.cluster.specs.Queries.{totalHeld}
+use Rattle.cluster.proofs.Demand.{Starts}
 use Rattle.listing.specs.declared.Listed.{Listed}
 use Rattle.listing.specs.Lines.{totalLine}
 use Rattle.listing.specs.Parts.{Shows}
-use Rattle.listing.specs.Listing.{stepOf, listingWithin, listingOf, Lists}
+use Rattle.listing.specs.Listing.{stepOf, listingWithin, listingOf}
+use Rattle.listing.proofs.step.Reads as of-step
+use Rattle.listing.proofs.total.Reads as of-total
 
--- the contracts: `step`, handed a cluster, a step, bytes and a lent line, may have returned r and left the line as it is after; and so `total`
-abbrev pub Stepped : Cluster → ℕ → List ℕ → List ℕ → Listed → List ℕ → Type 0
-Stepped c step bytes lent r after = Sound c → Lists c step bytes lent r after
+-- a reference to bytes; where it points and under which name is nothing that a contract speaks of
+abbrev pub refers : ℕ × ℕ → GName → List ℕ → RefT (List ℕ)
+refers ptr name bytes = record { ptr = ptr; name = name; now = bytes }
 
-abbrev pub Totalled : Cluster → List ℕ → ℕ → List ℕ → Type 0
-Totalled c lent size after = Sound c → Shows (totalLine (totalHeld (view c))) lent after size
+-- `step`, handed a cluster, a step and references to the bytes left and to a lent line, may have returned r and left the line as it is after
+pub record Stepped (c : Cluster) (step : ℕ) (bytes lent : List ℕ) (r : Listed) (after : List ℕ) : Type 0 where
+  pub lifetimes : Lfts 2
+  pub from : ℕ × ℕ
+  pub from-name : GName
+  pub to : ℕ × ℕ
+  pub to-name : GName
+  pub kept : of-step.Asked lifetimes (c, (step, (refers from from-name bytes, (refers to to-name lent, tt))))
+      → of-step.Learnt lifetimes (c, (step, (refers from from-name bytes, (refers to to-name lent, tt)))) r
+      (c, (step, (refers from from-name bytes, (refers to to-name after, tt))))
+
+-- `total`, handed a cluster and a reference to a lent line, may have returned the size and left the line as it is after
+pub record Totalled (c : Cluster) (lent : List ℕ) (size : ℕ) (after : List ℕ) : Type 0 where
+  pub lifetimes : Lfts 1
+  pub to : ℕ × ℕ
+  pub to-name : GName
+  pub kept : of-total.Asked lifetimes (c, (refers to to-name lent, tt))
+      → of-total.Learnt lifetimes (c, (refers to to-name lent, tt)) size (c, (refers to to-name after, tt))
 
 -- from a cluster, a step and the bytes left, this text is printed
 pub data Prints : Cluster → ℕ → List ℕ → List ℕ → Type 0 where
@@ -83,15 +108,15 @@ joined p q = rw (p, q) refl
 
 printed : (enough : ℕ) {c : Cluster} {step : ℕ} {bytes text : List ℕ} → length bytes ≤ enough → Sound c → Prints c step bytes text
     → text ≡ listingWithin enough (view c) step bytes
-printed enough {c} {step} {bytes} h sound (finished e t) = shown (t sound) ∙ sym (nothing-left enough (view c) step bytes e)
+printed enough {c} {step} {bytes} h sound (finished e t) = shown (t .kept sound) ∙ sym (nothing-left enough (view c) step bytes e)
 printed zero h sound (ended n s e t) = absurd (n (omega arith))
 printed (suc enough) {c} {step} {bytes} h sound (ended n s e t) =
-    let l = s sound in
-    joined (shown (l .shows)) (shown (t (l .sound)) ∙ ap (λ (x : List Ledger). totalLine (totalHeld x)) (l .ledgers))
+    let l = s .kept sound in
+    joined (shown (l .shows)) (shown (t .kept (l .sound)) ∙ ap (λ (x : List Ledger). totalLine (totalHeld x)) (l .ledgers))
     ∙ sym (reading-ends enough (view c) step bytes n (sym (l .ends) ∙ e))
 printed zero h sound (further n s e p) = absurd (n (omega arith))
 printed (suc enough) {c} {step} {bytes} h sound (further {r = r} n s e p) =
-    let l = s sound in
+    let l = s .kept sound in
     let rest : drop (r .taken) bytes ≡ restOf bytes = behind bytes (l .taken) in
     joined (shown (l .shows))
     (printed enough (rw rest (fewer bytes enough n h)) (l .sound) p
@@ -99,7 +124,7 @@ printed (suc enough) {c} {step} {bytes} h sound (further {r = r} n s e p) =
     ∙ sym (reading-on enough (view c) step bytes n (sym (l .ends) ∙ e))
 
 -- THEOREM
-pub whole-listing : {c : Cluster} {bytes text : List ℕ} → Fresh c → Prints c 1 bytes text → text ≡ listingOf bytes
+pub whole-listing : {c : Cluster} {bytes text : List ℕ} → Starts c → Prints c 1 bytes text → text ≡ listingOf bytes
 unfolding listingOf
-whole-listing {c} {bytes} fresh p =
-    printed (length bytes) (omega arith) (fresh .sound) p ∙ ap (λ (x : List Ledger). listingWithin (length bytes) x 1 bytes) (fresh .empty)
+whole-listing {c} {bytes} starts p =
+    printed (length bytes) (omega arith) (starts .sound) p ∙ ap (λ (x : List Ledger). listingWithin (length bytes) x 1 bytes) (starts .empty)
