@@ -3,11 +3,12 @@ ghost use mathlib.Core.Path.{_≡_};
 ghost use Prim.Native.Nat.{_+_, _-_, _≤_, _<_};
 ghost use lib.ListN.{length, take, drop};
 ghost use Rattle.cluster.specs.View.{Sound};
-ghost use Rattle.listing.specs.Listing.{Lists};
+ghost use Rattle.listing.specs.Buffers.{ListsAll};
 use cluster::Cluster;
 use libc::STDIN_FILENO;
 use libc::STDOUT_FILENO;
-use listing::Listed;
+use listing::buffers::Progress;
+use listing::buffers::list_records;
 
 // The unread bytes of the buffer. A record is 102 bytes long at most: so many are wanted before one is handed over, and none at the end of the input.
 struct Unread {
@@ -95,50 +96,56 @@ fn between(bytes: &[u8], at: usize, end: usize) -> &[u8]
     &bytes[at..end]
 }
 
-// The record at the front of the unread bytes.
+// The records among the unread bytes, their lines behind those that wait.
 fn listed(
     c: Cluster,
     number: u64,
     buf: &[u8; 65536],
     at: usize,
     end: usize,
-    line: &mut [u8; 64],
-) -> Listed
-    requires { ⌜ Sound c × (at ≤ end) × (end ≤ 65536) ⌝ }
-    ensures { λ r. ⌜ Lists c number (take (end - at) (drop at (now (buf .entry)))) (now (line .entry)) r (now (line .exit)) ⌝ }
+    wanted: usize,
+    out: &mut [u8],
+    used: usize,
+) -> Progress
+    requires { ⌜ Sound c × (at ≤ end) × (end ≤ 65536) × (used ≤ length (now out)) ⌝ }
+    ensures { λ r. ⌜ ListsAll c number (take (end - at) (drop at (now (buf .entry)))) wanted (drop used (now (out .entry))) r (drop used (now (out .exit))) ⌝ }
 {
     let bytes = between(buf, at, end);
-    listing::step(c, number, bytes, line)
+    list_records(c, number, bytes, wanted, &mut out[used..])
 }
 
-// The bytes that wait.
-fn print(out: &[u8; 65536], n: usize) -> bool
-    requires { ⌜ n ≤ 65536 ⌝ }
+// The first bytes of the text.
+fn print(text: &[u8], n: usize) -> bool
+    requires { ⌜ n ≤ length (now text) ⌝ }
 {
-    io::write_all(STDOUT_FILENO, between(out, 0, n))
+    io::write_all(STDOUT_FILENO, between(text, 0, n))
 }
 
-// The line behind those that wait; where no further one may fit, all are printed.
-fn put(out: &mut [u8; 65536], used: usize, line: &[u8; 64], size: usize) -> Waiting
-    requires { ⌜ (used + 64 ≤ 65536) × (size ≤ 64) ⌝ }
-    ensures { λ r. ⌜ r .used + 64 ≤ 65536 ⌝ }
+// Where little room is left, all that wait are printed.
+fn flushed(out: &[u8; 65536], used: usize) -> Waiting
+    requires { ⌜ used ≤ 65536 ⌝ }
+    ensures { λ r. ⌜ r .used ≤ 61440 ⌝ }
 {
-    let mut i = 0;
-    while i < size {
-        out[used + i] = line[i];
-        i += 1;
-    }
-    let n = used + size;
-    if n <= 65472 {
+    if used <= 61440 {
         return Waiting {
-            used: n,
+            used: used,
             well: true,
         };
     }
     Waiting {
         used: 0,
-        well: print(out, n),
+        well: print(out, used),
     }
+}
+
+// After the end of reading no more bytes are wanted.
+fn wanted_after(ends: bool, wanted: usize) -> usize
+    ensures { λ r. ⌜ r ≤ wanted ⌝ }
+{
+    if ends {
+        return 0;
+    }
+    wanted
 }
 
 // The turns that are left: none where reading ends, where a write failed, and where no bytes are left.
@@ -158,10 +165,20 @@ fn turns_after(turns: u64, ends: bool, well: bool, at: usize, end: usize) -> u64
     turns - 1
 }
 
+// The lines that wait, and the last one.
+fn finish(out: &[u8; 65536], used: usize, c: Cluster)
+    requires { ⌜ Sound c × (used ≤ 65536) ⌝ }
+{
+    let mut line = [0u8; 64];
+    let size = listing::total(c, &mut line);
+    if print(out, used) {
+        print(&line, size);
+    }
+}
+
 fn main() {
     let mut buf = [0u8; 65536];
     let mut out = [0u8; 65536];
-    let mut line = [0u8; 64];
     let mut c = cluster::new();
     let mut number: u64 = 1;
     let mut used: usize = 0;
@@ -172,22 +189,19 @@ fn main() {
     let mut wanted = first.wanted;
     let mut turns = turns_after(4611686018427387904, false, true, at, end);
     while 0 < turns {
-        let r = listed(c, number, &buf, at, end, &mut line);
-        let p = put(&mut out, used, &line, r.size);
-        used = p.used;
-        well = p.well;
-        let u = filled(&mut buf, at + r.taken, end, wanted);
+        let r = listed(c, number, &buf, at, end, wanted, &mut out, used);
+        let w = flushed(&out, used + r.used);
+        used = w.used;
+        well = w.well;
+        let u = filled(&mut buf, at + r.taken, end, wanted_after(r.ends, wanted));
         at = u.at;
         end = u.end;
         wanted = u.wanted;
         turns = turns_after(turns, r.ends, well, at, end);
-        number += 1;
+        number = r.number;
         c = r.cluster;
     }
     if well {
-        let size = listing::total(c, &mut line);
-        let p = put(&mut out, used, &line, size);
-        let n = p.used;
-        print(&out, n);
+        finish(&out, used, c);
     }
 }

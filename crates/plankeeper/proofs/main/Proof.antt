@@ -1,17 +1,20 @@
+use Prim.Native.Nat.{_+_, _-_, _≤_}
+use native.Mathlib.Omega.{arith}
+use mathlib.Core.Path.{_≡_, sym}
+use lib.ListN.{length, drop, length-drop}
 use Rattle.plankeeper.proofs.Part.{part-size}
 use Rattle.cluster.specs.View.{Sound}
-use lib.ListN.{drop}
-use native.Mathlib.Omega.{arith}
-use Prim.Native.Nat.{_+_, _-_, _≤_}
 use borrow.Author.Needs.{needs}
 use Rattle.plankeeper.proofs.main.Statement.{statement}
 use Rattle.plankeeper.proofs.main.Tie as tie
 
 abbrev Inv-loop : tie.InvT-loop
-Inv-loop buf₀ out₀ line₀ c₀ number₀ used₀ well₀ at₀ end₀ wanted₀ turns₀ buf out line c number used well at end wanted turns = Sound c × (number + turns ≤ 4611686018427387905) × (at ≤ end) × (end ≤ 65536) × (wanted ≤ 102) × (used + 64 ≤ 65536)
+Inv-loop buf₀ out₀ c₀ number₀ used₀ well₀ at₀ end₀ wanted₀ turns₀ buf out c number used well at end wanted turns =
+    Sound c × (at ≤ end) × (end ≤ 65536) × (wanted ≤ 102) × (used ≤ 61440) × (length out ≡ 65536)
 
 abbrev μ-loop : tie.MeasureT-loop
-μ-loop buf₀ out₀ line₀ c₀ number₀ used₀ well₀ at₀ end₀ wanted₀ turns₀ buf out line c number used well at end wanted turns = turns
+μ-loop buf₀ out₀ c₀ number₀ used₀ well₀ at₀ end₀ wanted₀ turns₀ buf out c number used well at end wanted turns =
+    turns
 
 new-requires : tie.Need-new-requires Inv-loop μ-loop
 new-requires c κs = search needs
@@ -25,38 +28,38 @@ turns-after-requires c κs = search needs
 loop-holds : tie.Need-loop-holds Inv-loop μ-loop
 loop-holds c = (c .before .before .before .new .ensures .sound, search needs, search needs, search needs, search needs, search needs)
 
-listed-requires : tie.Need-listed-requires Inv-loop μ-loop
-listed-requires c κs = (c .before .before .before .loop .inv .0, search needs, search needs)
+slice-aggregate-listed : tie.Need-slice-aggregate-listed Inv-loop μ-loop
+slice-aggregate-listed c = sym (c .before .before .before .loop .inv .5)
 
-put-requires : tie.Need-put-requires Inv-loop μ-loop
-put-requires c κs = search needs
+listed-requires : tie.Need-listed-requires Inv-loop μ-loop
+listed-requires c κs = (c .before .before .before .loop .inv .0, search needs, search needs, omega (arith, c .before .before .before .loop .inv .4, c .before .before .before .loop .inv .5))
+
+add-flushed : tie.Need-add-flushed Inv-loop μ-loop
+add-flushed c = let h : (c .before .before .before .before .before .before .before .loop .used) + (c .before .before .before .listed .result .used) ≤ 65536 = omega (arith, c .before .before .before .listed .ensures .room, length-drop (c .before .before .before .before .before .before .before .loop .used) (c .before .before .before .before .before .before .before .loop .out), (c .before .before .before .before .before .before .before .loop .inv .4), (c .before .before .before .before .before .before .before .loop .inv .5)) in search needs
+
+flushed-requires : tie.Need-flushed-requires Inv-loop μ-loop
+flushed-requires c κs = omega (arith, c .before .before .before .listed .ensures .room, length-drop (c .before .before .before .before .before .before .before .loop .used) (c .before .before .before .before .before .before .before .loop .out), (c .before .before .before .before .before .before .before .loop .inv .4), (c .before .before .before .before .before .before .before .loop .inv .5))
 
 add-filled : tie.Need-add-filled Inv-loop μ-loop
-add-filled c = omega (arith, c .before .before .before .before .before .listed .ensures .part, part-size (c .before .before .before .before .before .before .before .before .before .loop .end - c .before .before .before .before .before .before .before .before .before .loop .at) (drop (c .before .before .before .before .before .before .before .before .before .loop .at) (c .before .before .before .before .before .before .before .before .before .loop .buf)))
+add-filled c = let h : (c .before .before .before .before .before .before .before .before .before .before .loop .at) + (c .before .before .before .before .before .before .listed .result .taken) ≤ 65536 = omega (arith, c .before .before .before .before .before .before .listed .ensures .part, part-size ((c .before .before .before .before .before .before .before .before .before .before .loop .end) - (c .before .before .before .before .before .before .before .before .before .before .loop .at)) (drop (c .before .before .before .before .before .before .before .before .before .before .loop .at) (c .before .before .before .before .before .before .before .before .before .before .loop .buf)), (c .before .before .before .before .before .before .before .before .before .before .loop .inv .1), (c .before .before .before .before .before .before .before .before .before .before .loop .inv .2)) in search needs
+
+wanted-after-requires : tie.Need-wanted-after-requires Inv-loop μ-loop
+wanted-after-requires c κs = search needs
 
 filled-requires-2 : tie.Need-filled-requires-2 Inv-loop μ-loop
-filled-requires-2 c κs = omega (arith, c .before .before .before .before .before .listed .ensures .part, part-size (c .before .before .before .before .before .before .before .before .before .loop .end - c .before .before .before .before .before .before .before .before .before .loop .at) (drop (c .before .before .before .before .before .before .before .before .before .loop .at) (c .before .before .before .before .before .before .before .before .before .loop .buf)))
+filled-requires-2 c κs = omega (arith, c .before .before .before .before .before .before .before .listed .ensures .part, part-size ((c .before .before .before .before .before .before .before .before .before .before .before .loop .end) - (c .before .before .before .before .before .before .before .before .before .before .before .loop .at)) (drop (c .before .before .before .before .before .before .before .before .before .before .before .loop .at) (c .before .before .before .before .before .before .before .before .before .before .before .loop .buf)), (c .before .before .before .before .before .before .before .before .before .before .before .loop .inv .1), (c .before .before .before .before .before .before .before .before .before .before .before .loop .inv .2), (c .before .before .before .before .before .before .before .before .before .before .before .loop .inv .3), c .wanted-after .ensures)
 
 turns-after-requires-2 : tie.Need-turns-after-requires-2 Inv-loop μ-loop
 turns-after-requires-2 c κs = search needs
-
-add-number : tie.Need-add-number Inv-loop μ-loop
-add-number c = search needs
 
 loop-less : tie.Need-loop-less Inv-loop μ-loop
 loop-less c = search needs
 
 loop-again : tie.Need-loop-again Inv-loop μ-loop
-loop-again c = (c .before .before .before .before .before .before .before .before .listed .ensures .sound, search needs, search needs, search needs, search needs, search needs)
+loop-again c = (c .before .before .before .before .before .before .before .before .before .before .listed .ensures .sound, search needs, search needs, search needs, search needs, search needs)
 
-total-requires : tie.Need-total-requires Inv-loop μ-loop
-total-requires c κs = c .before .before .before .loop .inv .0
-
-put-requires-2 : tie.Need-put-requires-2 Inv-loop μ-loop
-put-requires-2 c κs = search needs
-
-print-requires : tie.Need-print-requires Inv-loop μ-loop
-print-requires c κs = search needs
+finish-requires : tie.Need-finish-requires Inv-loop μ-loop
+finish-requires c κs = (c .before .before .before .loop .inv .0, omega (arith, c .before .before .before .loop .inv .4))
 
 returns : tie.Need-returns Inv-loop μ-loop
 returns c = search needs
@@ -74,16 +77,16 @@ main-spec =
     filled-requires
     turns-after-requires
     loop-holds
+    slice-aggregate-listed
     listed-requires
-    put-requires
+    add-flushed
+    flushed-requires
     add-filled
+    wanted-after-requires
     filled-requires-2
     turns-after-requires-2
-    add-number
     loop-less
     loop-again
-    total-requires
-    put-requires-2
-    print-requires
+    finish-requires
     returns
     returns-2)
