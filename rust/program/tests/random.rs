@@ -67,8 +67,20 @@ fn random_and_damaged_inputs() {
     }
 }
 
-/// Takes inputs in turn until there are no more, or the other thread failed.
+/// Lets the other thread come to its end, too, when this one fails.
+struct StopOthers<'a>(&'a AtomicU64);
+
+impl Drop for StopOthers<'_> {
+    fn drop(&mut self) {
+        if thread::panicking() {
+            self.0.store(INPUTS, Ordering::Relaxed);
+        }
+    }
+}
+
+/// Takes inputs in turn until there are no more.
 fn run(next: &AtomicU64) -> Tally {
+    let _stop = StopOthers(next);
     let mut tally = Tally::default();
     loop {
         let case = next.fetch_add(1, Ordering::Relaxed);

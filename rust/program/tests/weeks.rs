@@ -29,9 +29,15 @@ fn every_week() {
         let bytes = records(&source).unwrap_or_else(|error| panic!("weeks/{name}.txt: {error}"));
         let stored = fs::read(week.with_extension("listing"))
             .unwrap_or_else(|error| panic!("weeks/{name}.listing: {error}"));
-        assert_same(&listing(&bytes), &stored, &bytes, name);
+        assert_same(
+            &listing(&bytes),
+            &stored,
+            &bytes,
+            &format!("{name}, the Rust listing"),
+        );
         for chunk in CHUNKS {
-            assert_same(&list(&bytes, chunk), &stored, &bytes, name);
+            let case = format!("{name}, the program, writes of {chunk}");
+            assert_same(&list(&bytes, chunk), &stored, &bytes, &case);
         }
         let again = records(text(&bytes).as_bytes());
         assert!(again.as_ref() == Ok(&bytes), "weeks/{name}.txt comes back");
