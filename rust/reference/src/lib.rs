@@ -1,6 +1,7 @@
-//! Independent implementation of the record codec, of one shard's ledger and of
-//! the cluster of eight, written from document 01 alone. The proved engine is
-//! compared with it through the C boundary.
+//! Independent implementation of the record codec, of one shard's ledger, of the
+//! cluster of eight and of the listing, written from document 01 alone. The
+//! proved engine is compared with it through the C boundary, and the proved
+//! program through its output.
 //!
 //! The code speaks the field's language: a pantry is a shard, a round a
 //! cluster, a swap a transaction, a household an owner, portions an amount, an
@@ -10,14 +11,17 @@
 #![warn(missing_docs)]
 
 mod cluster;
+mod listing;
 mod record;
 mod refusal;
 mod shard;
 mod transaction;
 
 pub use cluster::Cluster;
+pub use listing::{list, listing};
 pub use record::{
-    MINT_LENGTH, REGISTER_LENGTH, Reading, Record, VOTE_LENGTH, read, read_inline, rest, write,
+    MINT_LENGTH, REGISTER_LENGTH, Reading, Record, VOTE_LENGTH, decode, encode, read, read_inline,
+    rest, write,
 };
 pub use refusal::Refusal;
 pub use shard::{Answer, Done, Known, LIMITS, Limits, Outcome, Shard, Token, Verdict};

@@ -142,6 +142,77 @@ pub fn write(record: &Record, buffer: &mut [u8]) -> Result<usize, Refusal> {
     }
 }
 
+/// The fields of the whole record at the front of the bytes, in range or not:
+/// for those who show or damage records. The reader does not use it.
+pub fn decode(bytes: &[u8]) -> Option<Record> {
+    Some(match *bytes.first()? {
+        REGISTER => {
+            let &[_, receiver, ref body @ ..] = bytes.first_chunk::<REGISTER_LENGTH>()?;
+            Record::Register {
+                receiver,
+                transaction: decode_transaction(body),
+            }
+        }
+        VOTE => {
+            let &[_, receiver, sender, verdict, ref body @ ..] =
+                bytes.first_chunk::<VOTE_LENGTH>()?;
+            Record::Vote {
+                receiver,
+                sender,
+                verdict,
+                transaction: decode_transaction(body),
+            }
+        }
+        MINT => {
+            let &[_, receiver, index, o0, o1, o2, o3, a0, a1, a2, a3] =
+                bytes.first_chunk::<MINT_LENGTH>()?;
+            Record::Mint {
+                receiver,
+                index,
+                owner: u32::from_be_bytes([o0, o1, o2, o3]),
+                amount: u32::from_be_bytes([a0, a1, a2, a3]),
+            }
+        }
+        _ => return None,
+    })
+}
+
+/// Puts the record behind the bytes, its fields in range or not: for those who
+/// build damaged input. The writer does not use it.
+pub fn encode(record: &Record, bytes: &mut Vec<u8>) {
+    let mut body = [0; TRANSACTION_LENGTH];
+    match *record {
+        Record::Register {
+            receiver,
+            ref transaction,
+        } => {
+            encode_transaction(transaction, &mut body);
+            bytes.extend([REGISTER, receiver]);
+            bytes.extend(body);
+        }
+        Record::Vote {
+            receiver,
+            sender,
+            verdict,
+            ref transaction,
+        } => {
+            encode_transaction(transaction, &mut body);
+            bytes.extend([VOTE, receiver, sender, verdict]);
+            bytes.extend(body);
+        }
+        Record::Mint {
+            receiver,
+            index,
+            owner,
+            amount,
+        } => {
+            bytes.extend([MINT, receiver, index]);
+            bytes.extend(owner.to_be_bytes());
+            bytes.extend(amount.to_be_bytes());
+        }
+    }
+}
+
 /// The front of the buffer, if a record of `N` bytes has room there.
 fn room<const N: usize>(buffer: &mut [u8]) -> Result<&mut [u8; N], Refusal> {
     buffer.first_chunk_mut().ok_or(BufferTooShort)

@@ -2,8 +2,8 @@
 //! its order of refusals and its limits.
 
 use reference::{
-    Answer, Cluster, Done, Input, LIMITS, Limits, Outcome, Output, Reading, Record, Refusal, Shard,
-    Token, TokenId, Transaction, Verdict, read, write,
+    Answer, Cluster, Done, Input, LIMITS, Limits, Outcome, Output, Record, Refusal, Shard, Token,
+    TokenId, Transaction, Verdict,
 };
 
 use Outcome::{Abort, Commit, Wait};
@@ -79,47 +79,6 @@ fn registered(verdict: Verdict, outcome: Outcome) -> Answer {
     Ok(Done::Registered { verdict, outcome })
 }
 
-/// Document 01's listing, for its example.
-fn listing(mut bytes: &[u8]) -> String {
-    let mut cluster = Cluster::new(LIMITS);
-    let mut lines = String::new();
-    let mut step = 0;
-    while !bytes.is_empty() {
-        step += 1;
-        let Reading { outcome, taken } = read(bytes);
-        bytes = &bytes[taken..];
-        let (shard, words) = match outcome {
-            Ok(record) => {
-                let (Record::Register { receiver, .. }
-                | Record::Vote { receiver, .. }
-                | Record::Mint { receiver, .. }) = record;
-                (receiver.to_string(), words(cluster.play(&record)))
-            }
-            Err(refusal) => ("-".into(), words(Err(refusal))),
-        };
-        lines += &format!("{step} {shard} {words}\n");
-    }
-    lines + &format!("TOTAL {}\n", cluster.total())
-}
-
-fn words(answer: Answer) -> String {
-    let of = |outcome| match outcome {
-        Wait => "WAIT",
-        Commit => "COMMIT",
-        Abort => "ABORT",
-    };
-    match answer {
-        Err(refusal) => format!("REFUSED {}", refusal.number()),
-        Ok(Done::Minted) => "OPENED".into(),
-        Ok(Done::Registered { verdict, outcome }) => {
-            let verdict = if verdict == Yes { "YES" } else { "NO" };
-            format!("{verdict} {}", of(outcome))
-        }
-        Ok(Done::Heard(outcome)) => format!("HEARD {}", of(outcome)),
-        Ok(Done::Again(outcome)) => format!("AGAIN {}", of(outcome)),
-    }
-}
-
 fn example() -> [Record; 7] {
     let five = transaction(
         5,
@@ -135,16 +94,6 @@ fn example() -> [Record; 7] {
         vote(0, 1, 1, five),
         vote(0, 1, 1, five),
     ]
-}
-
-fn bytes(records: &[Record]) -> Vec<u8> {
-    let mut bytes = Vec::new();
-    for record in records {
-        let mut buffer = [0; 102];
-        let length = write(record, &mut buffer).expect("the record is valid");
-        bytes.extend(&buffer[..length]);
-    }
-    bytes
 }
 
 #[test]
@@ -179,13 +128,6 @@ fn worked_example() {
 }
 
 #[test]
-fn worked_example_as_a_listing() {
-    let whole = "1 0 OPENED\n2 1 OPENED\n3 0 YES WAIT\n4 1 YES WAIT\n\
-                 5 0 HEARD COMMIT\n6 1 HEARD COMMIT\n7 1 AGAIN COMMIT\nTOTAL 5\n";
-    assert_eq!(listing(&bytes(&example())), whole);
-}
-
-#[test]
 fn cut_after_line_5_the_total_is_4() {
     let mut cluster = Cluster::new(LIMITS);
     let totals = example().map(|record| {
@@ -195,24 +137,9 @@ fn cut_after_line_5_the_total_is_4() {
         cluster.total()
     });
     assert_eq!(totals, [3, 5, 5, 5, 4, 5, 5]);
-    let cut = listing(&bytes(&example()[..5]));
-    assert!(cut.ends_with("5 0 HEARD COMMIT\nTOTAL 4\n"), "{cut}");
 }
 
-// Document 01: swaps at the edge, line by line.
-
-#[test]
-fn edge_empty_input() {
-    assert_eq!(listing(&[]), "TOTAL 0\n");
-}
-
-#[test]
-fn edge_99_and_100_bytes() {
-    let record = bytes(&example()[2..3]);
-    assert_eq!(record.len(), 100);
-    assert_eq!(listing(&record[..99]), "1 - REFUSED 2\nTOTAL 0\n");
-    assert_eq!(listing(&record), "1 0 NO WAIT\nTOTAL 0\n");
-}
+// Document 01: swaps at the edge, line by line; `listing.rs` has the first two.
 
 #[test]
 fn edge_amounts() {
