@@ -62,7 +62,6 @@ fn an_input_that_stays_open() {
 /// Document 01: after 1 or 2 it reads no further. So the program ends although
 /// its input is still open, where more could come.
 #[test]
-#[ignore = "the program asks for more input once before it ends"]
 fn an_unknown_kind_ends_an_open_input() {
     let mut child = spawn();
     let mut stdin = child.stdin.take().expect("the input is a pipe");
