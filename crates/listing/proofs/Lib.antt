@@ -5,3 +5,5 @@ pub mod Whole
 pub mod Play
 pub mod Reaching
 pub mod Running
+pub mod Ahead
+pub mod Buffered

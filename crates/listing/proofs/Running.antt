@@ -20,7 +20,7 @@ use Rattle.listing.specs.declared.fronts.Front.{Front}
 use Rattle.listing.specs.declared.buffers.Progress.{Progress}
 use Rattle.listing.specs.Parts.{Puts}
 use Rattle.listing.specs.Buffers.{Standing, further, going, goesOn, runWithin, runOf, ListsAll, Fronts, unheard, StepsAt, shownLine}
-use Rattle.listing.proofs.Steps.{taken-within}
+use Rattle.reader.proofs.Cases.{taken-within}
 use Rattle.listing.proofs.Stores.{then}
 use Rattle.listing.proofs.Whole.{taken-some}
 use Rattle.listing.proofs.Reaching.{of, Next, next}

@@ -4,14 +4,13 @@ use native.Mathlib.Omega.{arith}
 use mathlib.Core.Path.{_≡_, refl, sym, ap, _∙_, subst}
 use mathlib.Core.Bool.{Bool, true, false}
 use mathlib.Core.List.{List, [], _∷_}
-use borrow.Author.Tests.{eqb-true, eqb-false}
-use lib.Dec.{eqb, leb}
+use lib.Dec.{leb}
 use lib.ListN.{length}
 use Rattle.reader.specs.declared.Record.{Record}
 use Rattle.reader.specs.declared.Answer.the-variants.{Read, Refused}
 use Rattle.reader.specs.declared.Reading.{Reading}
-use Rattle.reader.specs.Reading.{headCause, takenOf, numberOf, readingOf, Reads}
-use Rattle.reader.proofs.Cases.{taken-all, taken-record, whole}
+use Rattle.reader.specs.Reading.{takenOf, numberOf, readingOf, Reads}
+use Rattle.reader.proofs.Cases.{taken-within}
 use Rattle.model.specs.declared.Answer as model
 use Rattle.model.specs.declared.Answer.the-variants as model-answer
 use Rattle.model.specs.Steps.{house}
@@ -22,16 +21,6 @@ use Rattle.cluster.specs.View.{view, Sound, Steps}
 use Rattle.listing.specs.Lines.{unplaced, placeWord, lineOf}
 use Rattle.listing.specs.Parts.{Shows}
 use Rattle.listing.specs.Listing.{callOf, receiverOf, Shown, shownCall, shownAs, stepOf, Lists}
-
--- the bytes taken are part of those handed over
-pub taken-within : (l : List ℕ) → takenOf l ≤ length l
-taken-within l = go (eqb (headCause l) 0) refl
-  where
-    go : (b : Bool) → eqb (headCause l) 0 ≡ b → takenOf l ≤ length l
-    go true e =
-        let h : headCause l ≡ 0 = eqb-true (headCause l) 0 e in
-        omega (arith, taken-record l h, whole l h)
-    go false e = omega (arith, taken-all l (eqb-false (headCause l) 0 e))
 
 module _ (c : Cluster) (sound : Sound c) (step : ℕ) (l lent : List ℕ) {r : Reading} (reads : Reads l r) where
   answer-of : readingOf l .answer ≡ r .answer

@@ -77,7 +77,7 @@ taken-some l n = go (eqb (headCause l) 0) refl
     go true e = omega (arith, taken-record l (eqb-true (headCause l) 0 e))
     go false e = omega (arith, taken-all l (eqb-false (headCause l) 0 e), n)
 
-fewer : (l : List ℕ) (n : ℕ) → (length l ≡ 0 → ⊥) → length l ≤ suc n → length (restOf l) ≤ n
+pub fewer : (l : List ℕ) (n : ℕ) → (length l ≡ 0 → ⊥) → length l ≤ suc n → length (restOf l) ≤ n
 unfolding restOf
 fewer l n some h = rw (length-drop) (omega (arith, taken-some l some))
 
@@ -85,25 +85,25 @@ behind : (bytes : List ℕ) {taken : ℕ} → taken ≡ takenOf bytes → drop t
 unfolding restOf
 behind bytes e = ap (λ (n : ℕ). drop n bytes) e
 
-nothing-left : (enough : ℕ) (shards : List Ledger) (step : ℕ) (bytes : List ℕ) → length bytes ≡ 0
+pub nothing-left : (enough : ℕ) (shards : List Ledger) (step : ℕ) (bytes : List ℕ) → length bytes ≡ 0
     → listingWithin enough shards step bytes ≡ totalLine (totalHeld shards)
 unfolding listingWithin
 nothing-left zero shards step bytes e = refl
 nothing-left (suc enough) shards step bytes e = rw (eq-eqb (length bytes) 0 e) refl
 
 module _ (enough : ℕ) (shards : List Ledger) (step : ℕ) (bytes : List ℕ) (some : length bytes ≡ 0 → ⊥) where
-  reading-ends : stepOf shards step bytes .ends ≡ true
+  pub reading-ends : stepOf shards step bytes .ends ≡ true
       → listingWithin (suc enough) shards step bytes ≡ stepOf shards step bytes .line ++ totalLine (totalHeld (stepOf shards step bytes .shards))
   unfolding listingWithin
   reading-ends e = rw (ne-eqb (length bytes) 0 some, e) refl
 
-  reading-on : stepOf shards step bytes .ends ≡ false
+  pub reading-on : stepOf shards step bytes .ends ≡ false
       → listingWithin (suc enough) shards step bytes
       ≡ stepOf shards step bytes .line ++ listingWithin enough (stepOf shards step bytes .shards) (step + 1) (restOf bytes)
   unfolding listingWithin
   reading-on e = rw (ne-eqb (length bytes) 0 some, e) refl
 
-joined : {a b c d : List ℕ} → a ≡ b → c ≡ d → a ++ c ≡ b ++ d
+pub joined : {a b c d : List ℕ} → a ≡ b → c ≡ d → a ++ c ≡ b ++ d
 joined p q = rw (p, q) refl
 
 printed : (enough : ℕ) {c : Cluster} {step : ℕ} {bytes text : List ℕ} → length bytes ≤ enough → Sound c → Prints c step bytes text
