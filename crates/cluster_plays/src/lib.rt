@@ -112,11 +112,11 @@ pub fn cluster_play(calls: &[u64], answers: &mut [u64], states: &mut [u64]) -> u
         }
         let part = &calls[at..];
         let stepped = play_call(c, part);
-        let after = stepped.cluster;
-        c = after;
         let answer = stepped.answer;
+        let after = stepped.cluster;
         answers[done] = answer_word(answer);
-        end = put_states(states, end, c);
+        end = put_states(states, end, after);
+        c = after;
         done += 1;
         at += 43;
     }

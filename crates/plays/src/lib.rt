@@ -132,11 +132,11 @@ pub fn shard_play(number: u8, calls: &[u64], answers: &mut [u64], states: &mut [
         }
         let part = &calls[at..];
         let stepped = play_call(s, part);
-        let after = stepped.shard;
-        s = after;
         let answer = stepped.answer;
+        let after = stepped.shard;
         answers[done] = answer_word(answer);
-        end = put_state(states, end, s);
+        end = put_state(states, end, after);
+        s = after;
         done += 1;
         at += 43;
     }
