@@ -8,7 +8,7 @@ use Rattle.reader.specs.declared.Reading.{Reading}
 use Rattle.reader.specs.Reading.{numberOf, readCause, readingOf, Reads}
 use Rattle.writer.specs.declared.Written.{Written}
 use Rattle.writer.specs.Writing.{Writes, answerOf, lentAfter}
-use Rattle.ffi.specs.Words.{transactionFrom}
+use Rattle.words.specs.Words.{transactionFrom}
 use Rattle.ffi.specs.Reading.{readingWords, Fills}
 use Rattle.ffi.specs.Writing.{codeOf, Encodes, EncodesWords}
 use Rattle.ffi.proofs.Lists.{short, long}

@@ -2,5 +2,3 @@ pub mod Lists
 pub mod Runs
 pub mod Answers
 pub mod Sums
-pub mod Rounds
-pub mod Compact

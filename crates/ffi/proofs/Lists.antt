@@ -6,7 +6,7 @@ use native.Mathlib.Omega.{arith}
 use borrow.Author.Tests.{le-leb, lt-leb}
 use lib.ListN.{length, getD, drop, drop-of-length-le}
 use lib.Seq.{drop-cons}
-use Rattle.ffi.specs.Words.{ifLong}
+use Rattle.words.specs.Words.{ifLong}
 
 module _ {A : Type 0} (size : ℕ) (words : List ℕ) (value less : A) where
   pub short : length words < size → less ≡ ifLong size words value less

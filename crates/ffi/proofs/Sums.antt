@@ -7,15 +7,12 @@ use native.Mathlib.Omega.{arith}
 use borrow.Author.Tests.{eqb-true, eqb-false, eq-eqb, ne-eqb}
 use lib.Dec.{eqb}
 use lib.ListN.{length, drop, take, length-drop}
-use lib.Seq.{drop-drop, take-all}
+use lib.Seq.{drop-drop}
 use Rattle.reader.specs.declared.Reading.{Reading}
 use Rattle.reader.specs.Reading.{readingOf, takenOf, restOf, Reads}
 use Rattle.reader.proofs.Cases.{taken-within}
+use Rattle.words.proofs.Parts.{tail}
 use Rattle.ffi.specs.Votes.{worthOf, nextBytes, sumOf}
-
--- a part from a place to the end
-pub tail : (l : List ℕ) (at : ℕ) → take (length l - at) (drop at l) ≡ drop at l
-tail l at = take-all (length l - at) (drop at l) (rw (length-drop at l) (omega arith))
 
 taken-of : (l : List ℕ) → readingOf l .taken ≡ takenOf l
 unfolding readingOf

@@ -9,7 +9,7 @@ use Rattle.reader.specs.declared.Answer.{Answer}
 use Rattle.reader.specs.declared.Answer.the-variants.{Read, Refused}
 use Rattle.reader.specs.declared.Reading.{Reading}
 use Rattle.reader.specs.Reading.{readCause, readingOf}
-use Rattle.ffi.specs.Words.{wordsOf, ifLong, ofWords}
+use Rattle.words.specs.Words.{wordsOf, ifLong, ofWords}
 
 -- kind, receiver, sender, verdict, index, owner, amount; fields that a kind does not have are 0
 unfoldable pub recordWords : Record → List ℕ

@@ -6,7 +6,7 @@ use lib.ListN.{length}
 use Rattle.writer.specs.declared.Written.{Written}
 use Rattle.writer.specs.declared.Written.the-variants.{Bytes, Refused}
 use Rattle.writer.specs.Writing.{answerOf, lentAfter}
-use Rattle.ffi.specs.Words.{ifLong, ofWords}
+use Rattle.words.specs.Words.{ifLong, ofWords}
 
 -- the number of bytes written, or 1000 times the refusal's number
 unfoldable pub codeOf : Written → ℕ

@@ -4,11 +4,8 @@
 // A call crosses as 43 words: kind (1 register, 2 vote, 3 mint), receiver, sender, verdict, index, owner, amount, 0, the transaction.
 // A list of words that is too short is answered by 255, and nothing is changed.
 
-pub mod words; // a transaction from its words
-pub mod stores; // a transaction into its words
 pub mod transactions; // the field checks, who takes part, equality
 pub mod reading; // a record read
 pub mod writing; // a record written
 pub mod votes; // many records read, for the benchmark
-pub mod states; // a shard's state into its words
-pub mod plays; // calls played on one shard
+pub mod ledgers; // calls played on one shard and on a cluster

@@ -6,12 +6,12 @@ ghost use lib.ListN.{length, drop};
 ghost use lib.Seq.{sets};
 ghost use Rattle.reader.specs.Reading.{numberOf, restOf};
 ghost use Rattle.ffi.specs.Reading.{recordWords, answerWords, readingWords, Fills};
-use crate::stores::put_transaction;
-use crate::words::wide_byte;
-use crate::words::wide_word;
 use reader::Answer;
 use reader::Reading;
 use reader::Record;
+use words::stores::put_transaction;
+use words::wide_byte;
+use words::wide_word;
 
 // The fields beside the transaction; those that a kind does not have are 0.
 fn record_words(fields: Record) -> [u64; 7]

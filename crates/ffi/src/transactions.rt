@@ -2,8 +2,8 @@
 ghost use mathlib.Core.Path.{_≡_};
 ghost use Rattle.transaction.specs.Tokens.{takesPart, sameTransaction};
 ghost use Rattle.transaction.specs.Checks.{causeOf};
-ghost use Rattle.ffi.specs.Words.{transactionFrom, ofWords, yes};
-use crate::words::transaction_from;
+ghost use Rattle.words.specs.Words.{transactionFrom, ofWords, yes};
+use words::transaction_from;
 
 fn yes_or_no(answer: bool) -> u8
     ensures { λ r. ⌜ r ≡ yes answer ⌝ }

@@ -4,11 +4,11 @@ ghost use mathlib.Core.Bool.{cond};
 ghost use Prim.Native.Nat.{_+_, _%_, _^_, _≤_, _<_};
 ghost use lib.Dec.{eqb};
 ghost use Rattle.ffi.specs.Votes.{transactionWorth, recordWorth, worthOf, sumOf};
-use crate::words::wide_byte;
-use crate::words::wide_word;
 use reader::Answer;
 use reader::Record;
 use transaction::Transaction;
+use words::wide_byte;
+use words::wide_word;
 
 // What a vote's transaction adds to the sum.
 fn transaction_worth(t: Transaction) -> u64

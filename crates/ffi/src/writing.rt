@@ -3,10 +3,10 @@ ghost use mathlib.Core.Path.{_≡_};
 ghost use lib.ListN.{length};
 ghost use Rattle.writer.specs.Layout.{registerBytes, voteBytes, mintBytes};
 ghost use Rattle.writer.specs.Writing.{registerCause, voteCause, mintCause};
-ghost use Rattle.ffi.specs.Words.{transactionFrom};
+ghost use Rattle.words.specs.Words.{transactionFrom};
 ghost use Rattle.ffi.specs.Writing.{codeOf, Encodes, EncodesWords};
-use crate::words::transaction_from;
-use crate::words::wide_byte;
+use words::transaction_from;
+use words::wide_byte;
 use writer::Written;
 
 fn code(answer: Written) -> u64

@@ -3,9 +3,6 @@ use mathlib.Core.Path.{_≡_, refl, sym, ap, _∙_}
 use borrow.Author.Needs.{needs}
 use Rattle.ffi.proofs.reading.answer_words.Statement.{statement}
 use Rattle.ffi.proofs.reading.answer_words.Tie as tie
-use Rattle.ffi.proofs.reading.answer_words.Reads as reads
-use Rattle.ffi.proofs.reading.answer_words.Lts as lts
-use Rattle.ffi.proofs.reading.record_words.Reads as record-words-reads
 
 enum-known-answer : tie.Need-enum-known-answer
 enum-known-answer c = search needs

@@ -3,11 +3,6 @@ use denote.Ref.{now}
 use borrow.Author.Needs.{needs}
 use Rattle.ffi.proofs.reading.engine_read.Statement.{statement}
 use Rattle.ffi.proofs.reading.engine_read.Tie as tie
-use Rattle.ffi.proofs.reading.engine_read.Reads as reads
-use Rattle.ffi.proofs.reading.engine_read.Lts as lts
-use Rattle.ffi.proofs.reading.number_of.Reads as number-of-reads
-use Rattle.ffi.proofs.reading.put_reading.Reads as put-reading-reads
-use Rattle.reader.proofs.read.Reads as read-reads
 
 returns : tie.Need-returns
 returns c =

@@ -3,9 +3,6 @@ use mathlib.Core.Path.{_≡_, refl, sym, ap, _∙_}
 use borrow.Author.Needs.{needs}
 use Rattle.ffi.proofs.reading.engine_rest.Statement.{statement}
 use Rattle.ffi.proofs.reading.engine_rest.Tie as tie
-use Rattle.ffi.proofs.reading.engine_rest.Reads as reads
-use Rattle.ffi.proofs.reading.engine_rest.Lts as lts
-use Rattle.reader.proofs.rest.Reads as rest-reads
 
 rest-requires : tie.Need-rest-requires
 rest-requires c κs = search needs

@@ -9,8 +9,6 @@ use denote.Ref.{now}
 use borrow.Author.Needs.{needs}
 use Rattle.ffi.proofs.reading.put_answer.Statement.{statement}
 use Rattle.ffi.proofs.reading.put_answer.Tie as tie
-use Rattle.ffi.proofs.reading.put_answer.Reads as reads
-use Rattle.ffi.proofs.reading.put_answer.Lts as lts
 
 array-read-out : tie.Need-array-read-out
 array-read-out c = search needs

@@ -3,11 +3,6 @@ use denote.Ref.{now}
 use borrow.Author.Needs.{needs}
 use Rattle.ffi.proofs.reading.put_reading.Statement.{statement}
 use Rattle.ffi.proofs.reading.put_reading.Tie as tie
-use Rattle.ffi.proofs.reading.put_reading.Reads as reads
-use Rattle.ffi.proofs.reading.put_reading.Lts as lts
-use Rattle.ffi.proofs.reading.answer_words.Reads as answer-words-reads
-use Rattle.ffi.proofs.reading.put_answer.Reads as put-answer-reads
-use Rattle.ffi.proofs.stores.put_transaction.Reads as put-transaction-reads
 
 answer-words-requires : tie.Need-answer-words-requires
 answer-words-requires c κs = search needs

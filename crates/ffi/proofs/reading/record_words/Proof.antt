@@ -3,10 +3,6 @@ use mathlib.Core.Path.{_≡_, refl, sym, ap, _∙_}
 use borrow.Author.Needs.{needs}
 use Rattle.ffi.proofs.reading.record_words.Statement.{statement}
 use Rattle.ffi.proofs.reading.record_words.Tie as tie
-use Rattle.ffi.proofs.reading.record_words.Reads as reads
-use Rattle.ffi.proofs.reading.record_words.Lts as lts
-use Rattle.ffi.proofs.words.wide_byte.Reads as wide-byte-reads
-use Rattle.ffi.proofs.words.wide_word.Reads as wide-word-reads
 
 enum-known-fields : tie.Need-enum-known-fields
 enum-known-fields c = search needs

@@ -1,15 +1,11 @@
 use Rattle.transaction.specs.Checks.{causeOf}
-use Rattle.ffi.specs.Words.{transactionFrom}
+use Rattle.words.specs.Words.{transactionFrom}
 use Rattle.ffi.proofs.Lists.{short, long}
 use mathlib.Core.Path.{_≡_, refl, sym, ap, _∙_}
 use denote.Ref.{now}
 use borrow.Author.Needs.{needs}
 use Rattle.ffi.proofs.transactions.engine_cause.Statement.{statement}
 use Rattle.ffi.proofs.transactions.engine_cause.Tie as tie
-use Rattle.ffi.proofs.transactions.engine_cause.Reads as reads
-use Rattle.ffi.proofs.transactions.engine_cause.Lts as lts
-use Rattle.ffi.proofs.words.transaction_from.Reads as transaction-from-reads
-use Rattle.transaction.proofs.checks.cause.Reads as cause-reads
 
 returns : tie.Need-returns
 returns c =

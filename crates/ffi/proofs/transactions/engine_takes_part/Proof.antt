@@ -1,16 +1,11 @@
 use Rattle.transaction.specs.Tokens.{takesPart}
-use Rattle.ffi.specs.Words.{transactionFrom, yes}
+use Rattle.words.specs.Words.{transactionFrom, yes}
 use Rattle.ffi.proofs.Lists.{short, long}
 use mathlib.Core.Path.{_≡_, refl, sym, ap, _∙_}
 use denote.Ref.{now}
 use borrow.Author.Needs.{needs}
 use Rattle.ffi.proofs.transactions.engine_takes_part.Statement.{statement}
 use Rattle.ffi.proofs.transactions.engine_takes_part.Tie as tie
-use Rattle.ffi.proofs.transactions.engine_takes_part.Reads as reads
-use Rattle.ffi.proofs.transactions.engine_takes_part.Lts as lts
-use Rattle.ffi.proofs.transactions.yes_or_no.Reads as yes-or-no-reads
-use Rattle.ffi.proofs.words.transaction_from.Reads as transaction-from-reads
-use Rattle.transaction.proofs.parts.takes_part.Reads as takes-part-reads
 
 returns : tie.Need-returns
 returns c =

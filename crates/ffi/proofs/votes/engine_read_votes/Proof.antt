@@ -3,11 +3,6 @@ use borrow.Author.Needs.{needs}
 use denote.Ref.{now}
 use Rattle.ffi.proofs.votes.engine_read_votes.Statement.{statement}
 use Rattle.ffi.proofs.votes.engine_read_votes.Tie as tie
-use Rattle.ffi.proofs.votes.engine_read_votes.Reads as reads
-use Rattle.ffi.proofs.votes.engine_read_votes.Lts as lts
-use Rattle.ffi.proofs.votes.next_place.Reads as next-place-reads
-use Rattle.ffi.proofs.votes.worth.Reads as worth-reads
-use Rattle.reader.proofs.read.Reads as read-reads
 use Rattle.std.proofs.num.wrapping_add_u64.Reads as wrapping-add-u64-reads
 
 abbrev Inv-loop : tie.InvT-loop

@@ -3,8 +3,6 @@ use mathlib.Core.Path.{_≡_, refl, sym, ap, _∙_}
 use borrow.Author.Needs.{needs}
 use Rattle.ffi.proofs.votes.next_place.Statement.{statement}
 use Rattle.ffi.proofs.votes.next_place.Tie as tie
-use Rattle.ffi.proofs.votes.next_place.Reads as reads
-use Rattle.ffi.proofs.votes.next_place.Lts as lts
 
 add-next : tie.Need-add-next
 add-next c = search needs

@@ -3,11 +3,6 @@ use mathlib.Core.Path.{_≡_, refl, sym, ap, _∙_}
 use borrow.Author.Needs.{needs}
 use Rattle.ffi.proofs.votes.record_worth.Statement.{statement}
 use Rattle.ffi.proofs.votes.record_worth.Tie as tie
-use Rattle.ffi.proofs.votes.record_worth.Reads as reads
-use Rattle.ffi.proofs.votes.record_worth.Lts as lts
-use Rattle.ffi.proofs.votes.transaction_worth.Reads as transaction-worth-reads
-use Rattle.ffi.proofs.words.wide_byte.Reads as wide-byte-reads
-use Rattle.ffi.proofs.words.wide_word.Reads as wide-word-reads
 
 enum-known-fields : tie.Need-enum-known-fields
 enum-known-fields c = search needs

@@ -4,9 +4,6 @@ use mathlib.Core.Path.{_≡_, refl, sym, ap, _∙_}
 use borrow.Author.Needs.{needs}
 use Rattle.ffi.proofs.votes.transaction_worth.Statement.{statement}
 use Rattle.ffi.proofs.votes.transaction_worth.Tie as tie
-use Rattle.ffi.proofs.votes.transaction_worth.Reads as reads
-use Rattle.ffi.proofs.votes.transaction_worth.Lts as lts
-use Rattle.ffi.proofs.words.wide_word.Reads as wide-word-reads
 
 array-copy-out-input : tie.Need-array-copy-out-input
 array-copy-out-input c = search needs

@@ -3,9 +3,6 @@ use mathlib.Core.Path.{_≡_, refl, sym, ap, _∙_}
 use borrow.Author.Needs.{needs}
 use Rattle.ffi.proofs.writing.code.Statement.{statement}
 use Rattle.ffi.proofs.writing.code.Tie as tie
-use Rattle.ffi.proofs.writing.code.Reads as reads
-use Rattle.ffi.proofs.writing.code.Lts as lts
-use Rattle.ffi.proofs.words.wide_byte.Reads as wide-byte-reads
 
 enum-known-answer : tie.Need-enum-known-answer
 enum-known-answer c = search needs

@@ -2,10 +2,6 @@ use Rattle.ffi.proofs.Answers.{encodes}
 use borrow.Author.Needs.{needs}
 use Rattle.ffi.proofs.writing.engine_write_mint.Statement.{statement}
 use Rattle.ffi.proofs.writing.engine_write_mint.Tie as tie
-use Rattle.ffi.proofs.writing.engine_write_mint.Reads as reads
-use Rattle.ffi.proofs.writing.engine_write_mint.Lts as lts
-use Rattle.ffi.proofs.writing.code.Reads as code-reads
-use Rattle.writer.proofs.write_mint.Reads as write-mint-reads
 
 write-mint-requires : tie.Need-write-mint-requires
 write-mint-requires c κs = search needs

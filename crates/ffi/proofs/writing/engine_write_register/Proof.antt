@@ -7,11 +7,6 @@ use denote.Ref.{now}
 use borrow.Author.Needs.{needs}
 use Rattle.ffi.proofs.writing.engine_write_register.Statement.{statement}
 use Rattle.ffi.proofs.writing.engine_write_register.Tie as tie
-use Rattle.ffi.proofs.writing.engine_write_register.Reads as reads
-use Rattle.ffi.proofs.writing.engine_write_register.Lts as lts
-use Rattle.ffi.proofs.words.transaction_from.Reads as transaction-from-reads
-use Rattle.ffi.proofs.writing.code.Reads as code-reads
-use Rattle.writer.proofs.write_register.Reads as write-register-reads
 
 returns : tie.Need-returns
 returns c =

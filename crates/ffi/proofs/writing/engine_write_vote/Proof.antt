@@ -7,11 +7,6 @@ use denote.Ref.{now}
 use borrow.Author.Needs.{needs}
 use Rattle.ffi.proofs.writing.engine_write_vote.Statement.{statement}
 use Rattle.ffi.proofs.writing.engine_write_vote.Tie as tie
-use Rattle.ffi.proofs.writing.engine_write_vote.Reads as reads
-use Rattle.ffi.proofs.writing.engine_write_vote.Lts as lts
-use Rattle.ffi.proofs.words.transaction_from.Reads as transaction-from-reads
-use Rattle.ffi.proofs.writing.code.Reads as code-reads
-use Rattle.writer.proofs.write_vote.Reads as write-vote-reads
 
 returns : tie.Need-returns
 returns c =

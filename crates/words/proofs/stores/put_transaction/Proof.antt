@@ -1,0 +1,56 @@
+use Rattle.words.proofs.Runs.{transaction-run}
+use denote.Ref.{now}
+use borrow.Author.Needs.{needs}
+use Rattle.words.proofs.stores.put_transaction.Statement.{statement}
+use Rattle.words.proofs.stores.put_transaction.Tie as tie
+
+put-word-requires : tie.Need-put-word-requires
+put-word-requires c κs = search needs
+
+add-put-byte : tie.Need-add-put-byte
+add-put-byte c = search needs
+
+put-byte-requires : tie.Need-put-byte-requires
+put-byte-requires c κs = search needs
+
+add-put-byte-2 : tie.Need-add-put-byte-2
+add-put-byte-2 c = search needs
+
+put-byte-requires-2 : tie.Need-put-byte-requires-2
+put-byte-requires-2 c κs = search needs
+
+add-put-inputs : tie.Need-add-put-inputs
+add-put-inputs c = search needs
+
+put-inputs-requires : tie.Need-put-inputs-requires
+put-inputs-requires c κs = search needs
+
+add-put-outputs : tie.Need-add-put-outputs
+add-put-outputs c = search needs
+
+put-outputs-requires : tie.Need-put-outputs-requires
+put-outputs-requires c κs = search needs
+
+same-length : tie.Need-same-length
+same-length c = search needs
+
+returns : tie.Need-returns
+returns c =
+    let a = c .before .before .before .before .before .before .before .before .before .before .before .before .before .before .before .before .before .before .before .before .before .before .before .args in
+    transaction-run (now (a .out)) (a .at) (a .t) (c .before .before .before .before .before .before .before .before .before .before .before .before .before .before .before .before .before .before .put-word .ensures) (c .before .before .before .before .before .before .before .before .before .before .before .before .before .before .put-byte .ensures) (c .before .before .before .before .before .before .before .before .before .before .put-byte2 .ensures) (c .before .before .before .before .before .before .put-inputs .ensures) (c .before .before .put-outputs .ensures)
+
+pub put-transaction-spec : {M : Type 1} → statement M
+put-transaction-spec =
+    tie.close
+    (tie.spec
+    put-word-requires
+    add-put-byte
+    put-byte-requires
+    add-put-byte-2
+    put-byte-requires-2
+    add-put-inputs
+    put-inputs-requires
+    add-put-outputs
+    put-outputs-requires
+    same-length
+    returns)
