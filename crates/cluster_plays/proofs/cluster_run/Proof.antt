@@ -1,3 +1,4 @@
+use native.Mathlib.Omega.{arith}
 use borrow.Author.Needs.{needs}
 use Rattle.plays.specs.Games.{roundOf}
 use Rattle.cluster_plays.specs.Plays.{clusterGame}
@@ -27,10 +28,10 @@ loop-less : tie.Need-loop-less Inv-loop μ-loop
 loop-less c = search needs
 
 loop-again : tie.Need-loop-again Inv-loop μ-loop
-loop-again c = rounds-next _ _ (c .before .before .before .loop .inv) (c .before .before .loop-test .taken) (c .before .play-round .ensures) (c .wrapping-add-u64 .ensures)
+loop-again c = rounds-next _ _ (c .before .before .before .loop .inv) (omega (arith, c .before .before .loop-test .taken)) (c .before .play-round .ensures) (c .wrapping-add-u64 .ensures)
 
 returns : tie.Need-returns Inv-loop μ-loop
-returns c = rounds-end _ _ (c .before .loop .inv) (c .loop-test .left)
+returns c = rounds-end _ _ (c .before .loop .inv) (omega (arith, c .loop-test .left))
 
 pub cluster-run-spec : {M : Type 1} → statement M
 cluster-run-spec =

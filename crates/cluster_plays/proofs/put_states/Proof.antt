@@ -1,4 +1,5 @@
 use Prim.Native.Nat.{_-_}
+use native.Mathlib.Omega.{arith}
 use borrow.Author.Needs.{needs}
 use denote.Ref.{now}
 use Rattle.cluster.proofs.Long.{eight}
@@ -19,7 +20,7 @@ shard-of-requires : tie.Need-shard-of-requires Inv-loop μ-loop
 shard-of-requires c κs = c .before .before .before .pre .0
 
 put-state-requires : tie.Need-put-state-requires Inv-loop μ-loop
-put-state-requires c κs = (c .before .shard-of .ensures .sound, put-room (c .before .before .before .before .before .args .c) (eight-ledgers (c .before .before .before .before .before .args .c) (eight (c .before .before .before .before .before .args .c) (c .before .before .before .before .before .good .1 .1 .0))) (now (c .before .before .before .before .before .args .out)) (c .before .before .before .before .before .args .at) (c .before .before .before .loop .inv) (c .before .before .loop-test .taken) (c .before .before .before .before .before .pre .1))
+put-state-requires c κs = (c .before .shard-of .ensures .sound, put-room (c .before .before .before .before .before .args .c) (eight-ledgers (c .before .before .before .before .before .args .c) (eight (c .before .before .before .before .before .args .c) (c .before .before .before .before .before .good .1 .1 .0))) (now (c .before .before .before .before .before .args .out)) (c .before .before .before .before .before .args .at) (c .before .before .before .loop .inv) (omega (arith, c .before .before .loop-test .taken)) (c .before .before .before .before .before .pre .1))
 
 add-i : tie.Need-add-i Inv-loop μ-loop
 add-i c = search needs
@@ -28,13 +29,13 @@ loop-less : tie.Need-loop-less Inv-loop μ-loop
 loop-less c = search needs
 
 loop-again : tie.Need-loop-again Inv-loop μ-loop
-loop-again c = put-next (c .before .before .before .before .before .before .before .before .args .c) (eight-ledgers (c .before .before .before .before .before .before .before .before .args .c) (eight (c .before .before .before .before .before .before .before .before .args .c) (c .before .before .before .before .before .before .before .before .good .1 .1 .0))) (now (c .before .before .before .before .before .before .before .before .args .out)) (c .before .before .before .before .before .before .before .before .args .at) (c .before .before .before .before .before .before .loop .inv) (c .before .before .before .before .before .loop-test .taken) (c .before .before .before .before .shard-of .ensures) (c .before .before .put-state .ensures .0) (c .before .before .put-state .ensures .1)
+loop-again c = put-next (c .before .before .before .before .before .before .before .before .args .c) (eight-ledgers (c .before .before .before .before .before .before .before .before .args .c) (eight (c .before .before .before .before .before .before .before .before .args .c) (c .before .before .before .before .before .before .before .before .good .1 .1 .0))) (now (c .before .before .before .before .before .before .before .before .args .out)) (c .before .before .before .before .before .before .before .before .args .at) (c .before .before .before .before .before .before .loop .inv) (omega (arith, c .before .before .before .before .before .loop-test .taken)) (c .before .before .before .before .shard-of .ensures) (c .before .before .put-state .ensures .0) (c .before .before .put-state .ensures .1)
 
 same-length : tie.Need-same-length Inv-loop μ-loop
 same-length c = put-size (c .before .before .before .args .c) (eight-ledgers (c .before .before .before .args .c) (eight (c .before .before .before .args .c) (c .before .before .before .good .1 .1 .0))) (now (c .before .before .before .args .out)) (c .before .before .before .args .at) (c .before .loop .inv)
 
 returns : tie.Need-returns Inv-loop μ-loop
-returns c = put-end (c .before .before .before .args .c) (eight-ledgers (c .before .before .before .args .c) (eight (c .before .before .before .args .c) (c .before .before .before .good .1 .1 .0))) (now (c .before .before .before .args .out)) (c .before .before .before .args .at) (c .before .loop .inv) (c .loop-test .left)
+returns c = put-end (c .before .before .before .args .c) (eight-ledgers (c .before .before .before .args .c) (eight (c .before .before .before .args .c) (c .before .before .before .good .1 .1 .0))) (now (c .before .before .before .args .out)) (c .before .before .before .args .at) (c .before .loop .inv) (omega (arith, c .loop-test .left))
 
 pub put-states-spec : {M : Type 1} → statement M
 put-states-spec =
