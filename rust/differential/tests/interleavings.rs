@@ -94,7 +94,9 @@ fn every_order_of_every_scenario() {
     let played: Vec<Played> = thread::scope(|scope| {
         let running: Vec<_> = (0..workers).map(|_| scope.spawn(worker)).collect();
         let ended = running.into_iter().map(|worker| worker.join());
-        ended.flat_map(|played| played.expect("a scenario failed")).collect()
+        ended
+            .flat_map(|played| played.expect("a scenario failed"))
+            .collect()
     });
     assert_eq!(played.len(), scenarios.len());
     let (mut orders, mut all) = (0, Tally::default());
