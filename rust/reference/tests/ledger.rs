@@ -1,60 +1,17 @@
 //! The reference's ledgers held to document 01: its worked example, its edges,
 //! its order of refusals and its limits.
 
+#[path = "common/records.rs"]
+mod records;
+
 use reference::{
-    Answer, Cluster, Done, Input, LIMITS, Limits, Outcome, Output, Record, Refusal, Shard, Token,
-    TokenId, Transaction, Verdict,
+    Answer, Cluster, Done, LIMITS, Limits, Outcome, Record, Refusal, Shard, Token, Transaction,
+    Verdict,
 };
 
 use Outcome::{Abort, Commit, Wait};
 use Verdict::{No, Yes};
-
-type InputFields = (u8, u32, u8, u32, u32);
-type OutputFields = (u8, u32, u32);
-
-fn transaction(number: u32, inputs: &[InputFields], outputs: &[OutputFields]) -> Transaction {
-    let mut transaction = Transaction {
-        number,
-        input_count: inputs.len() as u8,
-        output_count: outputs.len() as u8,
-        ..Transaction::default()
-    };
-    for (slot, &(shard, creator, index, owner, amount)) in inputs.iter().enumerate() {
-        transaction.inputs[slot] = Input {
-            token: TokenId {
-                shard,
-                creator,
-                index,
-            },
-            owner,
-            amount,
-        };
-    }
-    for (slot, &(shard, owner, amount)) in outputs.iter().enumerate() {
-        transaction.outputs[slot] = Output {
-            shard,
-            owner,
-            amount,
-        };
-    }
-    transaction
-}
-
-fn mint(receiver: u8, index: u8, owner: u32, amount: u32) -> Record {
-    Record::Mint {
-        receiver,
-        index,
-        owner,
-        amount,
-    }
-}
-
-fn register(receiver: u8, transaction: Transaction) -> Record {
-    Record::Register {
-        receiver,
-        transaction,
-    }
-}
+use records::{mint, register, transaction};
 
 fn vote(sender: u8, receiver: u8, verdict: u8, transaction: Transaction) -> Record {
     Record::Vote {

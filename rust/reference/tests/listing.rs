@@ -3,57 +3,15 @@
 
 use std::io::{self, Read, Write};
 
-use reference::{
-    Input, Output, Record, TokenId, Transaction, decode, encode, list, listing, read, write,
-};
+#[path = "common/example.rs"]
+mod example;
+#[path = "common/records.rs"]
+mod records;
 
-type InputFields = (u8, u32, u8, u32, u32);
-type OutputFields = (u8, u32, u32);
+use reference::{Record, Transaction, decode, encode, list, listing, read, write};
 
-fn transaction(number: u32, inputs: &[InputFields], outputs: &[OutputFields]) -> Transaction {
-    let mut transaction = Transaction {
-        number,
-        input_count: inputs.len() as u8,
-        output_count: outputs.len() as u8,
-        ..Transaction::default()
-    };
-    for (slot, &(shard, creator, index, owner, amount)) in inputs.iter().enumerate() {
-        let token = TokenId {
-            shard,
-            creator,
-            index,
-        };
-        transaction.inputs[slot] = Input {
-            token,
-            owner,
-            amount,
-        };
-    }
-    for (slot, &(shard, owner, amount)) in outputs.iter().enumerate() {
-        transaction.outputs[slot] = Output {
-            shard,
-            owner,
-            amount,
-        };
-    }
-    transaction
-}
-
-fn mint(receiver: u8, index: u8, owner: u32, amount: u32) -> Record {
-    Record::Mint {
-        receiver,
-        index,
-        owner,
-        amount,
-    }
-}
-
-fn register(receiver: u8, transaction: Transaction) -> Record {
-    Record::Register {
-        receiver,
-        transaction,
-    }
-}
+use example::TRANSACTION;
+use records::{mint, register, transaction};
 
 fn vote(verdict: u8, sender: u8, receiver: u8, transaction: Transaction) -> Record {
     Record::Vote {
@@ -120,18 +78,6 @@ fn worked_example() {
 /// encoder is held to document 01 as well.
 #[test]
 fn worked_example_byte_by_byte() {
-    #[rustfmt::skip]
-    let swap: [u8; 98] = [
-        0, 0, 0, 5, 2, 2,
-        0, 0, 0, 0, 0, 0, 0, 0, 0, 10, 0, 0, 0, 3,
-        1, 0, 0, 0, 0, 0, 0, 0, 0, 20, 0, 0, 0, 2,
-        0, 0, 0, 0, 0, 0, 0, 0, 0, 0, 0, 0, 0, 0,
-        0, 0, 0, 0, 0, 0, 0, 0, 0, 0, 0, 0, 0, 0,
-        1, 0, 0, 0, 10, 0, 0, 0, 3,
-        0, 0, 0, 0, 20, 0, 0, 0, 2,
-        0, 0, 0, 0, 0, 0, 0, 0, 0,
-        0, 0, 0, 0, 0, 0, 0, 0, 0,
-    ];
     let mut week = vec![3, 0, 0, 0, 0, 0, 10, 0, 0, 0, 3];
     week.extend([3, 1, 0, 0, 0, 0, 20, 0, 0, 0, 2]);
     for head in [
@@ -142,7 +88,7 @@ fn worked_example_byte_by_byte() {
         &[2, 1, 0, 1],
     ] {
         week.extend(head);
-        week.extend(swap);
+        week.extend(TRANSACTION);
     }
     assert_eq!(bytes(&example()), week);
     assert_eq!(listing(&week), EXAMPLE.as_bytes());
