@@ -3,7 +3,3 @@ pub mod Stores
 pub mod Steps
 pub mod Whole
 pub mod Play
-pub mod Reaching
-pub mod Running
-pub mod Ahead
-pub mod Buffered

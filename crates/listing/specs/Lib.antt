@@ -2,4 +2,3 @@ pub mod Lines
 pub mod Parts
 pub mod Listing
 pub mod Play
-pub mod Buffers

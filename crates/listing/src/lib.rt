@@ -14,8 +14,6 @@ use transaction::Transaction;
 
 pub mod words; // words stored into a line
 pub mod lines; // whole lines
-pub mod fronts; // the record at the front, and the shards that it reaches
-pub mod buffers; // a buffer of records in one go
 
 // The cluster after a step, the size of its line, the bytes taken from the front, and whether reading ends.
 pub struct Listed {
@@ -26,7 +24,7 @@ pub struct Listed {
 }
 
 // The number of a refusal, 0 where a record was read.
-fn cause_of(answer: reader::Answer) -> u8
+pub fn cause_of(answer: reader::Answer) -> u8
     ensures { λ r. ⌜ r ≡ numberOf answer ⌝ }
 {
     match answer {
@@ -35,7 +33,7 @@ fn cause_of(answer: reader::Answer) -> u8
     }
 }
 
-fn receiver_of(fields: Record) -> u8
+pub fn receiver_of(fields: Record) -> u8
     ensures { λ r. ⌜ r ≡ receiverOf fields ⌝ }
 {
     match fields {
@@ -55,7 +53,7 @@ fn receiver_of(fields: Record) -> u8
 }
 
 // No shard is shown for refusals 1 to 5.
-fn is_unplaced(answer: model::Answer) -> bool
+pub fn is_unplaced(answer: model::Answer) -> bool
     ensures { λ r. ⌜ r ≡ unplaced answer ⌝ }
 {
     match answer {

@@ -7,9 +7,9 @@ use lib.ListN.{length, take, drop, length-append, length-drop}
 use lib.Seq.{take-all, drop-at, drop-length, length-take-le}
 use borrow.Rule.Slice.PartMut.{postOf, putMid, post-is}
 use Rattle.cluster.specs.declared.Cluster.{Cluster}
-use Rattle.listing.specs.declared.buffers.Progress.{Progress}
+use Rattle.buffers.specs.declared.Progress.{Progress}
 use Rattle.listing.specs.Parts.{Shows}
-use Rattle.listing.specs.Buffers.{ListsAll}
+use Rattle.buffers.specs.Buffers.{ListsAll}
 
 -- what was put behind a place is what then stands behind it
 behind-put : (a : ℕ) (xs ys : List ℕ) → a ≤ length xs → drop a (putMid a (length xs - a) xs ys) ≡ ys

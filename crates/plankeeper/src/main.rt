@@ -3,12 +3,12 @@ ghost use mathlib.Core.Path.{_≡_};
 ghost use Prim.Native.Nat.{_+_, _-_, _≤_, _<_};
 ghost use lib.ListN.{length, take, drop};
 ghost use Rattle.cluster.specs.View.{Sound};
-ghost use Rattle.listing.specs.Buffers.{ListsAll};
+ghost use Rattle.buffers.specs.Buffers.{ListsAll};
+use buffers::Progress;
+use buffers::list_records;
 use cluster::Cluster;
 use libc::STDIN_FILENO;
 use libc::STDOUT_FILENO;
-use listing::buffers::Progress;
-use listing::buffers::list_records;
 
 // The unread bytes of the buffer. A record is 102 bytes long at most: so many are wanted before one is handed over, and none at the end of the input.
 struct Unread {

@@ -1,0 +1,4 @@
+pub mod Reaching
+pub mod Running
+pub mod Ahead
+pub mod Buffered
