@@ -6,11 +6,11 @@
 use Prim.Native.Nat.{ℕ, zero, suc, _+_, _-_, _≤_, _<_}
 use native.Mathlib.Omega.{arith}
 use mathlib.Core.Path.{_≡_, refl, sym, ap, _∙_, subst}
-use mathlib.Core.Bool.{Bool, true, false, not, cond, _&&_}
+use mathlib.Core.Bool.{Bool, true, false, cond}
 use mathlib.Core.List.{List, [], _∷_, _++_, append-assoc, append-nil}
 use mathlib.Core.Logic.{_⊎_, inl, inr}
-use borrow.Author.Tests.{eqb-true, eqb-false, ltb-true, leb-true, leb-false, not-true}
-use lib.Dec.{eqb, leb, ltb}
+use borrow.Author.Tests.{eqb-true, eqb-false, leb-false}
+use lib.Dec.{eqb, leb}
 use lib.ListN.{length, take, drop, length-append}
 use lib.Seq.{take-at}
 use base.Fml.{GName}
@@ -20,7 +20,7 @@ use Rattle.reader.specs.Layout.{bodyLength}
 use Rattle.reader.specs.Reading.{kindOf, headCause, readingOf, restOf}
 use Rattle.reader.proofs.Cases.{reading-none}
 use Rattle.model.specs.Steps.{Ledger}
-use Rattle.model.proofs.Basics.{both, clash}
+use Rattle.model.proofs.Basics.{clash}
 use Rattle.cluster.specs.declared.Cluster.{Cluster}
 use Rattle.cluster.specs.View.{view, Sound}
 use Rattle.cluster.specs.Queries.{totalHeld}
@@ -30,6 +30,7 @@ use Rattle.listing.specs.Lines.{totalLine}
 use Rattle.listing.specs.Listing.{Shown, shownAs, stepOf, listingWithin, listingOf}
 use Rattle.buffers.specs.Buffers.{Standing, further, goesOn, runWithin, start, runOf, ListsAll}
 use Rattle.listing.proofs.Whole.{refers, Totalled, shown, fewer, nothing-left, reading-ends, reading-on, joined}
+use Rattle.buffers.proofs.Running.{Goes, told}
 use Rattle.buffers.proofs.Ahead.{same-step, same-rest}
 use Rattle.buffers.proofs.list_records.Reads as of-records
 
@@ -110,22 +111,8 @@ record Stands (text : List ℕ) (p : Standing) (rest : List ℕ) : Type 0 where
   pub turns : p .ends ≡ false → length (p .bytes ++ rest) ≤ enough
   pub same : text ≡ ahead enough p rest
 
--- what the test of a turn tells
-record Test (wanted : ℕ) (p : Standing) : Type 0 where
-  pub on : p .ends ≡ false
-  pub some : 0 < length (p .bytes)
-  pub many : wanted ≤ length (p .bytes)
-
-tests : (wanted room : ℕ) (p : Standing) → goesOn wanted room p ≡ true → Test wanted p
-tests wanted room p e =
-    let a = both (not (p .ends) && ltb 0 (length (p .bytes)) && leb wanted (length (p .bytes)) && leb 64 (room - length (p .text))) (ltb (p .step) 18446744073709551615) e in
-    let b = both (not (p .ends) && ltb 0 (length (p .bytes)) && leb wanted (length (p .bytes))) (leb 64 (room - length (p .text))) (a .0) in
-    let d = both (not (p .ends) && ltb 0 (length (p .bytes))) (leb wanted (length (p .bytes))) (b .0) in
-    let f = both (not (p .ends)) (ltb 0 (length (p .bytes))) (d .0) in
-    record { on = not-true (p .ends) (f .0); some = ltb-true 0 (length (p .bytes)) (f .1); many = leb-true wanted (length (p .bytes)) (d .1) }
-
 module _ (wanted room : ℕ) (rest : List ℕ) (fits : Fits wanted rest) where
-  turn : (text : List ℕ) (p : Standing) → Test wanted p → Stands text p rest → Stands text (further p) rest
+  turn : (text : List ℕ) (p : Standing) → Goes (p .ends) (length (p .bytes)) wanted (room - length (p .text)) (p .step) → Stands text p rest → Stands text (further p) rest
   unfolding further
   turn text p t s = go (s .enough) (s .turns (t .on)) (s .same) (stepOf (p .shards) (p .step) (p .bytes) .ends) refl
     where
@@ -164,7 +151,7 @@ module _ (wanted room : ℕ) (rest : List ℕ) (fits : Fits wanted rest) where
     where
       go : (b : Bool) → goesOn wanted room p ≡ b → (Stands text (further p) rest → Stands text (runWithin n wanted room (further p)) rest)
           → Stands text (runWithin (suc n) wanted room p) rest
-      go true e h = rw e (h (turn text p (tests wanted room p e) s))
+      go true e h = rw e (h (turn text p (told (p .ends) (length (p .bytes)) wanted (room - length (p .text)) (p .step) e) s))
       go false e h = rw e s
 
 -- ---- the theorem

@@ -37,7 +37,7 @@ use Rattle.cluster.proofs.Shards.{ledger-of, carried, refused, vote-16, vote-go
 use Rattle.buffers.specs.declared.fronts.Front.{Front}
 use Rattle.listing.specs.Lines.{placeWord, lineOf}
 use Rattle.listing.specs.Listing.{callOf, receiverOf, Shown, shownCall, shownAs, stepOf}
-use Rattle.buffers.specs.Buffers.{senderOf, placeOf, giverOf, endsReading, Fronts, unheardVote, unheard, Unchanged, CallAt, StepsAt, hidden, shownLine}
+use Rattle.buffers.specs.Parts.{senderOf, placeOf, giverOf, endsReading, Fronts, unheardVote, unheard, Unchanged, CallAt, StepsAt, hidden, shownLine}
 use Rattle.listing.specs.Parts.{Puts, Shows}
 use Rattle.listing.proofs.Whole.{shown}
 

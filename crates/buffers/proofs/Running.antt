@@ -5,7 +5,7 @@ use native.Mathlib.Omega.{arith}
 use mathlib.Core.Path.{_≡_, refl, sym, ap, _∙_, subst}
 use mathlib.Core.Bool.{Bool, true, false, not, _&&_}
 use mathlib.Core.List.{List, [], _∷_, _++_}
-use borrow.Author.Tests.{ltb-true, leb-true}
+use borrow.Author.Tests.{ltb-true, leb-true, not-true}
 use lib.Dec.{leb, ltb}
 use lib.ListN.{length, take, drop, set, length-drop, length-set}
 use lib.Seq.{sets, sets-eq, length-sets, take-all, drop-drop}
@@ -19,7 +19,8 @@ use Rattle.cluster.specs.View.{view, shardAt, Sound}
 use Rattle.buffers.specs.declared.fronts.Front.{Front}
 use Rattle.buffers.specs.declared.Progress.{Progress}
 use Rattle.listing.specs.Parts.{Puts}
-use Rattle.buffers.specs.Buffers.{Standing, further, going, goesOn, runWithin, runOf, ListsAll, Fronts, unheard, StepsAt, shownLine}
+use Rattle.buffers.specs.Buffers.{Standing, further, going, goesOn, runWithin, runOf, ListsAll}
+use Rattle.buffers.specs.Parts.{Fronts, unheard, StepsAt, shownLine}
 use Rattle.reader.proofs.Cases.{taken-within}
 use Rattle.listing.proofs.Stores.{then}
 use Rattle.listing.proofs.Whole.{taken-some}
@@ -64,18 +65,26 @@ front-at bytes at {f} h =
     subst (λ (l : List ℕ). Fronts l f) (take-all (length bytes - at) (drop at bytes) (omega (arith, length-drop at bytes))) h
 
 -- what the test of a turn tells
-pub record Goes (left room step : ℕ) : Type 0 where
+pub record Goes (ends : Bool) (left wanted room step : ℕ) : Type 0 where
+  pub on : ends ≡ false
   pub some : 0 < left
+  pub many : wanted ≤ left
   pub line : 64 ≤ room
   pub number : step < 18446744073709551615
 
-pub told : (ends : Bool) (left wanted room step : ℕ) → going ends left wanted room step ≡ true → Goes left room step
+pub told : (ends : Bool) (left wanted room step : ℕ) → going ends left wanted room step ≡ true → Goes ends left wanted room step
 told ends left wanted room step e =
     let a = both (not ends && ltb 0 left && leb wanted left && leb 64 room) (ltb step 18446744073709551615) e in
     let b = both (not ends && ltb 0 left && leb wanted left) (leb 64 room) (a .0) in
     let d = both (not ends && ltb 0 left) (leb wanted left) (b .0) in
     let f = both (not ends) (ltb 0 left) (d .0) in
-    record { some = ltb-true 0 left (f .1); line = leb-true 64 room (b .1); number = ltb-true step 18446744073709551615 (a .1) }
+    record {
+      on = not-true ends (f .0);
+      some = ltb-true 0 left (f .1);
+      many = leb-true wanted left (d .1);
+      line = leb-true 64 room (b .1);
+      number = ltb-true step 18446744073709551615 (a .1);
+    }
 
 module _ {bytes lent : List ℕ} {wanted : ℕ} {whole : Standing} {shards : List Shard} {out : List ℕ} {n at used : ℕ} {ends : Bool}
     (r : Reached bytes lent wanted whole shards out n at used ends)
@@ -115,7 +124,7 @@ module _ {bytes lent : List ℕ} {wanted : ℕ} {whole : Standing} {shards : Lis
       }
 
   module _ (goes : b ≡ true) where
-    pub goes-told : Goes (length bytes - at) (length out - used) n
+    pub goes-told : Goes ends (length bytes - at) wanted (length out - used) n
     goes-told = told ends (length bytes - at) wanted (length out - used) n (sym test ∙ goes)
 
     module _ {f : Front} (fronts : Fronts (drop at bytes) f) where

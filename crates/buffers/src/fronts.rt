@@ -1,7 +1,7 @@
 // The record at the front of the bytes, and the shards that it reaches.
 ghost use mathlib.Core.Path.{_≡_};
 ghost use Rattle.listing.specs.Listing.{receiverOf};
-ghost use Rattle.buffers.specs.Buffers.{senderOf, placeOf, giverOf, endsReading, Fronts};
+ghost use Rattle.buffers.specs.Parts.{senderOf, placeOf, giverOf, endsReading, Fronts};
 use listing::receiver_of;
 use reader::Answer;
 use reader::Record;
