@@ -7,11 +7,13 @@ use std::io::{self, Read, Write};
 mod example;
 #[path = "common/records.rs"]
 mod records;
+#[path = "common/week.rs"]
+mod week;
 
 use reference::{Record, Transaction, decode, encode, list, listing, read, write};
 
-use example::TRANSACTION;
 use records::{mint, register, transaction};
+use week::week;
 
 fn vote(verdict: u8, sender: u8, receiver: u8, transaction: Transaction) -> Record {
     Record::Vote {
@@ -78,20 +80,8 @@ fn worked_example() {
 /// encoder is held to document 01 as well.
 #[test]
 fn worked_example_byte_by_byte() {
-    let mut week = vec![3, 0, 0, 0, 0, 0, 10, 0, 0, 0, 3];
-    week.extend([3, 1, 0, 0, 0, 0, 20, 0, 0, 0, 2]);
-    for head in [
-        &[1, 0][..],
-        &[1, 1],
-        &[2, 0, 1, 1],
-        &[2, 1, 0, 1],
-        &[2, 1, 0, 1],
-    ] {
-        week.extend(head);
-        week.extend(TRANSACTION);
-    }
-    assert_eq!(bytes(&example()), week);
-    assert_eq!(listing(&week), EXAMPLE.as_bytes());
+    assert_eq!(bytes(&example()), week());
+    assert_eq!(listing(&week()), EXAMPLE.as_bytes());
 }
 
 #[test]

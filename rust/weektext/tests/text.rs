@@ -1,8 +1,15 @@
 //! The text form: what each line stands for, each error, and that every byte
 //! sequence has a text.
 
+#[path = "../../reference/tests/common/example.rs"]
+mod example;
+#[path = "../../reference/tests/common/week.rs"]
+mod week;
+
 use reference::{MINT_LENGTH, Record, VOTE_LENGTH, decode, rest};
 use weektext::{records, text};
+
+use week::week;
 
 const EXAMPLE: &str = "\
 opening pantry 0 position 0 household 10 portions 3
@@ -21,36 +28,6 @@ vote yes on 5 from 0 to 1
 vote yes on 5 from 0 to 1
 ";
 
-/// Swap 5 of the example, after document 01's table.
-#[rustfmt::skip]
-const FIVE: [u8; 98] = [
-    0, 0, 0, 5, 2, 2,
-    0, 0, 0, 0, 0, 0, 0, 0, 0, 10, 0, 0, 0, 3,
-    1, 0, 0, 0, 0, 0, 0, 0, 0, 20, 0, 0, 0, 2,
-    0, 0, 0, 0, 0, 0, 0, 0, 0, 0, 0, 0, 0, 0,
-    0, 0, 0, 0, 0, 0, 0, 0, 0, 0, 0, 0, 0, 0,
-    1, 0, 0, 0, 10, 0, 0, 0, 3,
-    0, 0, 0, 0, 20, 0, 0, 0, 2,
-    0, 0, 0, 0, 0, 0, 0, 0, 0,
-    0, 0, 0, 0, 0, 0, 0, 0, 0,
-];
-
-fn example() -> Vec<u8> {
-    let mut week = vec![3, 0, 0, 0, 0, 0, 10, 0, 0, 0, 3];
-    week.extend([3, 1, 0, 0, 0, 0, 20, 0, 0, 0, 2]);
-    for head in [
-        &[1, 0][..],
-        &[1, 1],
-        &[2, 0, 1, 1],
-        &[2, 1, 0, 1],
-        &[2, 1, 0, 1],
-    ] {
-        week.extend(head);
-        week.extend(FIVE);
-    }
-    week
-}
-
 /// The records of a text without errors.
 fn bytes(text: &str) -> Vec<u8> {
     records(text.as_bytes()).expect("the text has no error")
@@ -65,8 +42,8 @@ fn record(text: &str) -> Record {
 
 #[test]
 fn worked_example_both_ways() {
-    assert_eq!(bytes(EXAMPLE), example());
-    assert_eq!(text(&example()), EXAMPLE);
+    assert_eq!(bytes(EXAMPLE), week());
+    assert_eq!(text(&week()), EXAMPLE);
 }
 
 #[test]
@@ -74,8 +51,8 @@ fn comments_blanks_and_line_ends() {
     let same = EXAMPLE
         .replace('\n', " # why not\r\n\n\t \n# register 9 at 9\n")
         .replace("  ", "\t");
-    assert_eq!(bytes(&same), example());
-    assert_eq!(bytes(EXAMPLE.trim_end()), example());
+    assert_eq!(bytes(&same), week());
+    assert_eq!(bytes(EXAMPLE.trim_end()), week());
     assert_eq!(bytes(""), []);
     assert_eq!(bytes("\n# nothing\n"), []);
     assert_eq!(text(&[]), "");
@@ -383,7 +360,7 @@ fn comes_back(bytes: &[u8]) {
 /// Every cut, every byte changed to every value.
 #[test]
 fn every_neighbour_of_the_example_comes_back() {
-    let week = example();
+    let week = week();
     let (opening, swap, vote) = (
         &week[..MINT_LENGTH],
         &week[22..122],
