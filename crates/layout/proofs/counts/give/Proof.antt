@@ -1,0 +1,23 @@
+use Rattle.layout.proofs.Stored.{flag-put}
+use denote.Ref.{now}
+use borrow.Author.Needs.{needs}
+use Rattle.layout.proofs.counts.give.Statement.{statement}
+use Rattle.layout.proofs.counts.give.Tie as tie
+
+add-s : tie.Need-add-s
+add-s c = search needs
+
+mul-s : tie.Need-mul-s
+mul-s c = search needs
+
+element-write-s : tie.Need-element-write-s
+element-write-s c = search needs
+
+returns : tie.Need-returns
+returns c =
+    let args = c .args in
+    let pre = c .pre in
+    flag-put (now (args .s)) (pre .1) (args .index) (pre .0)
+
+pub give-spec : {M : Type 1} → statement M
+give-spec = tie.close (tie.spec add-s mul-s element-write-s returns)

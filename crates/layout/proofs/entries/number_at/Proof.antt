@@ -1,0 +1,25 @@
+use Rattle.layout.proofs.Slots.{known-get}
+use Rattle.model.specs.declared.Known.{Known}
+use mathlib.Core.Path.{sym, ap}
+use borrow.Author.Needs.{needs}
+use Rattle.layout.proofs.entries.number_at.Statement.{statement}
+use Rattle.layout.proofs.entries.number_at.Tie as tie
+
+mul-result : tie.Need-mul-result
+mul-result c = search needs
+
+add-result : tie.Need-add-result
+add-result c = search needs
+
+mul-result-2 : tie.Need-mul-result-2
+mul-result-2 c = search needs
+
+element-copy-out-result : tie.Need-element-copy-out-result
+element-copy-out-result c = search needs
+
+returns : tie.Need-returns
+returns c = sym (ap (λ (k : Known). k .transaction .number) (known-get _ _ (search needs)))
+
+pub number-at-spec : {M : Type 1} → statement M
+number-at-spec =
+    tie.close (tie.spec mul-result add-result mul-result-2 element-copy-out-result returns)

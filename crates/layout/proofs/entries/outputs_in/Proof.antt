@@ -1,0 +1,55 @@
+use Rattle.layout.specs.Layout.{outputsIn}
+use borrow.Author.Needs.{needs}
+use Rattle.layout.proofs.entries.outputs_in.Statement.{statement}
+use Rattle.layout.proofs.entries.outputs_in.Tie as tie
+
+output-in-requires : tie.Need-output-in-requires
+output-in-requires c κs = search needs
+
+add-output-in : tie.Need-add-output-in
+add-output-in c = search needs
+
+output-in-requires-2 : tie.Need-output-in-requires-2
+output-in-requires-2 c κs = search needs
+
+mul-output-in : tie.Need-mul-output-in
+mul-output-in c = search needs
+
+add-output-in-2 : tie.Need-add-output-in-2
+add-output-in-2 c = search needs
+
+output-in-requires-3 : tie.Need-output-in-requires-3
+output-in-requires-3 c κs = search needs
+
+mul-output-in-2 : tie.Need-mul-output-in-2
+mul-output-in-2 c = search needs
+
+add-output-in-3 : tie.Need-add-output-in-3
+add-output-in-3 c = search needs
+
+output-in-requires-4 : tie.Need-output-in-requires-4
+output-in-requires-4 c κs = search needs
+
+returns : tie.Need-returns
+unfolding outputsIn
+returns c =
+    let output-in = c .before .before .before .output-in in
+    let output-in2 = c .before .before .output-in2 in
+    let output-in3 = c .before .output-in3 in
+    let output-in4 = c .output-in4 in
+    rw (output-in .ensures, output-in2 .ensures, output-in3 .ensures, output-in4 .ensures)
+
+pub outputs-in-spec : {M : Type 1} → statement M
+outputs-in-spec =
+    tie.close
+    (tie.spec
+    output-in-requires
+    add-output-in
+    output-in-requires-2
+    mul-output-in
+    add-output-in-2
+    output-in-requires-3
+    mul-output-in-2
+    add-output-in-3
+    output-in-requires-4
+    returns)

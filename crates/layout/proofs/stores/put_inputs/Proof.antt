@@ -1,0 +1,75 @@
+use Rattle.layout.proofs.Stored.{inputs-put}
+use lib.ListN.{length}
+use mathlib.Core.Path.{_≡_}
+use denote.Ref.{now}
+use borrow.Author.Needs.{needs}
+use Rattle.layout.proofs.stores.put_inputs.Statement.{statement}
+use Rattle.layout.proofs.stores.put_inputs.Tie as tie
+
+array-copy-out-put-input : tie.Need-array-copy-out-put-input
+array-copy-out-put-input c = search needs
+
+put-input-requires : tie.Need-put-input-requires
+put-input-requires c κs = search needs
+
+add-put-input : tie.Need-add-put-input
+add-put-input c = search needs
+
+array-copy-out-put-input-2 : tie.Need-array-copy-out-put-input-2
+array-copy-out-put-input-2 c = search needs
+
+put-input-requires-2 : tie.Need-put-input-requires-2
+put-input-requires-2 c κs = search needs
+
+mul-put-input : tie.Need-mul-put-input
+mul-put-input c = search needs
+
+add-put-input-2 : tie.Need-add-put-input-2
+add-put-input-2 c = search needs
+
+array-copy-out-put-input-3 : tie.Need-array-copy-out-put-input-3
+array-copy-out-put-input-3 c = search needs
+
+put-input-requires-3 : tie.Need-put-input-requires-3
+put-input-requires-3 c κs = search needs
+
+mul-put-input-2 : tie.Need-mul-put-input-2
+mul-put-input-2 c = search needs
+
+add-put-input-3 : tie.Need-add-put-input-3
+add-put-input-3 c = search needs
+
+array-copy-out-put-input-4 : tie.Need-array-copy-out-put-input-4
+array-copy-out-put-input-4 c = search needs
+
+put-input-requires-4 : tie.Need-put-input-requires-4
+put-input-requires-4 c κs = search needs
+
+returns : tie.Need-returns
+returns c =
+    let args = c .before .before .before .before .before .before .before .before .before .before .before .before .args in
+    let put-input = c .before .before .before .before .before .before .before .before .before .put-input in
+    let put-input2 = c .before .before .before .before .before .before .put-input2 in
+    let put-input3 = c .before .before .before .put-input3 in
+    let put-input4 = c .put-input4 in
+    let long : length (args .t3) ≡ 4 = search needs in
+    inputs-put (args .b) (now (args .s)) _ _ _ _ (args .t3) long (put-input .ensures) (put-input2 .ensures) (put-input3 .ensures) (put-input4 .ensures)
+
+pub put-inputs-spec : {M : Type 1} → statement M
+put-inputs-spec =
+    tie.close
+    (tie.spec
+    array-copy-out-put-input
+    put-input-requires
+    add-put-input
+    array-copy-out-put-input-2
+    put-input-requires-2
+    mul-put-input
+    add-put-input-2
+    array-copy-out-put-input-3
+    put-input-requires-3
+    mul-put-input-2
+    add-put-input-3
+    array-copy-out-put-input-4
+    put-input-requires-4
+    returns)

@@ -1,0 +1,58 @@
+use Rattle.layout.proofs.Stored.{known-put}
+use denote.Ref.{now}
+use borrow.Author.Needs.{needs}
+use Rattle.layout.proofs.stores.put_known.Statement.{statement}
+use Rattle.layout.proofs.stores.put_known.Tie as tie
+
+mul-b : tie.Need-mul-b
+mul-b c = search needs
+
+add-b : tie.Need-add-b
+add-b c = search needs
+
+put-head-requires : tie.Need-put-head-requires
+put-head-requires c κs = search needs
+
+add-put-inputs : tie.Need-add-put-inputs
+add-put-inputs c = search needs
+
+put-inputs-requires : tie.Need-put-inputs-requires
+put-inputs-requires c κs = search needs
+
+add-put-outputs : tie.Need-add-put-outputs
+add-put-outputs c = search needs
+
+put-outputs-requires : tie.Need-put-outputs-requires
+put-outputs-requires c κs = search needs
+
+add-put-verdicts : tie.Need-add-put-verdicts
+add-put-verdicts c = search needs
+
+put-verdicts-requires : tie.Need-put-verdicts-requires
+put-verdicts-requires c κs = search needs
+
+returns : tie.Need-returns
+returns c =
+    let args = c .before .before .before .before .before .before .before .before .before .before .before .before .args in
+    let pre = c .before .before .before .before .before .before .before .before .before .before .before .before .pre in
+    let put-head = c .before .before .before .before .before .before .put-head in
+    let put-inputs = c .before .before .before .before .put-inputs in
+    let put-outputs = c .before .before .put-outputs in
+    let put-verdicts = c .put-verdicts in
+    let law = known-put (args .k) (now (args .s)) _ _ _ _ (args .x) (pre .0) (pre .1) in
+    law (put-head .ensures) (put-inputs .ensures) (put-outputs .ensures) (put-verdicts .ensures)
+
+pub put-known-spec : {M : Type 1} → statement M
+put-known-spec =
+    tie.close
+    (tie.spec
+    mul-b
+    add-b
+    put-head-requires
+    add-put-inputs
+    put-inputs-requires
+    add-put-outputs
+    put-outputs-requires
+    add-put-verdicts
+    put-verdicts-requires
+    returns)

@@ -1,0 +1,75 @@
+use Rattle.layout.proofs.Stored.{outputs-put}
+use lib.ListN.{length}
+use mathlib.Core.Path.{_≡_}
+use denote.Ref.{now}
+use borrow.Author.Needs.{needs}
+use Rattle.layout.proofs.stores.put_outputs.Statement.{statement}
+use Rattle.layout.proofs.stores.put_outputs.Tie as tie
+
+array-copy-out-put-output : tie.Need-array-copy-out-put-output
+array-copy-out-put-output c = search needs
+
+put-output-requires : tie.Need-put-output-requires
+put-output-requires c κs = search needs
+
+add-put-output : tie.Need-add-put-output
+add-put-output c = search needs
+
+array-copy-out-put-output-2 : tie.Need-array-copy-out-put-output-2
+array-copy-out-put-output-2 c = search needs
+
+put-output-requires-2 : tie.Need-put-output-requires-2
+put-output-requires-2 c κs = search needs
+
+mul-put-output : tie.Need-mul-put-output
+mul-put-output c = search needs
+
+add-put-output-2 : tie.Need-add-put-output-2
+add-put-output-2 c = search needs
+
+array-copy-out-put-output-3 : tie.Need-array-copy-out-put-output-3
+array-copy-out-put-output-3 c = search needs
+
+put-output-requires-3 : tie.Need-put-output-requires-3
+put-output-requires-3 c κs = search needs
+
+mul-put-output-2 : tie.Need-mul-put-output-2
+mul-put-output-2 c = search needs
+
+add-put-output-3 : tie.Need-add-put-output-3
+add-put-output-3 c = search needs
+
+array-copy-out-put-output-4 : tie.Need-array-copy-out-put-output-4
+array-copy-out-put-output-4 c = search needs
+
+put-output-requires-4 : tie.Need-put-output-requires-4
+put-output-requires-4 c κs = search needs
+
+returns : tie.Need-returns
+returns c =
+    let args = c .before .before .before .before .before .before .before .before .before .before .before .before .args in
+    let put-output = c .before .before .before .before .before .before .before .before .before .put-output in
+    let put-output2 = c .before .before .before .before .before .before .put-output2 in
+    let put-output3 = c .before .before .before .put-output3 in
+    let put-output4 = c .put-output4 in
+    let long : length (args .t3) ≡ 4 = search needs in
+    outputs-put (args .b) (now (args .s)) _ _ _ _ (args .t3) long (put-output .ensures) (put-output2 .ensures) (put-output3 .ensures) (put-output4 .ensures)
+
+pub put-outputs-spec : {M : Type 1} → statement M
+put-outputs-spec =
+    tie.close
+    (tie.spec
+    array-copy-out-put-output
+    put-output-requires
+    add-put-output
+    array-copy-out-put-output-2
+    put-output-requires-2
+    mul-put-output
+    add-put-output-2
+    array-copy-out-put-output-3
+    put-output-requires-3
+    mul-put-output-2
+    add-put-output-3
+    array-copy-out-put-output-4
+    put-output-requires-4
+    returns)

@@ -1,0 +1,245 @@
+-- What stands where in a shard's words, and the shard that the words stand for. A word more is one line among the places; a field more is one line
+-- there and one in the reading.
+use Prim.Native.Nat.{ℕ, zero, suc, _+_, _*_, _%_, _≤_, _<_}
+use mathlib.Core.Bool.{Bool, not}
+use mathlib.Core.Path.{_≡_}
+use mathlib.Core.List.{List, [], _∷_}
+use lib.Dec.{eqb}
+use lib.ListN.{length, getD, set, take}
+use Rattle.transaction.specs.declared.Input.{Input}
+use Rattle.transaction.specs.declared.Output.{Output}
+use Rattle.transaction.specs.declared.Transaction.{Transaction}
+use Rattle.model.specs.declared.Token.{Token}
+use Rattle.model.specs.declared.Known.{Known}
+use Rattle.model.specs.Steps.{Ledger}
+
+-- ---- How many slots there are, and how many words each has
+
+-- tokens (document 01: at most 128 are held), known transactions (swaps, at most 32), genesis indices (opening positions, 128)
+abbrev pub tokenSlots : ℕ
+tokenSlots = 128
+
+abbrev pub knownSlots : ℕ
+knownSlots = 32
+
+abbrev pub genesisSlots : ℕ
+genesisSlots = 128
+
+-- a token: creator, index, owner, amount, pledge
+abbrev pub tokenSize : ℕ
+tokenSize = 5
+
+-- an input: shard, creator, index, owner, amount; an output: shard, owner, amount
+abbrev pub inputSize : ℕ
+inputSize = 5
+
+abbrev pub outputSize : ℕ
+outputSize = 3
+
+-- within a transaction: its number and two counts, then four inputs, then four outputs
+abbrev pub inputsOffset : ℕ
+inputsOffset = 3
+
+abbrev pub outputsOffset : ℕ
+outputsOffset = inputsOffset + 4 * inputSize
+
+-- a known transaction: the transaction, then the verdict heard from each of the eight shards
+abbrev pub heardOffset : ℕ
+heardOffset = outputsOffset + 4 * outputSize
+
+abbrev pub knownSize : ℕ
+knownSize = heardOffset + 8
+
+-- ---- Places
+
+-- the shard's number, how many tokens it holds, how many transactions it knows
+abbrev pub numberPlace : ℕ
+numberPlace = 0
+
+abbrev pub heldPlace : ℕ
+heldPlace = 1
+
+abbrev pub knownPlace : ℕ
+knownPlace = 2
+
+-- the flags of the genesis indices given, the tokens, the known transactions
+abbrev pub givenPlace : ℕ
+givenPlace = 3
+
+abbrev pub tokensPlace : ℕ
+tokensPlace = givenPlace + genesisSlots
+
+abbrev pub transactionsPlace : ℕ
+transactionsPlace = tokensPlace + tokenSlots * tokenSize
+
+-- all words of a shard
+abbrev pub shardWords : ℕ
+shardWords = transactionsPlace + knownSlots * knownSize
+
+-- where a token and a known transaction begin
+abbrev pub tokenPlace : ℕ → ℕ
+tokenPlace k = tokensPlace + k * tokenSize
+
+abbrev pub entryPlace : ℕ → ℕ
+entryPlace k = transactionsPlace + k * knownSize
+
+-- ---- Reading
+
+-- a word, and a word of a byte
+abbrev pub word : List ℕ → ℕ → ℕ
+word ws i = getD ws i 0
+
+abbrev pub byte : List ℕ → ℕ → ℕ
+byte ws i = getD ws i 0 % 256
+
+-- the list of f 0, f 1 and so on, n of them
+abbrev pub tab : {A : Type 0} → ℕ → (ℕ → A) → List A
+tab zero f = []
+tab (suc n) f = f 0 ∷ tab n (λ (i : ℕ). f (suc i))
+
+abbrev pub tokenIn : List ℕ → ℕ → Token
+tokenIn ws b =
+    record { creator = word ws b; index = byte ws (b + 1); owner = word ws (b + 2); amount = word ws (b + 3); pledge = word ws (b + 4) }
+
+unfoldable pub inputIn : List ℕ → ℕ → Input
+inputIn ws b =
+    record {
+      token = record { shard = byte ws b; creator = word ws (b + 1); index = byte ws (b + 2) };
+      owner = word ws (b + 3);
+      amount = word ws (b + 4);
+    }
+
+unfoldable pub outputIn : List ℕ → ℕ → Output
+outputIn ws b = record { shard = byte ws b; owner = word ws (b + 1); amount = word ws (b + 2) }
+
+unfoldable pub inputsIn : List ℕ → ℕ → List Input
+inputsIn ws b =
+    inputIn ws b ∷ inputIn ws (b + inputSize) ∷ inputIn ws (b + 2 * inputSize) ∷ inputIn ws (b + 3 * inputSize) ∷ []
+
+unfoldable pub outputsIn : List ℕ → ℕ → List Output
+outputsIn ws b =
+    outputIn ws b ∷ outputIn ws (b + outputSize) ∷ outputIn ws (b + 2 * outputSize) ∷ outputIn ws (b + 3 * outputSize) ∷ []
+
+abbrev pub transactionIn : List ℕ → ℕ → Transaction
+transactionIn ws b =
+    record {
+      number = word ws b;
+      «input_count» = byte ws (b + 1);
+      «output_count» = byte ws (b + 2);
+      inputs = inputsIn ws (b + inputsOffset);
+      outputs = outputsIn ws (b + outputsOffset);
+    }
+
+-- the verdicts heard
+unfoldable pub heardIn : List ℕ → ℕ → List ℕ
+heardIn ws b = tab 8 (λ (i : ℕ). byte ws (b + i))
+
+abbrev pub knownIn : List ℕ → ℕ → Known
+knownIn ws b = record { transaction = transactionIn ws b; heard = heardIn ws (b + heardOffset) }
+
+abbrev pub tokenAt : List ℕ → ℕ → Token
+tokenAt ws k = tokenIn ws (tokenPlace k)
+
+abbrev pub knownAt : List ℕ → ℕ → Known
+knownAt ws k = knownIn ws (entryPlace k)
+
+-- a flag is any word but 0
+abbrev pub givenAt : List ℕ → ℕ → Bool
+givenAt ws k = not (eqb (word ws (givenPlace + k)) 0)
+
+unfoldable pub tokensOf : List ℕ → List Token
+tokensOf ws = tab tokenSlots (tokenAt ws)
+
+unfoldable pub transactionsOf : List ℕ → List Known
+transactionsOf ws = tab knownSlots (knownAt ws)
+
+unfoldable pub givenOf : List ℕ → List Bool
+givenOf ws = tab genesisSlots (givenAt ws)
+
+-- ---- The shard that the words stand for
+
+-- a shard (document 01: a pantry): its number, the counts, and all slots, used or not
+pub record Shard : Type 0 where
+  pub number : ℕ
+  pub held : ℕ
+  pub known : ℕ
+  pub tokens : List Token
+  pub transactions : List Known
+  pub given : List Bool
+
+abbrev pub shardOf : List ℕ → Shard
+shardOf ws =
+    record {
+      number = byte ws numberPlace;
+      held = word ws heldPlace;
+      known = word ws knownPlace;
+      tokens = tokensOf ws;
+      transactions = transactionsOf ws;
+      given = givenOf ws;
+    }
+
+-- its ledger as the reference model has it: the tokens and the known transactions are the first ones of their slots, in order
+unfoldable pub view : Shard → Ledger
+view s = record { tokens = take (s .held) (s .tokens); given = s .given; known = take (s .known) (s .transactions) }
+
+abbrev pub ledgerOf : List ℕ → Ledger
+ledgerOf ws = view (shardOf ws)
+
+-- ---- A shard with one part changed
+
+abbrev pub withTokens : Shard → List Token → Shard
+withTokens s l = record { number = s .number; held = s .held; known = s .known; tokens = l; transactions = s .transactions; given = s .given }
+
+abbrev pub withHeld : Shard → ℕ → Shard
+withHeld s n = record { number = s .number; held = n; known = s .known; tokens = s .tokens; transactions = s .transactions; given = s .given }
+
+abbrev pub withKnown : Shard → ℕ → Shard
+withKnown s n = record { number = s .number; held = s .held; known = n; tokens = s .tokens; transactions = s .transactions; given = s .given }
+
+abbrev pub withTransactions : Shard → List Known → Shard
+withTransactions s l = record { number = s .number; held = s .held; known = s .known; tokens = s .tokens; transactions = l; given = s .given }
+
+abbrev pub withGiven : Shard → List Bool → Shard
+withGiven s l = record { number = s .number; held = s .held; known = s .known; tokens = s .tokens; transactions = s .transactions; given = l }
+
+-- the words stand for this shard, and are as many as a shard has
+pub record Becomes (s : Shard) (ws : List ℕ) : Type 0 where
+  pub is : shardOf ws ≡ s
+  pub long : length ws ≡ shardWords
+
+-- a known transaction with a verdict noted for a sender
+abbrev pub withSaid : ℕ → ℕ → Known → Known
+withSaid sender said x = record { transaction = x .transaction; heard = set (x .heard) sender said }
+
+-- nobody asks for these
+abbrev pub noToken : Token
+noToken = tokenIn [] 0
+
+abbrev pub noKnown : Known
+noKnown = knownIn [] 0
+
+-- the token and the known transaction in a slot
+abbrev pub tokenOf : List ℕ → ℕ → Token
+tokenOf ws k = getD (shardOf ws .tokens) k noToken
+
+abbrev pub entryOf : List ℕ → ℕ → Known
+entryOf ws k = getD (shardOf ws .transactions) k noKnown
+
+-- ---- What the stores of a known transaction's parts promise each other
+
+-- only words from a on and below e differ
+pub record Within (a e : ℕ) (ws vs : List ℕ) : Type 0 where
+  pub long : length vs ≡ length ws
+  pub rest : (j : ℕ) → (a ≤ j → j < e → ⊥) → word vs j ≡ word ws j
+
+-- a number and two counts stand here
+pub record Headed (ws : List ℕ) (b number inputs outputs : ℕ) : Type 0 where
+  pub numbered : word ws b ≡ number
+  pub ins : byte ws (b + 1) ≡ inputs
+  pub outs : byte ws (b + 2) ≡ outputs
+
+-- all words are 0 but the number
+pub record Cleared (number : ℕ) (ws : List ℕ) : Type 0 where
+  pub long : length ws ≡ shardWords
+  pub numbered : byte ws numberPlace ≡ number
+  pub rest : (i : ℕ) → numberPlace < i → word ws i ≡ 0

@@ -1,0 +1,46 @@
+// A shard (document 01: a pantry) as one array of words that its caller owns, and what stands where in it. Above this crate nothing speaks of
+// single words. The names here are those of specs/Layout.antt.
+pub mod counts; // the number, the counts, the flags of the genesis indices given, and an empty shard
+pub mod tokens; // the tokens held
+pub mod entries; // the known transactions, read
+pub mod stores; // the known transactions, stored
+
+// Slots.
+pub const TOKEN_SLOTS: usize = 128;
+
+pub const KNOWN_SLOTS: usize = 32;
+
+pub const GENESIS_SLOTS: usize = 128;
+
+// Words of a slot, and what stands where within it.
+pub const TOKEN_SIZE: usize = 5;
+
+pub const INPUT_SIZE: usize = 5;
+
+pub const OUTPUT_SIZE: usize = 3;
+
+pub const INPUTS_OFFSET: usize = 3;
+
+pub const OUTPUTS_OFFSET: usize = INPUTS_OFFSET + 4 * INPUT_SIZE;
+
+pub const HEARD_OFFSET: usize = OUTPUTS_OFFSET + 4 * OUTPUT_SIZE;
+
+pub const KNOWN_SIZE: usize = HEARD_OFFSET + 8;
+
+// Places.
+pub const NUMBER_PLACE: usize = 0;
+
+pub const HELD_PLACE: usize = 1;
+
+pub const KNOWN_PLACE: usize = 2;
+
+pub const GIVEN_PLACE: usize = 3;
+
+pub const TOKENS_PLACE: usize = GIVEN_PLACE + GENESIS_SLOTS;
+
+pub const TRANSACTIONS_PLACE: usize = TOKENS_PLACE + TOKEN_SLOTS * TOKEN_SIZE;
+
+pub const SHARD_WORDS: usize = TRANSACTIONS_PLACE + KNOWN_SLOTS * KNOWN_SIZE;
+
+// A shard's words.
+pub type Words = [u32; SHARD_WORDS];
