@@ -7,9 +7,7 @@ use lib.ListN.{length, take, List·getD-eq-default, length-map}
 use lib.Seq.{take-all}
 use Rattle.transaction.specs.Lists.{total}
 use Rattle.model.specs.Steps.{house, emptyLedger}
-use Rattle.shard.specs.declared.Shard.{Shard}
 use Rattle.shard.specs.View as shard
-use Rattle.cluster.specs.declared.Cluster.{Cluster}
 use Rattle.cluster.specs.View.{view, shardAt, Sound}
 use Rattle.cluster.specs.Queries.{Seen, heldIn, totalHeld}
 use Rattle.cluster.proofs.Shards.{ledger-of}
@@ -19,26 +17,26 @@ total-map f g [] = refl
 total-map f g (a ∷ x) = ap (λ (n : ℕ). f (g a) + n) (total-map f g x)
 
 -- the amounts held in a shard
-abbrev pub heldBy : Shard → ℕ
-heldBy s = heldIn (shard.view s)
+abbrev pub heldBy : List ℕ → ℕ
+heldBy ws = heldIn (shard.view ws)
 
-module _ (c : Cluster) (eight : length (c .shards) ≡ 8) where
-  pub held-in-all : {sum : ℕ} → total heldBy (take 8 (c .shards)) ≡ sum → sum ≡ totalHeld (view c)
+module _ (c : List (List ℕ)) (sound : Sound c) where
+  pub held-in-all : {sum : ℕ} → total heldBy (take 8 c) ≡ sum → sum ≡ totalHeld (view c)
   unfolding totalHeld view
-  held-in-all e =
-      sym e ∙ ap (total heldBy) (take-all 8 (c .shards) (omega arith)) ∙ sym (total-map heldIn shard.view (c .shards))
+  held-in-all e = sym e ∙ ap (total heldBy) (take-all 8 c (omega (arith, sound .eight))) ∙ sym (total-map heldIn shard.view c)
 
-  pub seen-none : (number : ℕ) → 8 ≤ number → {s : Shard} → shard.Fresh number s → Seen c number s
-  unfolding view
-  seen-none number h f = record {
-    ledger = f .empty ∙ sym (List·getD-eq-default (map shard.view (c .shards)) (emptyLedger house) {n = number} (rw (length-map (c .shards) shard.view, eight) h));
-    numbered = f .numbered;
-    sound = f .sound;
-  }
+  module _ (number : ℕ) where
+    pub seen-none : 8 ≤ number → {s : List ℕ} → shard.Fresh number s → Seen c number s
+    unfolding view
+    seen-none h f = record {
+      ledger = f .empty ∙ sym (List·getD-eq-default (map shard.view c) (emptyLedger house) {n = number} (rw (length-map c shard.view, sound .eight) h));
+      numbered = f .numbered;
+      sound = f .sound;
+    }
 
-  pub seen-there : Sound c → (number : ℕ) → number < 8 → Seen c number (shardAt c number)
-  seen-there sound number h = record {
-    ledger = sym (ledger-of c eight number h);
-    numbered = sound number h .numbered;
-    sound = sound number h .sound;
-  }
+    pub seen-there : number < 8 → Seen c number (shardAt c number)
+    seen-there h = record {
+      ledger = sym (ledger-of c sound number h);
+      numbered = sound .each number h .numbered;
+      sound = sound .each number h .sound;
+    }

@@ -3,43 +3,73 @@
 -- (crates/model/proofs/Bridge.antt), which has each clause of demand 3 as a field.
 --
 -- A contract is read off the function itself: `Asked` is what its `requires` asks of the arguments, `Learnt` what its `ensures` tells of the
--- arguments and the result, as the checker generates both from src/lib.rt. There is no second copy of a contract here, so that a contract that said
--- less would break this proof.
+-- arguments, the result and the lent cluster afterwards, as the checker generates both from src/lib.rt. There is no second copy of a contract here, so
+-- that a contract that said less would break this proof.
+use Prim.Native.Nat.{ℕ}
 use mathlib.Core.List.{List}
+use base.Fml.{GName}
+use contract.Lifetimes.{Lfts}
+use denote.Ref.{RefT}
 use Rattle.model.specs.declared.Answer.{Answer}
 use Rattle.model.specs.Steps.{house}
 use Rattle.model.specs.Shard.{Call, mint, register, deliver}
 use Rattle.model.proofs.Bridge.{Engine, Run, RunDemand, run-demand-3}
-use Rattle.cluster.specs.declared.Cluster.{Cluster}
-use Rattle.cluster.specs.View.{view, Sound, Steps}
+use Rattle.cluster.specs.View.{view, Sound, Fresh, Steps}
 use Rattle.cluster.proofs.new.Reads as new
 use Rattle.cluster.proofs.mint_token.Reads as mint-token
 use Rattle.cluster.proofs.register_transaction.Reads as register-transaction
 use Rattle.cluster.proofs.deliver_vote.Reads as deliver-vote
 
--- `new` may have returned this cluster
-abbrev pub Starts : Cluster → Type 0
-Starts c = new.Learnt tt tt c tt
+-- a cluster's words
+abbrev pub Cluster : Type 0
+Cluster = List (List ℕ)
 
--- the function of the call, handed this cluster and the call's arguments, may have returned that cluster and that answer
-abbrev pub Returns : Cluster → Call → Cluster → Answer → Type 0
-Returns c (mint p i o a) c′ answer =
-    mint-token.Asked tt (c, (p, (i, (o, (a, tt)))))
-    → mint-token.Learnt tt (c, (p, (i, (o, (a, tt))))) (record { answer = answer; cluster = c′ }) (c, (p, (i, (o, (a, tt)))))
-Returns c (register p t) c′ answer =
-    register-transaction.Asked tt (c, (p, (t, tt)))
-    → register-transaction.Learnt tt (c, (p, (t, tt))) (record { answer = answer; cluster = c′ }) (c, (p, (t, tt)))
-Returns c (deliver p q v t) c′ answer =
-    deliver-vote.Asked tt (c, (p, (q, (v, (t, tt)))))
-    → deliver-vote.Learnt tt (c, (p, (q, (v, (t, tt))))) (record { answer = answer; cluster = c′ }) (c, (p, (q, (v, (t, tt)))))
+-- how a cluster is lent: for which lifetime, where it stands and under which name is nothing that a contract speaks of
+pub record Lent : Type 0 where
+  pub lifetimes : Lfts 1
+  pub ptr : ℕ × ℕ
+  pub name : GName
+
+-- a reference to a cluster
+abbrev pub refers : Lent → Cluster → RefT Cluster
+refers at c = record { ptr = at .ptr; name = at .name; now = c }
+
+-- `new`, lent any words, may have left this cluster
+pub record Starts (c : Cluster) : Type 0 where
+  pub at : Lent
+  pub before : Cluster
+  pub kept : new.Asked (at .lifetimes) (refers at before, tt) → new.Learnt (at .lifetimes) (refers at before, tt) tt (refers at c, tt)
+
+-- the function of the call, lent this cluster and handed the call's arguments, may have left that cluster and returned that answer
+abbrev pub Leaves : Lent → Cluster → Call → Cluster → Answer → Type 0
+Leaves at c (mint p i o a) c′ answer =
+    mint-token.Asked (at .lifetimes) (refers at c, (p, (i, (o, (a, tt)))))
+    → mint-token.Learnt (at .lifetimes) (refers at c, (p, (i, (o, (a, tt))))) answer (refers at c′, (p, (i, (o, (a, tt)))))
+Leaves at c (register p t) c′ answer =
+    register-transaction.Asked (at .lifetimes) (refers at c, (p, (t, tt)))
+    → register-transaction.Learnt (at .lifetimes) (refers at c, (p, (t, tt))) answer (refers at c′, (p, (t, tt)))
+Leaves at c (deliver p q v t) c′ answer =
+    deliver-vote.Asked (at .lifetimes) (refers at c, (p, (q, (v, (t, tt)))))
+    → deliver-vote.Learnt (at .lifetimes) (refers at c, (p, (q, (v, (t, tt))))) answer (refers at c′, (p, (q, (v, (t, tt)))))
+
+pub record Returns (c : Cluster) (call : Call) (c′ : Cluster) (answer : Answer) : Type 0 where
+  pub at : Lent
+  pub kept : Leaves at c call c′ answer
 
 -- every call may be made on a cluster that the public calls built, and keeps the promise `Steps`
-pub promised : (c c′ : Cluster) (call : Call) (answer : Answer) → Sound c → Returns c call c′ answer → Steps c call (record { answer = answer; cluster = c′ })
-promised c c′ (mint p i o a) answer sound x = x sound
-promised c c′ (register p t) answer sound x = x sound
-promised c c′ (deliver p q v t) answer sound x = x sound
+keeps-to : (at : Lent) (c c′ : Cluster) (call : Call) (answer : Answer) → Sound c → Leaves at c call c′ answer → Steps c call answer c′
+keeps-to at c c′ (mint p i o a) answer sound x = x sound
+keeps-to at c c′ (register p t) answer sound x = x sound
+keeps-to at c c′ (deliver p q v t) answer sound x = x sound
 
--- the code as an engine, from a cluster that `new` returned
+pub promised : (c c′ : Cluster) (call : Call) (answer : Answer) → Sound c → Returns c call c′ answer → Steps c call answer c′
+promised c c′ call answer sound x = keeps-to (x .at) c c′ call answer sound (x .kept)
+
+-- what `new` left is fresh
+pub started : {c : Cluster} → Starts c → Fresh c
+started s = s .kept tt
+
+-- the code as an engine, from a cluster that `new` left
 abbrev pub code : (c₀ : Cluster) → Starts c₀ → Engine house
 code c₀ starts = record {
   State = Cluster;
@@ -47,8 +77,8 @@ code c₀ starts = record {
   Sound = Sound;
   Does = Returns;
   first = c₀;
-  first-sound = starts .sound;
-  first-empty = starts .empty;
+  first-sound = started starts .sound;
+  first-empty = started starts .empty;
   keeps = λ c c′ call answer sound x. promised c c′ call answer sound x .sound;
   same-answer = λ c c′ call answer sound x. promised c c′ call answer sound x .answered;
   same-ledgers = λ c c′ call answer sound x. promised c c′ call answer sound x .ledgers;

@@ -1,4 +1,3 @@
-pub mod Long
 pub mod Shards
 pub mod Asked
 pub mod Demand

@@ -1,30 +1,28 @@
--- One shard of eight: its ledger, the ledgers after it was replaced, and the promise of a call that one shard carried out.
-use Prim.Native.Nat.{ℕ, zero, suc, _<_}
+-- One shard of eight: its ledger, the ledgers after it was changed, and the promise of a call that one shard carried out.
+use Prim.Native.Nat.{ℕ, zero, suc, _+_, _≤_, _<_}
 use mathlib.Core.Path.{_≡_, refl, sym, ap, _∙_, subst}
-use mathlib.Core.Bool.{Bool, true, false, not}
-use mathlib.Core.List.{List, [], _∷_, map}
+use mathlib.Core.Bool.{Bool, true, false, not, _&&_}
+use mathlib.Core.List.{List, [], _∷_, _++_, map}
 use native.Mathlib.Omega.{arith}
-use borrow.Author.Tests.{eqb-true, eqb-false, ne-eqb, not-false}
-use lib.Dec.{eqb}
-use lib.ListN.{length, getD, set}
-use lib.Seq.{getD-set-same, getD-set-other}
+use borrow.Author.Tests.{eqb-true, eqb-false, eq-eqb, ne-eqb, not-true, not-false, lt-leb}
+use lib.Dec.{eqb, leb}
+use lib.ListN.{length, getD, set, replicate, length-set, length-map}
+use lib.Seq.{getD-set-same, getD-set-other, set-getD}
 use Rattle.transaction.specs.declared.Transaction.{Transaction}
 use Rattle.transaction.specs.Lists.{firstOf}
 use Rattle.transaction.specs.Checks.{shardFits}
+use Rattle.transaction.proofs.Tables.{first-stands}
 use Rattle.model.specs.declared.Answer.{Answer}
 use Rattle.model.specs.declared.Answer.the-variants.{Refused}
 use Rattle.model.specs.Steps.{Ledger, house, emptyLedger}
-use Rattle.model.specs.Shard.{Call, deliver, deliverForm, shardStep}
-use Rattle.model.specs.Cluster.{ledgerAt, gave, notGiven, atShard, clusterStep}
+use Rattle.model.specs.Shard.{Call, deliver, deliverForm, deliverRefusals, hear, shardStep}
+use Rattle.model.specs.Cluster.{emptyShards, ledgerAt, gave, notGiven, atShard, clusterStep}
 use Rattle.model.proofs.Basics.{passed}
+use Rattle.model.proofs.Tables.{unless-refused}
 use Rattle.model.proofs.Refusals.{shard-below}
-use Rattle.shard.specs.declared.Shard.{Shard}
-use Rattle.shard.specs.declared.Stepped as shard-stepped
 use Rattle.shard.specs.View as shard
-use Rattle.cluster.specs.declared.Cluster.{Cluster}
-use Rattle.cluster.specs.declared.Stepped.{Stepped}
-use Rattle.cluster.specs.View.{view, noShard, shardAt, SoundAt, Sound, Fresh, Steps}
-use Rattle.cluster.specs.Parts.{Replaced}
+use Rattle.shard.specs.Tables.{deliverLedger}
+use Rattle.cluster.specs.View.{view, shardAt, SoundAt, Sound, Fresh, Steps}
 
 -- an element of a mapped list, and a mapped list after a store
 map-at : {A B : Type 0} (f : A → B) (l : List A) (i : ℕ) (d : A) (e : B) → i < length l → getD (map f l) i e ≡ f (getD l i d)
@@ -37,106 +35,166 @@ map-set f [] i a = refl
 map-set f (x ∷ l) zero a = refl
 map-set f (x ∷ l) (suc i) a = ap (λ (m : List _). f x ∷ m) (map-set f l i a)
 
-module _ (c : Cluster) (eight : length (c .shards) ≡ 8) where
+module _ (c : List (List ℕ)) (sound : Sound c) where
   -- the ledger of a shard
   pub ledger-of : (p : ℕ) → p < 8 → ledgerAt house (view c) p ≡ shard.view (shardAt c p)
   unfolding view
-  ledger-of p h = map-at shard.view (c .shards) p noShard (emptyLedger house) (omega arith)
+  ledger-of p h = map-at shard.view c p [] (emptyLedger house) (omega (arith, sound .eight))
 
-  -- the cluster after a shard was replaced
-  module _ (sound : Sound c) (p : ℕ) (below : p < 8) {answer : Answer} {s : Shard} {r : Stepped} (q : Replaced c p answer s r) where
-    replaced-view : view (r .cluster) ≡ set (view c) p (shard.view s)
-    unfolding view
-    replaced-view = ap (map shard.view) (q .shards) ∙ map-set shard.view (c .shards) p s
-
-    replaced-sound : s .number ≡ p → shard.Sound s → Sound (r .cluster)
-    replaced-sound n h i k = go (eqb i p) refl
-      where
-        at : shardAt (r .cluster) i ≡ getD (set (c .shards) p s) i noShard
-        at = ap (λ (l : List Shard). getD l i noShard) (q .shards)
-
-        go : (b : Bool) → eqb i p ≡ b → SoundAt (r .cluster) i
-        go true e =
-            let same : i ≡ p = eqb-true i p e in
-            let is : shardAt (r .cluster) i ≡ s = at ∙ rw same (getD-set-same (c .shards) p s noShard (omega arith)) in
-            record { numbered = ap (λ (x : Shard). x .number) is ∙ n ∙ sym same; sound = subst shard.Sound (sym is) h }
-        go false e =
-            let is : shardAt (r .cluster) i ≡ shardAt c i = at ∙ getD-set-other (c .shards) p i s noShard (eqb-false i p e) in
-            record { numbered = ap (λ (x : Shard). x .number) is ∙ sound i k .numbered; sound = subst shard.Sound (sym is) (sound i k .sound) }
-
-    -- a call that the shard carried out
-    pub carried : (call : Call) {x : shard-stepped.Stepped} → answer ≡ x .answer → s ≡ x .shard → shard.Steps (shardAt c p) call x
-        → clusterStep house (view c) call ≡ atShard house (view c) p call → Steps c call r
-    unfolding atShard
-    carried call {x} ea es h e =
-        let n : shardAt c p .number ≡ p = sound p below .numbered in
-        let l : ledgerAt house (view c) p ≡ shard.view (shardAt c p) = ledger-of p below in
-        let done : shardStep house p (ledgerAt house (view c) p) call ≡ shardStep house (shardAt c p .number) (shard.view (shardAt c p)) call = rw (l, n) refl in
-        record {
-          answered = q .answered ∙ ea ∙ h .answered ∙ sym (ap (λ (y : Ledger × Answer). y .1) done) ∙ sym (ap (λ (y : List Ledger × Answer). y .1) e);
-          ledgers =
-              replaced-view ∙ ap (set (view c) p) (ap shard.view es ∙ h .ledger ∙ sym (ap (λ (y : Ledger × Answer). y .0) done))
-              ∙ sym (ap (λ (y : List Ledger × Answer). y .0) e);
-          sound = replaced-sound (ap (λ (y : Shard). y .number) es ∙ h .numbered ∙ n) (subst shard.Sound (sym es) (h .sound));
-        }
-
--- a call that changes nothing
-pub refused : (c : Cluster) → Sound c → (call : Call) (number : ℕ) → clusterStep house (view c) call ≡ (view c, Refused number)
-    → Steps c call (record { answer = Refused number; cluster = c })
-refused c sound call number e = record {
-  answered = sym (ap (λ (y : List Ledger × Answer). y .1) e);
-  ledgers = sym (ap (λ (y : List Ledger × Answer). y .0) e);
-  sound = sound;
-}
-
--- the step of a vote, by whether its sender has given it
-module _ (shards : List Ledger) (receiver sender verdict : ℕ) (t : Transaction) {b : Bool} (e : b ≡ notGiven house shards receiver sender verdict t) where
-  pub vote-16 : b ≡ true → clusterStep house shards (deliver receiver sender verdict t) ≡ (shards, Refused 16)
-  unfolding clusterStep
-  vote-16 y = rw (sym e ∙ y) refl
-
-  pub vote-goes : b ≡ false → clusterStep house shards (deliver receiver sender verdict t) ≡ atShard house shards receiver (deliver receiver sender verdict t)
-  unfolding clusterStep
-  vote-goes n = rw (sym e ∙ n) refl
-
--- 16, from what was found
-module _ (c : Cluster) (receiver sender verdict : ℕ) (t : Transaction) {cause : ℕ}
-    (found : cause ≡ firstOf (deliverForm house receiver receiver sender verdict t)) where
-  pub form-fails : (cause ≡ 0 → ⊥) → false ≡ notGiven house (view c) receiver sender verdict t
-  unfolding notGiven
-  form-fails n = rw (← found, ne-eqb cause 0 n) refl
-
-  pub form-sender : cause ≡ 0 → sender < 8
-  unfolding deliverForm
-  form-sender z =
-      shard-below sender (not-false (shardFits sender) (passed (deliverForm house receiver receiver sender verdict t) refl (sym found ∙ z) .1 .1 .0))
-
-  pub form-given : {given : Bool} → length (c .shards) ≡ 8 → cause ≡ 0 → given ≡ gave (shard.view (shardAt c sender)) sender verdict t
-      → not given ≡ notGiven house (view c) receiver sender verdict t
-  unfolding notGiven
-  form-given eight z g = rw (sym found ∙ z, ledger-of c eight sender (form-sender z), g) refl
-
--- eight fresh shards
-module _ {a b c d e f g h : Shard} (fa : shard.Fresh 0 a) (fb : shard.Fresh 1 b) (fc : shard.Fresh 2 c) (fd : shard.Fresh 3 d) (fe : shard.Fresh 4 e)
-    (ff : shard.Fresh 5 f) (fg : shard.Fresh 6 g) (fh : shard.Fresh 7 h) where
-  abbrev all-eight : Cluster
-  all-eight = record { shards = a ∷ b ∷ c ∷ d ∷ e ∷ f ∷ g ∷ h ∷ [] }
-
-  at-place : (p : ℕ) → p < 8 → shard.Fresh p (shardAt all-eight p)
-  at-place zero k = fa
-  at-place (suc zero) k = fb
-  at-place (suc (suc zero)) k = fc
-  at-place (suc (suc (suc zero))) k = fd
-  at-place (suc (suc (suc (suc zero)))) k = fe
-  at-place (suc (suc (suc (suc (suc zero))))) k = ff
-  at-place (suc (suc (suc (suc (suc (suc zero)))))) k = fg
-  at-place (suc (suc (suc (suc (suc (suc (suc zero))))))) k = fh
-  at-place (suc (suc (suc (suc (suc (suc (suc (suc p)))))))) k = absurd (omega arith)
-
-  pub fresh : Fresh all-eight
-  unfolding view
-  fresh = record {
-    empty =
-        rw (fa .empty, fb .empty, fc .empty, fd .empty, fe .empty, ff .empty, fg .empty, fh .empty) refl;
-    sound = λ p k. record { numbered = at-place p k .numbered; sound = at-place p k .sound };
+  -- a call that changes nothing
+  pub refused : (call : Call) (number : ℕ) → clusterStep house (view c) call ≡ (view c, Refused number) → Steps c call (Refused number) c
+  refused call number e = record {
+    answered = sym (ap (λ (y : List Ledger × Answer). y .1) e);
+    ledgers = sym (ap (λ (y : List Ledger × Answer). y .0) e);
+    sound = sound;
   }
+
+  -- a shard lent on, and its words come back
+  module _ (p : ℕ) (below : p < 8) where
+    pub lent : shard.Sound (shardAt c p)
+    lent = sound .each p below .sound
+
+    pub numbered : shard.number (shardAt c p) ≡ p
+    numbered = sound .each p below .numbered
+
+    module _ (ws : List ℕ) where
+      view-set : view (set c p ws) ≡ set (view c) p (shard.view ws)
+      unfolding view
+      view-set = map-set shard.view c p ws
+
+      sound-set : shard.number ws ≡ p → shard.Sound ws → Sound (set c p ws)
+      sound-set n h = record { eight = length-set c p ws ∙ sound .eight; each = λ i k. go i k (eqb i p) refl }
+        where
+          go : (i : ℕ) → i < 8 → (b : Bool) → eqb i p ≡ b → SoundAt (set c p ws) i
+          go i k true e =
+              let same : i ≡ p = eqb-true i p e in
+              let is : shardAt (set c p ws) i ≡ ws = rw same (getD-set-same c p ws [] (omega (arith, sound .eight))) in
+              record { numbered = ap shard.number is ∙ n ∙ sym same; sound = subst shard.Sound (sym is) h }
+          go i k false e =
+              let is : shardAt (set c p ws) i ≡ shardAt c i = getD-set-other c p i ws [] (eqb-false i p e) in
+              record { numbered = ap shard.number is ∙ sound .each i k .numbered; sound = subst shard.Sound (sym is) (sound .each i k .sound) }
+
+      -- a call that the shard carried out
+      pub carried : (call : Call) {answer : Answer} → shard.Steps (shardAt c p) call answer ws
+          → clusterStep house (view c) call ≡ atShard house (view c) p call → Steps c call answer (set c p ws)
+      unfolding atShard
+      carried call h e =
+          let done : shardStep house p (ledgerAt house (view c) p) call ≡ shardStep house (shard.number (shardAt c p)) (shard.view (shardAt c p)) call =
+          rw (ledger-of p below, numbered) refl in
+          record {
+            answered = h .answered ∙ sym (ap (λ (y : Ledger × Answer). y .1) done) ∙ sym (ap (λ (y : List Ledger × Answer). y .1) e);
+            ledgers =
+                view-set ∙ ap (set (view c) p) (h .ledger ∙ sym (ap (λ (y : Ledger × Answer). y .0) done))
+                ∙ sym (ap (λ (y : List Ledger × Answer). y .0) e);
+            sound = sound-set (h .numbered ∙ numbered) (h .sound);
+          }
+
+-- ---- A vote: 3 to 6, then 16
+
+module _ (c : List (List ℕ)) (sound : Sound c) (receiver sender verdict : ℕ) (t : Transaction) {cause : ℕ}
+    (form : cause ≡ firstOf (deliverForm house receiver receiver sender verdict t)) where
+  abbrev call : Call
+  call = deliver receiver sender verdict t
+
+  abbrev at-receiver : List Ledger × Answer
+  at-receiver = atShard house (view c) receiver call
+
+  -- refused by its form
+  module _ (n : cause ≡ 0 → ⊥) where
+    goes : clusterStep house (view c) call ≡ at-receiver
+    unfolding clusterStep notGiven
+    goes = rw (← form, ne-eqb cause 0 n) refl
+
+    whole : firstOf (deliverRefusals house receiver (ledgerAt house (view c) receiver) receiver sender verdict t) ≡ cause
+    unfolding deliverRefusals
+    whole =
+        first-stands (deliverForm house receiver receiver sender verdict t) (deliverLedger (ledgerAt house (view c) receiver) sender verdict t)
+        (λ z. n (form ∙ z))
+        ∙ sym form
+
+    stays : at-receiver ≡ (view c, Refused cause)
+    unfolding atShard shardStep
+    stays =
+        let ledger = ledgerAt house (view c) receiver in
+        let r = unless-refused cause ledger (hear receiver ledger sender verdict t) n in
+        rw (whole, r) (ap (λ (l : List Ledger). (l, Refused cause)) (set-getD (view c) receiver (emptyLedger house)))
+
+    pub form-refused : Steps c call (Refused cause) c
+    form-refused = refused c sound call cause (goes ∙ stays)
+
+  module _ (z : cause ≡ 0) where
+    pub passes : firstOf (deliverForm house receiver receiver sender verdict t) ≡ 0
+    passes = sym form ∙ z
+
+    pub sender-below : sender < 8
+    unfolding deliverForm
+    sender-below = shard-below sender (not-false (shardFits sender) (passed (deliverForm house receiver receiver sender verdict t) refl passes .1 .1 .0))
+
+    pub receiver-below : receiver < 8
+    unfolding deliverForm
+    receiver-below = shard-below receiver (not-false (shardFits receiver) (passed (deliverForm house receiver receiver sender verdict t) refl passes .1 .0))
+
+    module _ {given : Bool} (eg : given ≡ gave (shard.view (shardAt c sender)) sender verdict t) where
+      not-given-is : notGiven house (view c) receiver sender verdict t ≡ not given
+      unfolding notGiven
+      not-given-is = rw (passes, ledger-of c sound sender sender-below, ← eg) refl
+
+      -- 16
+      pub not-given : not given ≡ true → Steps c call (Refused 16) c
+      unfolding clusterStep
+      not-given n = refused c sound call 16 (rw (not-given-is ∙ n) refl)
+
+      -- heard by the receiver
+      pub own-form : firstOf (deliverForm house (shard.number (shardAt c receiver)) (shard.number (shardAt c receiver)) sender verdict t) ≡ 0
+      own-form = rw (numbered c sound receiver receiver-below) passes
+
+      pub heard : not given ≡ false → {answer : Answer} {ws : List ℕ}
+          → shard.Steps (shardAt c receiver) (deliver (shard.number (shardAt c receiver)) sender verdict t) answer ws → Steps c call answer (set c receiver ws)
+      unfolding clusterStep
+      heard y {answer} {ws} h =
+          let own = subst (λ (r : ℕ). shard.Steps (shardAt c receiver) (deliver r sender verdict t) answer ws) (numbered c sound receiver receiver-below) h in
+          carried c sound receiver receiver-below ws call own (rw (not-given-is ∙ y) refl)
+
+-- ---- Eight fresh shards, one after the other
+
+pub record Freshened (c : List (List ℕ)) (i : ℕ) : Type 0 where
+  pub within : i ≤ 8
+  pub eight : length c ≡ 8
+  pub so : (p : ℕ) → p < i → shard.Fresh p (shardAt c p)
+
+pub freshen-start : (c : List (List ℕ)) → length c ≡ 8 → Freshened c 0
+freshen-start c e = record { within = omega arith; eight = e; so = λ p h. absurd (omega arith) }
+
+below-it : (q i : ℕ) → q < i + 1 → (q ≡ i → ⊥) → q < i
+below-it q i h n = omega arith
+
+pub freshen-next : (c : List (List ℕ)) (i me : ℕ) (ws : List ℕ) → Freshened c i → i < 8 → me ≡ i → shard.Fresh me ws → Freshened (set c i ws) (i + 1)
+freshen-next c i me ws s h e f = record {
+  within = omega arith;
+  eight = length-set c i ws ∙ s .eight;
+  so = λ p k. go p k (eqb p i) refl;
+}
+  where
+    go : (p : ℕ) → p < i + 1 → (b : Bool) → eqb p i ≡ b → shard.Fresh p (shardAt (set c i ws) p)
+    go p k true q =
+        let same : p ≡ i = eqb-true p i q in
+        rw (same, getD-set-same c i ws [] (omega (arith, s .eight))) (rw e at f)
+    go p k false q =
+        let other : p ≡ i → ⊥ = eqb-false p i q in
+        rw (getD-set-other c i p ws [] other) (s .so p (below-it p i k other))
+
+map-all : {A B : Type 0} (f : A → B) (l : List A) (d : A) (b : B) → ((p : ℕ) → p < length l → f (getD l p d) ≡ b) → map f l ≡ replicate (length l) b
+map-all f [] d b h = refl
+map-all {B = B} f (x ∷ l) d b h =
+    ap (λ (y : B). y ∷ map f l) (h 0 (omega arith)) ∙ ap (λ (m : List B). b ∷ m) (map-all f l d b (λ p k. h (suc p) (omega arith)))
+
+pub freshened : (c : List (List ℕ)) (i : ℕ) → Freshened c i → 8 ≤ i → Fresh c
+unfolding view
+freshened c i s h =
+    let at : (p : ℕ) → p < 8 → shard.Fresh p (shardAt c p) = λ p k. s .so p (omega (arith, s .within)) in
+    record {
+      empty =
+          map-all shard.view c [] (emptyLedger house) (λ p k. at p (omega (arith, s .eight)) .empty)
+          ∙ ap (λ (n : ℕ). replicate n (emptyLedger house)) (s .eight);
+      sound = record { eight = s .eight; each = λ p k. record { numbered = at p k .numbered; sound = at p k .sound } };
+    }

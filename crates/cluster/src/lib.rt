@@ -1,132 +1,82 @@
-// Eight shards (document 01: a round of eight pantries), by value. Each call gets a cluster and gives back the next one with its answer.
+// Eight shards (document 01: a round of eight pantries), in place: each call is lent the cluster's words and lends one shard's on.
 ghost use mathlib.Core.Path.{_≡_};
 ghost use Prim.Native.Nat.{_<_};
-ghost use Rattle.model.specs.Steps.{house};
 ghost use Rattle.model.specs.Shard.{mint, register, deliver};
-ghost use Rattle.model.specs.Cluster.{notGiven};
-ghost use Rattle.cluster.specs.View.{view, shardAt, Sound, Fresh, Steps};
-ghost use Rattle.cluster.specs.Parts.{Replaced};
+ghost use Rattle.cluster.specs.View.{Sound, Fresh, Steps};
+use layout::SHARD_WORDS;
+use layout::Words;
 use model::Answer;
-use shard::Shard;
+use shard::refusals::deliver_form;
 use transaction::Transaction;
 
 pub mod queries; // what can be asked of a cluster
 
-// The shards are open to a loop that keeps all eight in a local and moves one of them a call; `Sound` is what such a loop has to keep.
-pub struct Cluster {
-    pub shards: [Shard; 8],
-}
+// A cluster's words.
+pub type Cluster = [Words; 8];
 
-// What a call answers, and the cluster after it.
-pub struct Stepped {
-    pub answer: Answer,
-    pub cluster: Cluster,
-}
-
-// Eight empty shards.
-pub fn new() -> Cluster
-    ensures { λ r. ⌜ Fresh r ⌝ }
+fn narrow(p: usize) -> u8
+    requires { ⌜ p < 8 ⌝ }
+    ensures { λ r. ⌜ r ≡ p ⌝ }
 {
-    Cluster {
-        shards: [
-            shard::new(0),
-            shard::new(1),
-            shard::new(2),
-            shard::new(3),
-            shard::new(4),
-            shard::new(5),
-            shard::new(6),
-            shard::new(7),
-        ],
-    }
+    p as u8
 }
 
-// The cluster with the shard at a place replaced, and the answer of that shard.
-fn replaced(c: Cluster, at: usize, answer: Answer, s: Shard) -> Stepped
-    requires { ⌜ at < 8 ⌝ }
-    ensures { λ r. ⌜ Replaced c at answer s r ⌝ }
+// Eight empty shards, whatever the words were.
+pub fn new(c: &mut Cluster)
+    ensures { λ _. ⌜ Fresh (now (c .exit)) ⌝ }
 {
-    let mut shards = c.shards;
-    shards[at] = s;
-    Stepped {
-        answer: answer,
-        cluster: Cluster { shards: shards },
+    *c = [[0; SHARD_WORDS]; 8];
+    let mut p = 0;
+    while p < 8 {
+        let me = narrow(p);
+        shard::new(&mut c[p], me);
+        p += 1;
     }
 }
 
 // An opening at the receiving shard.
-pub fn mint_token(c: Cluster, receiver: u8, index: u8, owner: u32, amount: u32) -> Stepped
-    requires { ⌜ Sound c ⌝ }
-    ensures { λ r. ⌜ Steps c (mint receiver index owner amount) r ⌝ }
+pub fn mint_token(c: &mut Cluster, receiver: u8, index: u8, owner: u32, amount: u32) -> Answer
+    requires { ⌜ Sound (now c) ⌝ }
+    ensures { λ r. ⌜ Steps (now (c .entry)) (mint receiver index owner amount) r (now (c .exit)) ⌝ }
 {
     let at = receiver as usize;
     if 8 <= at {
-        return Stepped {
-            answer: Answer::Refused(3),
-            cluster: c,
-        };
+        return Answer::Refused(3);
     }
-    let shards = c.shards;
-    let r = shard::mint_token(shards[at], receiver, index, owner, amount);
-    let next = r.shard;
-    let answer = r.answer;
-    replaced(c, at, answer, next)
+    shard::mint_token(&mut c[at], receiver, index, owner, amount)
 }
 
 // A registration at the receiving shard.
-pub fn register_transaction(c: Cluster, receiver: u8, t: Transaction) -> Stepped
-    requires { ⌜ Sound c ⌝ }
-    ensures { λ r. ⌜ Steps c (register receiver t) r ⌝ }
+pub fn register_transaction(c: &mut Cluster, receiver: u8, t: Transaction) -> Answer
+    requires { ⌜ Sound (now c) ⌝ }
+    ensures { λ r. ⌜ Steps (now (c .entry)) (register receiver t) r (now (c .exit)) ⌝ }
 {
     let at = receiver as usize;
     if 8 <= at {
-        return Stepped {
-            answer: Answer::Refused(3),
-            cluster: c,
-        };
+        return Answer::Refused(3);
     }
-    let shards = c.shards;
-    let r = shard::register_transaction(shards[at], receiver, t);
-    let next = r.shard;
-    let answer = r.answer;
-    replaced(c, at, answer, next)
+    shard::register_transaction(&mut c[at], receiver, t)
 }
 
-// 16: a vote that passes 3 to 6, and its sender has not given it.
-fn is_not_given(c: Cluster, receiver: u8, sender: u8, verdict: u8, t: Transaction) -> bool
-    requires { ⌜ Sound c ⌝ }
-    ensures { λ r. ⌜ r ≡ notGiven house (view c) receiver sender verdict t ⌝ }
+// A vote delivered to the receiving shard: 3 to 6, then 16 where its sender has not given it, then the receiver.
+pub fn deliver_vote(
+    c: &mut Cluster,
+    receiver: u8,
+    sender: u8,
+    verdict: u8,
+    t: Transaction,
+) -> Answer
+    requires { ⌜ Sound (now c) ⌝ }
+    ensures { λ r. ⌜ Steps (now (c .entry)) (deliver receiver sender verdict t) r (now (c .exit)) ⌝ }
 {
-    let cause = shard::refusals::deliver_form(receiver, receiver, sender, verdict, t);
+    let cause = deliver_form(receiver, receiver, sender, verdict, t);
     if cause != 0 {
-        return false;
+        return Answer::Refused(cause);
     }
-    let at = sender as usize;
-    let shards = c.shards;
-    !shard::has_given_vote(shards[at], sender, verdict, t)
-}
-
-// A vote delivered to the receiving shard.
-pub fn deliver_vote(c: Cluster, receiver: u8, sender: u8, verdict: u8, t: Transaction) -> Stepped
-    requires { ⌜ Sound c ⌝ }
-    ensures { λ r. ⌜ Steps c (deliver receiver sender verdict t) r ⌝ }
-{
-    if is_not_given(c, receiver, sender, verdict, t) {
-        return Stepped {
-            answer: Answer::Refused(16),
-            cluster: c,
-        };
+    let from = sender as usize;
+    if !shard::has_given_vote(&c[from], sender, verdict, t) {
+        return Answer::Refused(16);
     }
     let at = receiver as usize;
-    if 8 <= at {
-        return Stepped {
-            answer: Answer::Refused(3),
-            cluster: c,
-        };
-    }
-    let shards = c.shards;
-    let r = shard::hear_vote(shards[at], receiver, sender, verdict, t);
-    let next = r.shard;
-    let answer = r.answer;
-    replaced(c, at, answer, next)
+    shard::hear_formed(&mut c[at], sender, verdict, t)
 }

@@ -1,2 +1,3 @@
 pub mod Long
 pub mod Made
+pub mod Tokens

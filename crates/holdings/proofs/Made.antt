@@ -17,7 +17,7 @@ use Rattle.model.specs.Steps.{outputHere, tokenOf, tokensFrom, madeHere}
 use Rattle.loops.specs.Lists.{oneIf}
 use Rattle.loops.proofs.Fours.{nest}
 use Rattle.loops.proofs.Loops.{append-one}
-use Rattle.holdings.specs.Arrays.{madeFrom}
+use Rattle.holdings.specs.Held.{madeFrom}
 
 -- one element more, or none
 module _ {A : Type 0} (wanted : Bool) (l : List A) (n : ℕ) (x : A) where
@@ -26,12 +26,6 @@ module _ {A : Type 0} (wanted : Bool) (l : List A) (n : ℕ) (x : A) where
 
   pub push-one : not wanted ≡ false → n < length l → take (n + 1) (set l n x) ≡ take n l ++ oneIf wanted x
   push-one e h = rw (not-false wanted e) (append-one l n x h)
-
-  pub none-more : not wanted ≡ true → n ≡ n + length (oneIf wanted x)
-  none-more e = rw (not-true wanted e) (omega arith)
-
-  pub one-more : not wanted ≡ false → n + 1 ≡ n + length (oneIf wanted x)
-  one-more e = rw (not-false wanted e) refl
 
 -- what one output slot makes stands in front of what the slots behind it make
 module _ (me number : ℕ) where

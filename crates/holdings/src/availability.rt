@@ -3,12 +3,15 @@ ghost use mathlib.Core.Path.{_≡_};
 ghost use mathlib.Core.Bool.{_&&_};
 ghost use mathlib.Core.List.{[], _++_};
 ghost use Prim.Native.Nat.{_+_, _≤_, _<_};
-ghost use lib.ListN.{take};
-ghost use Rattle.model.specs.Steps.{names, freeFor, available, inputsHere, availableHere};
 ghost use Rattle.model.specs.Lists.{keep};
-ghost use Rattle.holdings.specs.Arrays.{inputsOf};
+ghost use Rattle.model.specs.Steps.{names, freeFor, available, inputsHere};
 ghost use Rattle.loops.specs.Lists.{oneIf};
+ghost use Rattle.layout.specs.Layout.{tokenSlots, shardOf, ledgerOf};
+ghost use Rattle.holdings.specs.Held.{inputsOf};
 use crate::Inputs;
+use layout::Words;
+use layout::counts::held;
+use layout::tokens::token_at;
 use model::Token;
 use transaction::Input;
 use transaction::TokenId;
@@ -22,24 +25,25 @@ pub fn names_token(x: Input, token: Token) -> bool
     (token.creator == id.creator) & (token.index == id.index)
 }
 
-// It is that token with that owner and that amount, and it is pledged to no transaction.
+// It is that token with that owner and that amount, and it is pledged to no transaction. The name first: most tokens have another.
 fn is_free_for(x: Input, token: Token) -> bool
     ensures { λ r. ⌜ r ≡ freeFor x token ⌝ }
 {
-    names_token(x, token)
-        & (token.owner == x.owner)
-        & (token.amount == x.amount)
-        & (token.pledge == 0)
+    if !names_token(x, token) {
+        return false;
+    }
+    (token.owner == x.owner) & (token.amount == x.amount) & (token.pledge == 0)
 }
 
 // The shard holds such a token.
-pub fn is_available(tokens: [Token; 128], held: usize, x: Input) -> bool
-    requires { ⌜ held ≤ 128 ⌝ }
-    ensures { λ r. ⌜ r ≡ available (take held tokens) x ⌝ }
+pub fn is_available(s: &Words, x: Input) -> bool
+    requires { ⌜ shardOf (now s) .held ≤ tokenSlots ⌝ }
+    ensures { λ r. ⌜ r ≡ available (ledgerOf (now (s .entry)) .tokens) x ⌝ }
 {
+    let n = held(s);
     let mut k = 0;
-    while k < held {
-        let token = tokens[k];
+    while k < n {
+        let token = token_at(s, k);
         if is_free_for(x, token) {
             return true;
         }
@@ -99,26 +103,26 @@ pub fn inputs_here(me: u8, t: Transaction) -> Inputs
     push_if(three, (3 < n) & (d.token.shard == me), d)
 }
 
-fn push_available(before: Inputs, tokens: [Token; 128], held: usize, used: bool, x: Input) -> Inputs
-    requires { ⌜ (before .count < 4) × (held ≤ 128) ⌝ }
-    ensures { λ r. ⌜ (inputsOf r ≡ inputsOf before ++ oneIf (used && available (take held tokens) x) x) × (r .count ≤ before .count + 1) ⌝ }
+fn push_available(s: &Words, before: Inputs, used: bool, x: Input) -> Inputs
+    requires { ⌜ (before .count < 4) × (shardOf (now s) .held ≤ tokenSlots) ⌝ }
+    ensures { λ r. ⌜ (inputsOf r ≡ inputsOf before ++ oneIf (used && available (ledgerOf (now (s .entry)) .tokens) x) x) × (r .count ≤ before .count + 1) ⌝ }
 {
     if !used {
         return before;
     }
-    let wanted = is_available(tokens, held, x);
+    let wanted = is_available(s, x);
     push_if(before, wanted, x)
 }
 
 // Second, the available ones among the inputs here.
-pub fn available_of(tokens: [Token; 128], held: usize, here: Inputs) -> Inputs
-    requires { ⌜ held ≤ 128 ⌝ }
-    ensures { λ r. ⌜ (inputsOf r ≡ keep (available (take held tokens)) (inputsOf here)) × (r .count ≤ 4) ⌝ }
+pub fn available_of(s: &Words, here: Inputs) -> Inputs
+    requires { ⌜ shardOf (now s) .held ≤ tokenSlots ⌝ }
+    ensures { λ r. ⌜ (inputsOf r ≡ keep (available (ledgerOf (now (s .entry)) .tokens)) (inputsOf here)) × (r .count ≤ 4) ⌝ }
 {
     let n = here.count;
     let x = here.list;
-    let one = push_available(no_inputs(), tokens, held, 0 < n, x[0]);
-    let two = push_available(one, tokens, held, 1 < n, x[1]);
-    let three = push_available(two, tokens, held, 2 < n, x[2]);
-    push_available(three, tokens, held, 3 < n, x[3])
+    let one = push_available(s, no_inputs(), 0 < n, x[0]);
+    let two = push_available(s, one, 1 < n, x[1]);
+    let three = push_available(s, two, 2 < n, x[2]);
+    push_available(s, three, 3 < n, x[3])
 }

@@ -1,5 +1,4 @@
-// The tokens that a shard holds, and what a registration and a commit do to them: document 01, 'The steps'.
-use model::Token;
+// The tokens that a shard holds, and what a registration and a commit do to them, in place: document 01, 'The steps'.
 use transaction::Input;
 
 pub mod availability; // the inputs at a shard, and the available ones among them
@@ -10,10 +9,4 @@ pub mod committing; // tokens destroyed and made
 pub struct Inputs {
     pub count: usize,
     pub list: [Input; 4],
-}
-
-// Up to 128 tokens, in order.
-pub struct Holdings {
-    pub count: usize,
-    pub list: [Token; 128],
 }

@@ -1,52 +1,52 @@
 // The third step of a registration: the tokens of the available inputs are pledged.
 ghost use mathlib.Core.Path.{_≡_};
-ghost use Prim.Native.Nat.{_≤_};
-ghost use lib.ListN.{take};
-ghost use Rattle.transaction.specs.Lists.{any};
-ghost use Rattle.model.specs.Steps.{namedBy, pledgeIf, pledges};
-ghost use Rattle.holdings.specs.Arrays.{inputsOf};
+ghost use mathlib.Core.List.{[], _∷_};
+ghost use Rattle.model.specs.Steps.{pledges};
+ghost use Rattle.loops.specs.Lists.{oneIf};
+ghost use Rattle.holdings.specs.Held.{inputsOf, Room, Changes};
 use crate::Inputs;
 use crate::availability::names_token;
-use model::Token;
+use layout::Words;
+use layout::counts::held;
+use layout::tokens::put_pledge;
+use layout::tokens::token_at;
+use transaction::Input;
 
-// One of the inputs names the token.
-pub fn is_named(inputs: Inputs, token: Token) -> bool
-    ensures { λ r. ⌜ r ≡ any (namedBy token) (inputsOf inputs) ⌝ }
+// What one input names is pledged.
+fn pledge_named(s: &mut Words, number: u32, x: Input)
+    requires { ⌜ Room (now s) ⌝ }
+    ensures { λ _. ⌜ Changes (pledges number (x ∷ [])) (now (s .entry)) (now (s .exit)) ⌝ }
+{
+    let n = held(s);
+    let mut k = 0;
+    while k < n {
+        let at = k;
+        let token = token_at(s, at);
+        k += 1;
+        if names_token(x, token) {
+            put_pledge(s, at, number);
+        }
+    }
+}
+
+fn pledge_if(s: &mut Words, number: u32, used: bool, x: Input)
+    requires { ⌜ Room (now s) ⌝ }
+    ensures { λ _. ⌜ Changes (pledges number (oneIf used x)) (now (s .entry)) (now (s .exit)) ⌝ }
+{
+    if used {
+        pledge_named(s, number, x);
+    }
+}
+
+// Input after input: a loop over the tokens has one name to compare.
+pub fn pledge_all(s: &mut Words, number: u32, inputs: Inputs)
+    requires { ⌜ Room (now s) ⌝ }
+    ensures { λ _. ⌜ Changes (pledges number (inputsOf inputs)) (now (s .entry)) (now (s .exit)) ⌝ }
 {
     let n = inputs.count;
     let x = inputs.list;
-    ((0 < n) & names_token(x[0], token))
-        | ((1 < n) & names_token(x[1], token))
-        | ((2 < n) & names_token(x[2], token))
-        | ((3 < n) & names_token(x[3], token))
-}
-
-fn pledge_if(number: u32, inputs: Inputs, token: Token) -> Token
-    ensures { λ r. ⌜ r ≡ pledgeIf number (inputsOf inputs) token ⌝ }
-{
-    if is_named(inputs, token) {
-        Token {
-            creator: token.creator,
-            index: token.index,
-            owner: token.owner,
-            amount: token.amount,
-            pledge: number,
-        }
-    } else {
-        token
-    }
-}
-
-pub fn pledge_all(tokens: [Token; 128], held: usize, number: u32, inputs: Inputs) -> [Token; 128]
-    requires { ⌜ held ≤ 128 ⌝ }
-    ensures { λ r. ⌜ take held r ≡ pledges number (inputsOf inputs) (take held tokens) ⌝ }
-{
-    let mut after = tokens;
-    let mut k = 0;
-    while k < held {
-        let token = pledge_if(number, inputs, tokens[k]);
-        after[k] = token;
-        k += 1;
-    }
-    after
+    pledge_if(s, number, 0 < n, x[0]);
+    pledge_if(s, number, 1 < n, x[1]);
+    pledge_if(s, number, 2 < n, x[2]);
+    pledge_if(s, number, 3 < n, x[3]);
 }

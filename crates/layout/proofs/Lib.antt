@@ -1,3 +1,4 @@
 pub mod Regions
 pub mod Slots
 pub mod Stored
+pub mod Ledgers

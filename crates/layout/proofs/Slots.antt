@@ -45,19 +45,19 @@ use Rattle.layout.specs.Layout.{
   shardOf,
   noToken,
   noKnown,
-  tokenOf,
-  entryOf,
+  slotToken,
+  slotKnown,
 }
 use Rattle.layout.proofs.Regions.{length-tab, tab-at, tab-same, Same, Local}
 
 -- ---- What a read gives
 
 module _ (ws : List ℕ) (k : ℕ) where
-  pub token-get : k < tokenSlots → tokenOf ws k ≡ tokenAt ws k
+  pub token-get : k < tokenSlots → slotToken ws k ≡ tokenAt ws k
   unfolding tokensOf
   token-get h = tab-at tokenSlots (tokenAt ws) k noToken h
 
-  pub known-get : k < knownSlots → entryOf ws k ≡ knownAt ws k
+  pub known-get : k < knownSlots → slotKnown ws k ≡ knownAt ws k
   unfolding transactionsOf
   known-get h = tab-at knownSlots (knownAt ws) k noKnown h
 
@@ -91,26 +91,26 @@ output-get ws b (suc (suc (suc (suc i)))) h = absurd (omega arith)
 
 -- the shard of a slot of a known transaction
 pub input-shard : (ws : List ℕ) (k i : ℕ) → k < knownSlots → i < 4
-    → getD (entryOf ws k .transaction .inputs) i zeroInput .token .shard ≡ byte ws (entryPlace k + inputsOffset + i * inputSize)
+    → getD (slotKnown ws k .transaction .inputs) i zeroInput .token .shard ≡ byte ws (entryPlace k + inputsOffset + i * inputSize)
 unfolding inputIn
 input-shard ws k i h l = rw (known-get ws k h) (ap (λ (x : Input). x .token .shard) (input-get ws (entryPlace k + inputsOffset) i l))
 
 pub output-shard : (ws : List ℕ) (k i : ℕ) → k < knownSlots → i < 4
-    → getD (entryOf ws k .transaction .outputs) i zeroOutput .shard ≡ byte ws (entryPlace k + outputsOffset + i * outputSize)
+    → getD (slotKnown ws k .transaction .outputs) i zeroOutput .shard ≡ byte ws (entryPlace k + outputsOffset + i * outputSize)
 unfolding outputIn
 output-shard ws k i h l = rw (known-get ws k h) (ap (λ (y : Output). y .shard) (output-get ws (entryPlace k + outputsOffset) i l))
 
 -- what is noted of a sender on a known transaction
 pub heard-at : (ws : List ℕ) (k sender : ℕ) → k < knownSlots → sender < 8
-    → getD (entryOf ws k .heard) sender 0 ≡ byte ws (entryPlace k + heardOffset + sender)
+    → getD (slotKnown ws k .heard) sender 0 ≡ byte ws (entryPlace k + heardOffset + sender)
 heard-at ws k sender h l = rw (known-get ws k h) (heard-get ws (entryPlace k + heardOffset) sender l)
 
-pub heard-above : (ws : List ℕ) (k sender : ℕ) → k < knownSlots → 8 ≤ sender → getD (entryOf ws k .heard) sender 0 ≡ 0
+pub heard-above : (ws : List ℕ) (k sender : ℕ) → k < knownSlots → 8 ≤ sender → getD (slotKnown ws k .heard) sender 0 ≡ 0
 heard-above ws k sender h l = rw (known-get ws k h) (heard-none ws (entryPlace k + heardOffset) sender l)
 
 -- from its two parts
-pub known-parts : (ws : List ℕ) (k : ℕ) → k < knownSlots → {t : Transaction} {heard : List ℕ} → t ≡ entryOf ws k .transaction
-    → heard ≡ heardIn ws (entryPlace k + heardOffset) → record { transaction = t; heard = heard } ≡ entryOf ws k
+pub known-parts : (ws : List ℕ) (k : ℕ) → k < knownSlots → {t : Transaction} {heard : List ℕ} → t ≡ slotKnown ws k .transaction
+    → heard ≡ heardIn ws (entryPlace k + heardOffset) → record { transaction = t; heard = heard } ≡ slotKnown ws k
 known-parts ws k h et eh = rw (et, eh, known-get ws k h) refl
 
 -- ---- All slots are there
@@ -136,11 +136,11 @@ pub long-of : (ws : List ℕ) → Long (shardOf ws)
 long-of ws = record { tokens = length-tokens ws; transactions = length-known ws; given = length-given ws }
 
 -- four inputs and four outputs
-pub four-inputs : (ws : List ℕ) (k : ℕ) → k < knownSlots → length (entryOf ws k .transaction .inputs) ≡ 4
+pub four-inputs : (ws : List ℕ) (k : ℕ) → k < knownSlots → length (slotKnown ws k .transaction .inputs) ≡ 4
 unfolding inputsIn
 four-inputs ws k h = rw (known-get ws k h) refl
 
-pub four-outputs : (ws : List ℕ) (k : ℕ) → k < knownSlots → length (entryOf ws k .transaction .outputs) ≡ 4
+pub four-outputs : (ws : List ℕ) (k : ℕ) → k < knownSlots → length (slotKnown ws k .transaction .outputs) ≡ 4
 unfolding outputsIn
 four-outputs ws k h = rw (known-get ws k h) refl
 

@@ -65,8 +65,10 @@ use Rattle.layout.specs.Layout.{
   Headed,
   Becomes,
   Cleared,
-  tokenOf,
-  entryOf,
+  slotToken,
+  slotKnown,
+  PutsToken,
+  PutsKnown,
 }
 use Rattle.layout.proofs.Regions.{
   length-tab,
@@ -218,7 +220,7 @@ past : (ws : List ℕ) (i j x : ℕ) → (j ≡ i → ⊥) → word (set ws i x)
 past ws i j x n = getD-set-other ws i j x 0 n
 
 pub pledge-put : (ws : List ℕ) (k number : ℕ) → k < tokenSlots → length ws ≡ shardWords
-    → Becomes (withTokens (shardOf ws) (set (shardOf ws .tokens) k (pledgedTo number (tokenOf ws k)))) (set ws (tokenPlace k + 4) number)
+    → PutsToken ws k (pledgedTo number (slotToken ws k)) (set ws (tokenPlace k + 4) number)
 pledge-put ws k number h long =
     let b = tokenPlace k in
     let vs = set ws (b + 4) number in
@@ -236,8 +238,7 @@ pledge-put ws k number h long =
 
 -- a verdict noted
 pub heard-put : (ws : List ℕ) (k sender said : ℕ) → k < knownSlots → sender < 8 → said < 256 → length ws ≡ shardWords
-    → Becomes (withTransactions (shardOf ws) (set (shardOf ws .transactions) k (withSaid sender said (entryOf ws k))))
-    (set ws (entryPlace k + heardOffset + sender) said)
+    → PutsKnown ws k (withSaid sender said (slotKnown ws k)) (set ws (entryPlace k + heardOffset + sender) said)
 unfolding heardIn
 heard-put ws k sender said h m q long =
     let b = entryPlace k in
@@ -322,8 +323,7 @@ module _ (ws : List ℕ) (b x₀ x₁ x₂ : ℕ) where
 
 -- a token's five words
 pub token-put : (ws : List ℕ) (k : ℕ) (t : Token) → k < tokenSlots → length ws ≡ shardWords → t .index < 256
-    → Becomes (withTokens (shardOf ws) (set (shardOf ws .tokens) k t))
-    (five ws (tokenPlace k) (t .creator) (t .index) (t .owner) (t .amount) (t .pledge))
+    → PutsToken ws k t (five ws (tokenPlace k) (t .creator) (t .index) (t .owner) (t .amount) (t .pledge))
 token-put ws k t h long i =
     let b = tokenPlace k in
     let xs = t .creator ∷ t .index ∷ t .owner ∷ t .amount ∷ t .pledge ∷ [] in
@@ -482,7 +482,7 @@ module _ (k : ℕ) (v w x y z : List ℕ) (t : Known) (h : k < knownSlots) (long
       → Within (b + inputsOffset) (b + inputsOffset + 20) w x × (inputsIn x (b + inputsOffset) ≡ t .transaction .inputs)
       → Within (b + outputsOffset) (b + outputsOffset + 12) x y × (outputsIn y (b + outputsOffset) ≡ t .transaction .outputs)
       → Within (b + heardOffset) (b + heardOffset + 8) y z × (heardIn z (b + heardOffset) ≡ t .heard)
-      → Becomes (withTransactions (shardOf v) (set (shardOf v .transactions) k t)) z)
+      → PutsKnown v k t z)
   known-put hp hq hr hs =
       let b = entryPlace k in
       let e = b + knownSize in

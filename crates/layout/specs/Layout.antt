@@ -219,11 +219,18 @@ abbrev pub noKnown : Known
 noKnown = knownIn [] 0
 
 -- the token and the known transaction in a slot
-abbrev pub tokenOf : List ℕ → ℕ → Token
-tokenOf ws k = getD (shardOf ws .tokens) k noToken
+abbrev pub slotToken : List ℕ → ℕ → Token
+slotToken ws k = getD (shardOf ws .tokens) k noToken
 
-abbrev pub entryOf : List ℕ → ℕ → Known
-entryOf ws k = getD (shardOf ws .transactions) k noKnown
+abbrev pub slotKnown : List ℕ → ℕ → Known
+slotKnown ws k = getD (shardOf ws .transactions) k noKnown
+
+-- one token stored, and one known transaction
+abbrev pub PutsToken : List ℕ → ℕ → Token → List ℕ → Type 0
+PutsToken ws k t vs = Becomes (withTokens (shardOf ws) (set (shardOf ws .tokens) k t)) vs
+
+abbrev pub PutsKnown : List ℕ → ℕ → Known → List ℕ → Type 0
+PutsKnown ws k x vs = Becomes (withTransactions (shardOf ws) (set (shardOf ws .transactions) k x)) vs
 
 -- ---- What the stores of a known transaction's parts promise each other
 

@@ -3,7 +3,7 @@ ghost use mathlib.Core.Path.{_≡_};
 ghost use Prim.Native.Nat.{_+_, _≤_, _<_};
 ghost use lib.ListN.{getD};
 ghost use Rattle.transaction.specs.Tokens.{zeroInput, zeroOutput};
-ghost use Rattle.layout.specs.Layout.{shardWords, knownSlots, entryOf, inputIn, outputIn, inputsIn, outputsIn, heardIn};
+ghost use Rattle.layout.specs.Layout.{shardWords, knownSlots, slotKnown, inputIn, outputIn, inputsIn, outputsIn, heardIn};
 use crate::HEARD_OFFSET;
 use crate::INPUT_SIZE;
 use crate::INPUTS_OFFSET;
@@ -87,7 +87,7 @@ fn heard_in(s: &Words, b: usize) -> [u8; 8]
 
 pub fn transaction_at(s: &Words, k: usize) -> Transaction
     requires { ⌜ k < knownSlots ⌝ }
-    ensures { λ r. ⌜ r ≡ entryOf (now (s .entry)) k .transaction ⌝ }
+    ensures { λ r. ⌜ r ≡ slotKnown (now (s .entry)) k .transaction ⌝ }
 {
     let b = TRANSACTIONS_PLACE + k * KNOWN_SIZE;
     let inputs = inputs_in(s, b + INPUTS_OFFSET);
@@ -103,7 +103,7 @@ pub fn transaction_at(s: &Words, k: usize) -> Transaction
 
 pub fn known_at(s: &Words, k: usize) -> Known
     requires { ⌜ k < knownSlots ⌝ }
-    ensures { λ r. ⌜ r ≡ entryOf (now (s .entry)) k ⌝ }
+    ensures { λ r. ⌜ r ≡ slotKnown (now (s .entry)) k ⌝ }
 {
     let t = transaction_at(s, k);
     let heard = heard_in(s, TRANSACTIONS_PLACE + k * KNOWN_SIZE + HEARD_OFFSET);
@@ -116,7 +116,7 @@ pub fn known_at(s: &Words, k: usize) -> Known
 // The number alone, for searches.
 pub fn number_at(s: &Words, k: usize) -> u32
     requires { ⌜ k < knownSlots ⌝ }
-    ensures { λ r. ⌜ r ≡ entryOf (now (s .entry)) k .transaction .number ⌝ }
+    ensures { λ r. ⌜ r ≡ slotKnown (now (s .entry)) k .transaction .number ⌝ }
 {
     s[TRANSACTIONS_PLACE + k * KNOWN_SIZE]
 }
@@ -124,14 +124,14 @@ pub fn number_at(s: &Words, k: usize) -> u32
 // How many inputs and outputs it has.
 pub fn input_count_at(s: &Words, k: usize) -> u8
     requires { ⌜ k < knownSlots ⌝ }
-    ensures { λ r. ⌜ r ≡ entryOf (now (s .entry)) k .transaction .«input_count» ⌝ }
+    ensures { λ r. ⌜ r ≡ slotKnown (now (s .entry)) k .transaction .«input_count» ⌝ }
 {
     byte(s[TRANSACTIONS_PLACE + k * KNOWN_SIZE + 1])
 }
 
 pub fn output_count_at(s: &Words, k: usize) -> u8
     requires { ⌜ k < knownSlots ⌝ }
-    ensures { λ r. ⌜ r ≡ entryOf (now (s .entry)) k .transaction .«output_count» ⌝ }
+    ensures { λ r. ⌜ r ≡ slotKnown (now (s .entry)) k .transaction .«output_count» ⌝ }
 {
     byte(s[TRANSACTIONS_PLACE + k * KNOWN_SIZE + 2])
 }
@@ -139,14 +139,14 @@ pub fn output_count_at(s: &Words, k: usize) -> u8
 // The shard of one of its four inputs, and of one of its four outputs.
 pub fn input_shard_at(s: &Words, k: usize, i: usize) -> u8
     requires { ⌜ (k < knownSlots) × (i < 4) ⌝ }
-    ensures { λ r. ⌜ r ≡ getD (entryOf (now (s .entry)) k .transaction .inputs) i zeroInput .token .shard ⌝ }
+    ensures { λ r. ⌜ r ≡ getD (slotKnown (now (s .entry)) k .transaction .inputs) i zeroInput .token .shard ⌝ }
 {
     byte(s[TRANSACTIONS_PLACE + k * KNOWN_SIZE + INPUTS_OFFSET + i * INPUT_SIZE])
 }
 
 pub fn output_shard_at(s: &Words, k: usize, i: usize) -> u8
     requires { ⌜ (k < knownSlots) × (i < 4) ⌝ }
-    ensures { λ r. ⌜ r ≡ getD (entryOf (now (s .entry)) k .transaction .outputs) i zeroOutput .shard ⌝ }
+    ensures { λ r. ⌜ r ≡ getD (slotKnown (now (s .entry)) k .transaction .outputs) i zeroOutput .shard ⌝ }
 {
     byte(s[TRANSACTIONS_PLACE + k * KNOWN_SIZE + OUTPUTS_OFFSET + i * OUTPUT_SIZE])
 }
@@ -154,7 +154,7 @@ pub fn output_shard_at(s: &Words, k: usize, i: usize) -> u8
 // What is noted of a sender: 0 not heard, 1 no, 2 yes; 0 for a number above 7.
 pub fn heard_at(s: &Words, k: usize, sender: u8) -> u8
     requires { ⌜ k < knownSlots ⌝ }
-    ensures { λ r. ⌜ r ≡ getD (entryOf (now (s .entry)) k .heard) sender 0 ⌝ }
+    ensures { λ r. ⌜ r ≡ getD (slotKnown (now (s .entry)) k .heard) sender 0 ⌝ }
 {
     let at = sender as usize;
     if at < 8 {

@@ -1,8 +1,9 @@
 // The known transactions, stored.
 ghost use mathlib.Core.Path.{_≡_};
 ghost use Prim.Native.Nat.{_+_, _≤_, _<_};
-ghost use lib.ListN.{length, set};
-ghost use Rattle.layout.specs.Layout.{shardWords, knownSlots, shardOf, entryOf, inputIn, outputIn, inputsIn, outputsIn, heardIn, withTransactions, withSaid, Within, Headed, Becomes};
+ghost use lib.ListN.{length};
+ghost use Rattle.layout.specs.Layout.{shardWords, knownSlots, slotKnown, withSaid, PutsKnown};
+ghost use Rattle.layout.specs.Layout.{inputIn, outputIn, inputsIn, outputsIn, heardIn, Within, Headed};
 use crate::HEARD_OFFSET;
 use crate::INPUT_SIZE;
 use crate::INPUTS_OFFSET;
@@ -18,7 +19,7 @@ use transaction::Output;
 // Notes a verdict of a sender on a known transaction.
 pub fn put_heard(s: &mut Words, k: usize, sender: usize, said: u8)
     requires { ⌜ (k < knownSlots) × ((sender < 8) × (length (now s) ≡ shardWords)) ⌝ }
-    ensures { λ _. ⌜ Becomes (withTransactions (shardOf (now (s .entry))) (set (shardOf (now (s .entry)) .transactions) k (withSaid sender said (entryOf (now (s .entry)) k)))) (now (s .exit)) ⌝ }
+    ensures { λ _. ⌜ PutsKnown (now (s .entry)) k (withSaid sender said (slotKnown (now (s .entry)) k)) (now (s .exit)) ⌝ }
 {
     s[TRANSACTIONS_PLACE + k * KNOWN_SIZE + HEARD_OFFSET + sender] = said as u32;
 }
@@ -95,7 +96,7 @@ fn put_head(s: &mut Words, b: usize, number: u32, inputs: u8, outputs: u8)
 
 pub fn put_known(s: &mut Words, k: usize, x: Known)
     requires { ⌜ (k < knownSlots) × (length (now s) ≡ shardWords) ⌝ }
-    ensures { λ _. ⌜ Becomes (withTransactions (shardOf (now (s .entry))) (set (shardOf (now (s .entry)) .transactions) k x)) (now (s .exit)) ⌝ }
+    ensures { λ _. ⌜ PutsKnown (now (s .entry)) k x (now (s .exit)) ⌝ }
 {
     let b = TRANSACTIONS_PLACE + k * KNOWN_SIZE;
     let t = x.transaction;

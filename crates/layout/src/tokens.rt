@@ -1,9 +1,11 @@
 // The tokens held, one at a time.
 ghost use mathlib.Core.Path.{_≡_};
+ghost use mathlib.Core.Bool.{_&&_};
 ghost use Prim.Native.Nat.{_<_};
-ghost use lib.ListN.{length, set};
+ghost use lib.Dec.{eqb};
+ghost use lib.ListN.{length};
 ghost use Rattle.model.specs.Steps.{pledgedTo};
-ghost use Rattle.layout.specs.Layout.{shardWords, tokenSlots, shardOf, tokenOf, withTokens, Becomes};
+ghost use Rattle.layout.specs.Layout.{shardWords, tokenSlots, slotToken, PutsToken};
 use crate::TOKEN_SIZE;
 use crate::TOKENS_PLACE;
 use crate::Words;
@@ -12,7 +14,7 @@ use model::Token;
 
 pub fn token_at(s: &Words, k: usize) -> Token
     requires { ⌜ k < tokenSlots ⌝ }
-    ensures { λ r. ⌜ r ≡ tokenOf (now (s .entry)) k ⌝ }
+    ensures { λ r. ⌜ r ≡ slotToken (now (s .entry)) k ⌝ }
 {
     let b = TOKENS_PLACE + k * TOKEN_SIZE;
     Token {
@@ -24,9 +26,26 @@ pub fn token_at(s: &Words, k: usize) -> Token
     }
 }
 
+// Only its id, for searches: the token has that creator and index.
+pub fn is_token(s: &Words, k: usize, creator: u32, index: u8) -> bool
+    requires { ⌜ k < tokenSlots ⌝ }
+    ensures { λ r. ⌜ r ≡ (eqb (slotToken (now (s .entry)) k .creator) creator && eqb (slotToken (now (s .entry)) k .index) index) ⌝ }
+{
+    let b = TOKENS_PLACE + k * TOKEN_SIZE;
+    (s[b] == creator) & (byte(s[b + 1]) == index)
+}
+
+// Only its amount, for sums.
+pub fn amount_at(s: &Words, k: usize) -> u32
+    requires { ⌜ k < tokenSlots ⌝ }
+    ensures { λ r. ⌜ r ≡ slotToken (now (s .entry)) k .amount ⌝ }
+{
+    s[TOKENS_PLACE + k * TOKEN_SIZE + 3]
+}
+
 pub fn put_token(s: &mut Words, k: usize, t: Token)
     requires { ⌜ (k < tokenSlots) × (length (now s) ≡ shardWords) ⌝ }
-    ensures { λ _. ⌜ Becomes (withTokens (shardOf (now (s .entry))) (set (shardOf (now (s .entry)) .tokens) k t)) (now (s .exit)) ⌝ }
+    ensures { λ _. ⌜ PutsToken (now (s .entry)) k t (now (s .exit)) ⌝ }
 {
     let b = TOKENS_PLACE + k * TOKEN_SIZE;
     s[b] = t.creator;
@@ -39,7 +58,7 @@ pub fn put_token(s: &mut Words, k: usize, t: Token)
 // The token is pledged to the transaction of that number.
 pub fn put_pledge(s: &mut Words, k: usize, number: u32)
     requires { ⌜ (k < tokenSlots) × (length (now s) ≡ shardWords) ⌝ }
-    ensures { λ _. ⌜ Becomes (withTokens (shardOf (now (s .entry))) (set (shardOf (now (s .entry)) .tokens) k (pledgedTo number (tokenOf (now (s .entry)) k)))) (now (s .exit)) ⌝ }
+    ensures { λ _. ⌜ PutsToken (now (s .entry)) k (pledgedTo number (slotToken (now (s .entry)) k)) (now (s .exit)) ⌝ }
 {
     s[TOKENS_PLACE + k * TOKEN_SIZE + 4] = number;
 }

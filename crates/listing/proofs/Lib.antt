@@ -1,5 +1,9 @@
 pub mod Digits
 pub mod Stores
+pub mod Left
 pub mod Steps
+pub mod Running
+pub mod Ahead
 pub mod Whole
+pub mod Buffered
 pub mod Play

@@ -16,8 +16,9 @@ use Rattle.model.specs.Shard.{Call}
 use Rattle.model.specs.Model as model
 use Rattle.model.specs.Model.{Model, emptyModel, play, playAnswers}
 use Rattle.cluster.specs.Queries.{totalHeld}
+use Rattle.calls.specs.Calls.{callOf}
 use Rattle.listing.specs.Lines.{lineOf, totalLine}
-use Rattle.listing.specs.Listing.{callOf, receiverOf, answerLine, shownAs, stepOf, listingWithin, listingOf}
+use Rattle.listing.specs.Listing.{receiverOf, answerLine, shownAs, stepOf, listingWithin, listingOf}
 use Rattle.listing.specs.Play.{Item, refusal, asked, itemAt, itemsWithin, itemsOf, callsOf, linesOf}
 
 -- the text of items from a model, a place in the list of calls and a step on

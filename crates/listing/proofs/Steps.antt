@@ -11,18 +11,17 @@ use Rattle.reader.specs.declared.Answer.the-variants.{Read, Refused}
 use Rattle.reader.specs.declared.Reading.{Reading}
 use Rattle.reader.specs.Reading.{takenOf, numberOf, readingOf, Reads}
 use Rattle.reader.proofs.Cases.{taken-within}
-use Rattle.model.specs.declared.Answer as model
-use Rattle.model.specs.declared.Answer.the-variants as model-answer
+use Rattle.model.specs.declared.Answer.{Answer}
+use Rattle.model.specs.declared.Answer.the-variants as answer
 use Rattle.model.specs.Steps.{house}
 use Rattle.model.specs.Cluster.{clusterStep}
-use Rattle.cluster.specs.declared.Cluster.{Cluster}
-use Rattle.cluster.specs.declared.Stepped.{Stepped}
 use Rattle.cluster.specs.View.{view, Sound, Steps}
+use Rattle.calls.specs.Calls.{callOf}
 use Rattle.listing.specs.Lines.{unplaced, placeWord, lineOf}
-use Rattle.listing.specs.Parts.{Shows}
-use Rattle.listing.specs.Listing.{callOf, receiverOf, Shown, shownCall, shownAs, stepOf, Lists}
+use Rattle.listing.specs.Parts.{Puts}
+use Rattle.listing.specs.Listing.{receiverOf, Shown, shownCall, shownAs, stepOf, Lists}
 
-module _ (c : Cluster) (sound : Sound c) (step : ℕ) (l lent : List ℕ) {r : Reading} (reads : Reads l r) where
+module _ (before : List (List ℕ)) (step : ℕ) (l lent : List ℕ) (at : ℕ) {r : Reading} (reads : Reads l r) where
   answer-of : readingOf l .answer ≡ r .answer
   answer-of = ap (λ (x : Reading). x .answer) (sym (reads .whole))
 
@@ -34,11 +33,11 @@ module _ (c : Cluster) (sound : Sound c) (step : ℕ) (l lent : List ℕ) {r : R
   taken-of = ap (λ (x : Reading). x .taken) (reads .whole)
 
   -- refused by the reader
-  pub refused : {number cause size : ℕ} {after : List ℕ} → r .answer ≡ Refused number → cause ≡ numberOf (r .answer)
-      → Shows (lineOf step (45 ∷ []) (model-answer.Refused cause)) lent after size
-      → Lists c step l lent (record { cluster = c; size = size; taken = r .taken; ends = leb cause 2 }) after
+  pub refused : {number cause behind : ℕ} {out : List ℕ} → Sound before → r .answer ≡ Refused number → cause ≡ numberOf (r .answer)
+      → Puts lent at (lineOf step (45 ∷ []) (answer.Refused cause)) 64 out behind
+      → Lists before step l lent at (record { at = behind; taken = r .taken; ends = leb cause 2 }) before out
   unfolding stepOf shownAs
-  refused {number} {cause} {size} {after} e k s =
+  refused {number} {cause} sound e k s =
       let n : cause ≡ number = k ∙ ap numberOf e in
       let a : readingOf l .answer ≡ Refused cause = answer-of ∙ e ∙ ap Refused (sym n) in
       record {
@@ -51,20 +50,21 @@ module _ (c : Cluster) (sound : Sound c) (step : ℕ) (l lent : List ℕ) {r : R
       }
 
   -- read, and carried out or refused by the cluster
-  pub carried : {fields : Record} {done : Stepped} {hidden : Bool} {receiver size : ℕ} {after : List ℕ} → r .answer ≡ Read fields
-      → Steps c (callOf fields (r .transaction)) done
-      → hidden ≡ unplaced (done .answer)
+  pub carried : {fields : Record} {reply : Answer} {after : List (List ℕ)} {hidden : Bool} {receiver behind : ℕ} {out : List ℕ}
+      → r .answer ≡ Read fields
+      → Steps before (callOf fields (r .transaction)) reply after
+      → hidden ≡ unplaced reply
       → receiver ≡ receiverOf fields
-      → Shows (lineOf step (placeWord hidden receiver) (done .answer)) lent after size
-      → Lists c step l lent (record { cluster = done .cluster; size = size; taken = r .taken; ends = false }) after
+      → Puts lent at (lineOf step (placeWord hidden receiver) reply) 64 out behind
+      → Lists before step l lent at (record { at = behind; taken = r .taken; ends = false }) after out
   unfolding stepOf shownAs
-  carried {fields} {done} {hidden} {receiver} {size} {after} e k h p s =
-      let model-done = clusterStep house (view c) (callOf fields (r .transaction)) in
-      let is : stepOf (view c) step l ≡ shownCall step (receiverOf fields) model-done = rw (answer-of ∙ e, transaction-of) refl in
-      let line : lineOf step (placeWord hidden receiver) (done .answer) ≡ stepOf (view c) step l .line =
+  carried {fields} {reply} {after} {hidden} {receiver} {behind} {out} e k h p s =
+      let done = clusterStep house (view before) (callOf fields (r .transaction)) in
+      let is : stepOf (view before) step l ≡ shownCall step (receiverOf fields) done = rw (answer-of ∙ e, transaction-of) refl in
+      let line : lineOf step (placeWord hidden receiver) reply ≡ stepOf (view before) step l .line =
       rw (h, p, k .answered) (sym (ap (λ (x : Shown). x .line) is)) in
       record {
-        shows = subst (λ (x : List ℕ). Shows x lent after size) line s;
+        shows = subst (λ (x : List ℕ). Puts lent at x 64 out behind) line s;
         taken = taken-of;
         part = omega (arith, taken-of, taken-within l);
         ends = sym (ap (λ (x : Shown). x .ends) is);

@@ -14,21 +14,15 @@ use Rattle.reader.specs.Reading.{readingOf, takenOf, restOf}
 use Rattle.model.specs.declared.Answer.{Answer}
 use Rattle.model.specs.declared.Answer.the-variants.{Refused}
 use Rattle.model.specs.Steps.{Ledger, house}
-use Rattle.model.specs.Shard.{Call, mint, register, deliver}
 use Rattle.model.specs.Cluster.{emptyShards, clusterStep}
-use Rattle.cluster.specs.declared.Cluster.{Cluster}
+use Rattle.calls.specs.Calls.{callOf}
 use Rattle.cluster.specs.View.{view, Sound}
 use Rattle.cluster.specs.Queries.{totalHeld}
 use Rattle.listing.specs.declared.Listed.{Listed}
 use Rattle.listing.specs.Lines.{unplaced, placeWord, lineOf, totalLine}
-use Rattle.listing.specs.Parts.{Shows}
+use Rattle.listing.specs.Parts.{Puts}
 
--- the call of a record, and its receiving shard (pantry)
-abbrev pub callOf : Record → Transaction → Call
-callOf (Register receiver) t = register receiver t
-callOf (Vote receiver sender verdict) t = deliver receiver sender verdict t
-callOf (Mint receiver index owner amount) t = mint receiver index owner amount
-
+-- a record's receiving shard (pantry)
 abbrev pub receiverOf : Record → ℕ
 receiverOf (Register receiver) = receiver
 receiverOf (Vote receiver sender verdict) = receiver
@@ -74,10 +68,10 @@ unfoldable pub listingOf : List ℕ → List ℕ
 listingOf bytes = listingWithin (length bytes) (emptyShards house) 1 bytes
 
 -- what a step promises: the line, the bytes taken, the ledgers afterwards and whether reading ends are the definition's
-pub record Lists (before : Cluster) (step : ℕ) (bytes lent : List ℕ) (r : Listed) (after : List ℕ) : Type 0 where
-  pub shows : Shows (stepOf (view before) step bytes .line) lent after (r .size)
+pub record Lists (before : List (List ℕ)) (step : ℕ) (bytes lent : List ℕ) (at : ℕ) (r : Listed) (after : List (List ℕ)) (out : List ℕ) : Type 0 where
+  pub shows : Puts lent at (stepOf (view before) step bytes .line) 64 out (r .at)
   pub taken : r .taken ≡ takenOf bytes
   pub part : r .taken ≤ length bytes
   pub ends : r .ends ≡ stepOf (view before) step bytes .ends
-  pub ledgers : view (r .cluster) ≡ stepOf (view before) step bytes .shards
-  pub sound : Sound (r .cluster)
+  pub ledgers : view after ≡ stepOf (view before) step bytes .shards
+  pub sound : Sound after

@@ -12,8 +12,9 @@ use Rattle.reader.specs.Reading.{readingOf, restOf}
 use Rattle.model.specs.declared.Answer.{Answer}
 use Rattle.model.specs.declared.Answer.the-variants.{Refused}
 use Rattle.model.specs.Shard.{Call}
+use Rattle.calls.specs.Calls.{callOf}
 use Rattle.listing.specs.Lines.{lineOf}
-use Rattle.listing.specs.Listing.{callOf, receiverOf, answerLine}
+use Rattle.listing.specs.Listing.{receiverOf, answerLine}
 
 -- what the reader makes of the bytes at a place: a refusal with its number, or a receiving shard (pantry) and a call
 pub data Item : Type 0 where

@@ -1,4 +1,4 @@
-// Words stored into a line, one behind the other. Each answers the place behind what it stored.
+// Words stored into lent bytes from a place on, one behind the other. Each answers the place behind what it stored. Internal: a caller sees to the room.
 ghost use mathlib.Core.Path.{_≡_};
 ghost use mathlib.Core.List.{_∷_};
 ghost use Prim.Native.Nat.{_+_, _≤_};
@@ -10,8 +10,8 @@ use model::Answer;
 use model::Outcome;
 
 // Bytes as they are.
-pub fn put_text(line: &mut [u8; 64], at: usize, text: &[u8]) -> usize
-    requires { ⌜ at + length (now text) ≤ 64 ⌝ }
+pub(crate) fn put_text(line: &mut [u8], at: usize, text: &[u8]) -> usize
+    requires { ⌜ at + length (now text) ≤ length (now line) ⌝ }
     ensures { λ r. ⌜ Puts (now (line .entry)) at (now (text .entry)) (length (now (text .entry))) (now (line .exit)) r ⌝ }
 {
     let mut i = 0;
@@ -23,8 +23,8 @@ pub fn put_text(line: &mut [u8; 64], at: usize, text: &[u8]) -> usize
 }
 
 // A space and a word.
-pub fn put_word(line: &mut [u8; 64], at: usize, word: &[u8]) -> usize
-    requires { ⌜ at + (length (now word) + 1) ≤ 64 ⌝ }
+pub(crate) fn put_word(line: &mut [u8], at: usize, word: &[u8]) -> usize
+    requires { ⌜ at + (length (now word) + 1) ≤ length (now line) ⌝ }
     ensures { λ r. ⌜ Puts (now (line .entry)) at (32 ∷ now (word .entry)) (length (now (word .entry)) + 1) (now (line .exit)) r ⌝ }
 {
     line[at] = 32;
@@ -32,8 +32,8 @@ pub fn put_word(line: &mut [u8; 64], at: usize, word: &[u8]) -> usize
 }
 
 // A number in decimal.
-pub fn put_decimal(line: &mut [u8; 64], at: usize, n: u64) -> usize
-    requires { ⌜ at + 20 ≤ 64 ⌝ }
+pub(crate) fn put_decimal(line: &mut [u8], at: usize, n: u64) -> usize
+    requires { ⌜ at + 20 ≤ length (now line) ⌝ }
     ensures { λ r. ⌜ Puts (now (line .entry)) at (decimal n) 20 (now (line .exit)) r ⌝ }
 {
     let mut text = [0u8; 20];
@@ -42,8 +42,8 @@ pub fn put_decimal(line: &mut [u8; 64], at: usize, n: u64) -> usize
 }
 
 // A space and a number.
-pub fn put_number(line: &mut [u8; 64], at: usize, n: u64) -> usize
-    requires { ⌜ at + 21 ≤ 64 ⌝ }
+pub(crate) fn put_number(line: &mut [u8], at: usize, n: u64) -> usize
+    requires { ⌜ at + 21 ≤ length (now line) ⌝ }
     ensures { λ r. ⌜ Puts (now (line .entry)) at (32 ∷ decimal n) 21 (now (line .exit)) r ⌝ }
 {
     line[at] = 32;
@@ -51,16 +51,16 @@ pub fn put_number(line: &mut [u8; 64], at: usize, n: u64) -> usize
 }
 
 // A space and a number of 8 bits.
-pub fn put_small(line: &mut [u8; 64], at: usize, n: u8) -> usize
-    requires { ⌜ at + 21 ≤ 64 ⌝ }
+pub(crate) fn put_small(line: &mut [u8], at: usize, n: u8) -> usize
+    requires { ⌜ at + 21 ≤ length (now line) ⌝ }
     ensures { λ r. ⌜ Puts (now (line .entry)) at (32 ∷ decimal n) 4 (now (line .exit)) r ⌝ }
 {
     put_number(line, at, n as u64)
 }
 
 // A space and the shard, or "-".
-pub fn put_place(line: &mut [u8; 64], at: usize, hidden: bool, shard: u8) -> usize
-    requires { ⌜ at + 21 ≤ 64 ⌝ }
+pub(crate) fn put_place(line: &mut [u8], at: usize, hidden: bool, shard: u8) -> usize
+    requires { ⌜ at + 21 ≤ length (now line) ⌝ }
     ensures { λ r. ⌜ Puts (now (line .entry)) at (32 ∷ placeWord hidden shard) 4 (now (line .exit)) r ⌝ }
 {
     if hidden {
@@ -69,8 +69,8 @@ pub fn put_place(line: &mut [u8; 64], at: usize, hidden: bool, shard: u8) -> usi
     put_small(line, at, shard)
 }
 
-pub fn put_outcome(line: &mut [u8; 64], at: usize, outcome: Outcome) -> usize
-    requires { ⌜ at + 7 ≤ 64 ⌝ }
+pub(crate) fn put_outcome(line: &mut [u8], at: usize, outcome: Outcome) -> usize
+    requires { ⌜ at + 7 ≤ length (now line) ⌝ }
     ensures { λ r. ⌜ Puts (now (line .entry)) at (32 ∷ outcomeWord outcome) 7 (now (line .exit)) r ⌝ }
 {
     match outcome {
@@ -80,8 +80,8 @@ pub fn put_outcome(line: &mut [u8; 64], at: usize, outcome: Outcome) -> usize
     }
 }
 
-pub fn put_verdict(line: &mut [u8; 64], at: usize, verdict: bool) -> usize
-    requires { ⌜ at + 4 ≤ 64 ⌝ }
+pub(crate) fn put_verdict(line: &mut [u8], at: usize, verdict: bool) -> usize
+    requires { ⌜ at + 4 ≤ length (now line) ⌝ }
     ensures { λ r. ⌜ Puts (now (line .entry)) at (32 ∷ verdictWord verdict) 4 (now (line .exit)) r ⌝ }
 {
     if verdict {
@@ -91,8 +91,8 @@ pub fn put_verdict(line: &mut [u8; 64], at: usize, verdict: bool) -> usize
 }
 
 // The words of an answer, each with a space in front.
-pub fn put_answer(line: &mut [u8; 64], at: usize, answer: Answer) -> usize
-    requires { ⌜ at + 29 ≤ 64 ⌝ }
+pub(crate) fn put_answer(line: &mut [u8], at: usize, answer: Answer) -> usize
+    requires { ⌜ at + 29 ≤ length (now line) ⌝ }
     ensures { λ r. ⌜ Puts (now (line .entry)) at (spaced (wordsOf answer)) 13 (now (line .exit)) r ⌝ }
 {
     match answer {

@@ -1,2 +1,3 @@
 pub mod Loops
 pub mod Fours
+pub mod Places

@@ -2,18 +2,18 @@
 -- Each shape has its invariant, a record, with laws for the start, for a turn, for a turn that ends the search, and for the end.
 use Prim.Native.Nat.{ℕ, suc, _+_, _≤_, _<_}
 use mathlib.Core.Path.{_≡_, refl, sym, _∙_}
-use mathlib.Core.List.{List, [], _∷_, _++_, map, append-assoc, append-nil}
+use mathlib.Core.List.{List, [], _∷_, _++_}
 use mathlib.Core.Bool.{Bool, true, false}
 use native.Mathlib.Numerals.{add-one}
 use native.Mathlib.Omega.{arith}
-use lib.ListN.{length, take, set, getD, length-set}
+use lib.ListN.{length, take, set, getD}
 use lib.Seq.{slice, slice-cons, slice-empty, take-suc-set}
 use Rattle.transaction.specs.Lists.{any, total}
-use Rattle.model.specs.Lists.{keep, find}
+use Rattle.model.specs.Lists.{find}
 
 -- what is left begins with the element at i
 module _ {A : Type 0} (l : List A) (n i : ℕ) (d : A) (h : i < n) (k : n ≤ length l) where
-  slice-step : slice i n l ≡ getD l i d ∷ slice (i + 1) n l
+  pub slice-step : slice i n l ≡ getD l i d ∷ slice (i + 1) n l
   slice-step = rw (add-one) (slice-cons i n l d h k)
 
 -- ---- Any: does one of the first n pass? None did so far.
@@ -83,72 +83,6 @@ module _ {A : Type 0} {f : A → ℕ} {l : List A} {n : ℕ} where
       let z : total f (slice i n l) ≡ 0 = rw (e, slice-empty) in
       omega (arith, s .left, z)
 
--- ---- Filling an array q from the front: w elements so far, `rest` still to come, `whole` in the end.
-module _ {B : Type 0} (q : List B) (w : ℕ) (y : B) (rest whole : List B) where
-  fill-push : w < length q → take w q ++ (y ∷ rest) ≡ whole → take (w + 1) (set q w y) ++ rest ≡ whole
-  fill-push h e = rw (add-one, take-suc-set q w y h, append-assoc) e
-
-fill-end : {B : Type 0} (q : List B) (w : ℕ) (whole : List B) → take w q ++ [] ≡ whole → take w q ≡ whole
-fill-end q w whole e = sym (append-nil (take w q)) ∙ e
-
 -- one element behind the first w
 pub append-one : {B : Type 0} (q : List B) (w : ℕ) (y : B) → w < length q → take (w + 1) (set q w y) ≡ take w q ++ (y ∷ [])
 append-one q w y h = rw (add-one, take-suc-set q w y h)
-
--- ---- Map: the first n of l, each by f, into q of `size` elements.
-pub record Mapping {A B : Type 0} (f : A → B) (l : List A) (n size : ℕ) (q : List B) (i : ℕ) : Type 0 where
-  pub within : i ≤ n
-  pub long : length q ≡ size
-  pub left : take i q ++ map f (slice i n l) ≡ map f (take n l)
-
-module _ {A B : Type 0} {f : A → B} {l : List A} {n size : ℕ} where
-  pub map-start : (q : List B) → length q ≡ size → Mapping f l n size q 0
-  map-start q h = record { within = omega arith; long = h; left = refl }
-
-  pub map-next : {q : List B} {i : ℕ} (d : A) (y : B) → Mapping f l n size q i → i < n → n ≤ length l → n ≤ size
-      → y ≡ f (getD l i d) → Mapping f l n size (set q i y) (i + 1)
-  map-next {q} {i} d y s h k b e = record {
-    within = omega arith;
-    long = length-set q i y ∙ s .long;
-    left = fill-push q i y (map f (slice (i + 1) n l)) _ (omega (arith, s .long)) (rw e (rw (slice-step l n i d h k) at (s .left)));
-  }
-
-  pub map-end : {q : List B} {i : ℕ} → Mapping f l n size q i → n ≤ i → take n q ≡ map f (take n l)
-  map-end {q} {i} s h =
-      let e : i ≡ n = omega arith in
-      fill-end q n (map f (take n l)) (rw (e, slice-empty) at (s .left))
-
--- ---- Keep: those of the first n of l that pass, in order, into q of `size` elements, w of them so far.
-pub record Keeping {A : Type 0} (f : A → Bool) (l : List A) (n size : ℕ) (q : List A) (w i : ℕ) : Type 0 where
-  pub within : i ≤ n
-  pub behind : w ≤ i
-  pub long : length q ≡ size
-  pub left : take w q ++ keep f (slice i n l) ≡ keep f (take n l)
-
-module _ {A : Type 0} {f : A → Bool} {l : List A} {n size : ℕ} where
-  pub keep-start : (q : List A) → length q ≡ size → Keeping f l n size q 0 0
-  keep-start q h = record { within = omega arith; behind = omega arith; long = h; left = refl }
-
-  module _ {q : List A} {w i : ℕ} (d : A) (s : Keeping f l n size q w i) (h : i < n) (k : n ≤ length l) (b : n ≤ size) where
-    pub keep-in : f (getD l i d) ≡ true → Keeping f l n size (set q w (getD l i d)) (w + 1) (i + 1)
-    keep-in e = record {
-      within = omega arith;
-      behind = omega (arith, s .behind);
-      long = length-set q w _ ∙ s .long;
-      left =
-          fill-push q w (getD l i d) (keep f (slice (i + 1) n l)) _ (omega (arith, s .long, s .behind))
-          (rw (slice-step l n i d h k, e) at (s .left));
-    }
-
-    pub keep-out : f (getD l i d) ≡ false → Keeping f l n size q w (i + 1)
-    keep-out e = record {
-      within = omega arith;
-      behind = omega (arith, s .behind);
-      long = s .long;
-      left = rw (slice-step l n i d h k, e) at (s .left);
-    }
-
-  pub keep-end : {q : List A} {w i : ℕ} → Keeping f l n size q w i → n ≤ i → take w q ≡ keep f (take n l)
-  keep-end {q} {w} {i} s h =
-      let e : i ≡ n = omega arith in
-      fill-end q w (keep f (take n l)) (rw (e, slice-empty) at (s .left))

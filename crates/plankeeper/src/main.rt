@@ -3,12 +3,13 @@ ghost use mathlib.Core.Path.{_≡_};
 ghost use Prim.Native.Nat.{_+_, _-_, _≤_, _<_};
 ghost use lib.ListN.{length, take, drop};
 ghost use Rattle.cluster.specs.View.{Sound};
-ghost use Rattle.buffers.specs.Buffers.{ListsAll};
-use buffers::Progress;
-use buffers::list_records;
+ghost use Rattle.listing.specs.Buffers.{ListsAll};
 use cluster::Cluster;
+use layout::SHARD_WORDS;
 use libc::STDIN_FILENO;
 use libc::STDOUT_FILENO;
+use listing::Progress;
+use listing::list_records;
 
 // The unread bytes of the buffer. A record is 102 bytes long at most: so many are wanted before one is handed over, and none at the end of the input.
 struct Unread {
@@ -98,7 +99,7 @@ fn between(bytes: &[u8], at: usize, end: usize) -> &[u8]
 
 // The records among the unread bytes, their lines behind those that wait.
 fn listed(
-    c: Cluster,
+    c: &mut Cluster,
     number: u64,
     buf: &[u8; 65536],
     at: usize,
@@ -107,8 +108,9 @@ fn listed(
     out: &mut [u8],
     used: usize,
 ) -> Progress
-    requires { ⌜ Sound c × (at ≤ end) × (end ≤ 65536) × (used ≤ length (now out)) ⌝ }
-    ensures { λ r. ⌜ ListsAll c number (take (end - at) (drop at (now (buf .entry)))) wanted (drop used (now (out .entry))) r (drop used (now (out .exit))) ⌝ }
+    requires { ⌜ Sound (now c) × (at ≤ end) × (end ≤ 65536) × (used ≤ length (now out)) ⌝ }
+    ensures { λ r. ⌜ ListsAll (now (c .entry)) number (take (end - at) (drop at (now (buf .entry)))) wanted (drop used (now (out .entry))) r
+        (now (c .exit)) (drop used (now (out .exit))) ⌝ }
 {
     let bytes = between(buf, at, end);
     list_records(c, number, bytes, wanted, &mut out[used..])
@@ -166,8 +168,8 @@ fn turns_after(turns: u64, ends: bool, well: bool, at: usize, end: usize) -> u64
 }
 
 // The lines that wait, and the last one.
-fn finish(out: &[u8; 65536], used: usize, c: Cluster)
-    requires { ⌜ Sound c × (used ≤ 65536) ⌝ }
+fn finish(out: &[u8; 65536], used: usize, c: &Cluster)
+    requires { ⌜ Sound (now c) × (used ≤ 65536) ⌝ }
 {
     let mut line = [0u8; 64];
     let size = listing::total(c, &mut line);
@@ -179,7 +181,8 @@ fn finish(out: &[u8; 65536], used: usize, c: Cluster)
 fn main() {
     let mut buf = [0u8; 65536];
     let mut out = [0u8; 65536];
-    let mut c = cluster::new();
+    let mut c = [[0u32; SHARD_WORDS]; 8];
+    cluster::new(&mut c);
     let mut number: u64 = 1;
     let mut used: usize = 0;
     let mut well = true;
@@ -189,7 +192,7 @@ fn main() {
     let mut wanted = first.wanted;
     let mut turns = turns_after(4611686018427387904, false, true, at, end);
     while 0 < turns {
-        let r = listed(c, number, &buf, at, end, wanted, &mut out, used);
+        let r = listed(&mut c, number, &buf, at, end, wanted, &mut out, used);
         let w = flushed(&out, used + r.used);
         used = w.used;
         well = w.well;
@@ -199,9 +202,8 @@ fn main() {
         wanted = u.wanted;
         turns = turns_after(turns, r.ends, well, at, end);
         number = r.number;
-        c = r.cluster;
     }
     if well {
-        finish(&out, used, c);
+        finish(&out, used, &c);
     }
 }

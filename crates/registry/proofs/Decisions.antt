@@ -1,17 +1,27 @@
 -- Decisions, and outputs here, slot by slot.
-use Prim.Native.Nat.{ℕ, _+_}
+use Prim.Native.Nat.{ℕ, suc, _+_, _*_, _≤_, _<_}
+use native.Mathlib.Omega.{arith}
+use native.Mathlib.Nat.{mul-suc}
 use mathlib.Core.Path.{_≡_, refl, sym, ap, _∙_}
 use mathlib.Core.Bool.{Bool, true, false, cond, not, _&&_}
 use mathlib.Core.List.{List, [], _∷_, _++_, map}
 use borrow.Author.Tests.{not-true, not-false}
 use lib.Dec.{ltb}
-use lib.ListN.{length, getD, take, length-append}
+use lib.ListN.{length, getD, take, length-append, length-take}
 use Rattle.transaction.specs.declared.Output.{Output}
 use Rattle.transaction.specs.declared.Transaction.{Transaction}
-use Rattle.transaction.specs.Lists.{all}
+use Rattle.transaction.specs.Lists.{all, total}
 use Rattle.transaction.specs.Tokens.{inputShard, outputShard, usedInputs, usedOutputs, shardsOf, zeroOutput}
+use Rattle.model.specs.declared.Known.{Known}
+use Rattle.model.specs.declared.Outcome.{Outcome}
 use Rattle.model.specs.declared.Outcome.the-variants.{Wait, Commit, Abort}
-use Rattle.model.specs.Steps.{decide, outputHere, outputsHere}
+use Rattle.model.specs.Lists.{keep}
+use Rattle.model.specs.Steps.{decide, outcomeOf, outputHere, outputsHere}
+use Rattle.model.specs.Shard.{ifUndecided, reservedBy, reserved}
+use Rattle.model.proofs.Capacity.{keep-length}
+use Rattle.layout.specs.Layout.{knownSlots, shardOf, ledgerOf, noKnown, slotKnown}
+use Rattle.layout.proofs.Slots.{four-outputs}
+use Rattle.layout.proofs.Ledgers.{known-length, known-entry}
 use Rattle.loops.specs.Lists.{oneIf}
 use Rattle.loops.proofs.Fours.{keep-by, all-append}
 use Rattle.registry.specs.Voted.{voted, inputVoted, outputVoted}
@@ -28,6 +38,13 @@ all-voted agreed heard t ei eo =
     rw (ei, eo)
     (rw (← all-map (voted agreed heard) inputShard (usedInputs t), ← all-map (voted agreed heard) outputShard (usedOutputs t))
     (sym (all-append (voted agreed heard) (map inputShard (usedInputs t)) (map outputShard (usedOutputs t)))))
+
+module _ (agreed : Bool) (heard : List ℕ) (t : Transaction) {i : Bool} (ei : i ≡ all (inputVoted agreed heard) (usedInputs t)) where
+  pub inputs-miss : not i ≡ true → false ≡ all (voted agreed heard) (shardsOf t)
+  inputs-miss n = rw (not-true i n) at (all-voted agreed heard t ei refl)
+
+  pub outputs-too : not i ≡ false → {o : Bool} → o ≡ all (outputVoted agreed heard) (usedOutputs t) → o ≡ all (voted agreed heard) (shardsOf t)
+  outputs-too y eo = rw (not-false i y) at (all-voted agreed heard t ei eo)
 
 -- the three outcomes
 module _ (t : Transaction) (heard : List ℕ) where
@@ -75,3 +92,58 @@ module _ (me : ℕ) (t : Transaction) (long : length (t .outputs) ≡ 4) where
         one-length (slot 2) (getD (t .outputs) 2 zeroOutput),
         one-length (slot 3) (getD (t .outputs) 3 zeroOutput),
       ) refl))
+
+-- reserved: nothing without outputs here, nothing once decided, else the outputs here
+nothing : (o : Outcome) → 0 ≡ ifUndecided o 0
+nothing Wait = refl
+nothing Commit = refl
+nothing Abort = refl
+
+decided : (y : Bool) (m : ℕ) → 0 ≡ ifUndecided (cond y Commit Abort) m
+decided true m = refl
+decided false m = refl
+
+module _ (me : ℕ) (k : Known) {n : ℕ} (en : n ≡ length (outputsHere me (k .transaction))) where
+  pub reserves-none : n ≡ 0 → 0 ≡ reservedBy me k
+  unfolding reservedBy
+  reserves-none z = rw (sym en ∙ z) (nothing (decide (k .transaction) (k .heard)))
+
+  module _ {h : Bool} (eh : h ≡ all (voted false (k .heard)) (shardsOf (k .transaction))) where
+    pub reserves-done : h ≡ true → 0 ≡ reservedBy me k
+    unfolding reservedBy decide
+    reserves-done y = rw (sym eh ∙ y) (decided (all (voted true (k .heard)) (shardsOf (k .transaction))) (length (outputsHere me (k .transaction))))
+
+    pub reserves-open : h ≡ false → n ≡ reservedBy me k
+    unfolding reservedBy decide
+    reserves-open y = rw (sym eh ∙ y) en
+
+-- at most four outputs of each known transaction are here
+total-most : {A : Type 0} (f : A → ℕ) (m : ℕ) (d : A) (l : List A) → ((i : ℕ) → i < length l → f (getD l i d) ≤ m) → total f l ≤ m * length l
+total-most f m d [] h = omega arith
+total-most f m d (x ∷ l) h =
+    let r = total-most f m d l (λ i k. h (suc i) (omega arith)) in
+    let one = h 0 (omega arith) in
+    rw (mul-suc m (length l)) (omega arith)
+
+undecided-most : (o : Outcome) (n : ℕ) → ifUndecided o n ≤ n
+undecided-most Wait n = omega arith
+undecided-most Commit n = omega arith
+undecided-most Abort n = omega arith
+
+reserves-most : (me : ℕ) (k : Known) → length (k .transaction .outputs) ≡ 4 → reservedBy me k ≤ 4
+unfolding reservedBy outputsHere
+reserves-most me k long =
+    let here = keep-length (outputHere me) (usedOutputs (k .transaction)) in
+    let used = length-take (k .transaction .«output_count») (k .transaction .outputs) in
+    let most = undecided-most (outcomeOf k) (length (keep (outputHere me) (usedOutputs (k .transaction)))) in
+    omega (arith, here, used, most)
+
+pub reserved-most : (me : ℕ) (ws : List ℕ) → shardOf ws .known ≤ knownSlots → reserved me (ledgerOf ws .known) ≤ 4 * shardOf ws .known
+unfolding reserved
+reserved-most me ws h =
+    let n = known-length ws h in
+    let t = total-most (reservedBy me) 4 noKnown (ledgerOf ws .known) (λ i k. each i (omega arith)) in
+    omega (arith, t, n)
+  where
+    each : (i : ℕ) → i < shardOf ws .known → reservedBy me (getD (ledgerOf ws .known) i noKnown) ≤ 4
+    each i k = rw (← known-entry ws i k h noKnown) (reserves-most me (slotKnown ws i) (four-outputs ws i (omega arith)))

@@ -1,2 +1,2 @@
 pub mod Decisions
-pub mod Numbers
+pub mod Finds

@@ -1,1 +1,2 @@
 pub mod Voted
+pub mod Numbers

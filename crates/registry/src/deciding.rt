@@ -1,92 +1,113 @@
-// Decision: when votes of all the transaction's shards are heard, commit if all are yes, else abort.
+// Decision: when votes of all the transaction's shards are heard, commit if all are yes, else abort. Of a known transaction only who takes part and
+// what they said is read.
 ghost use mathlib.Core.Path.{_≡_};
 ghost use mathlib.Core.Bool.{true, cond};
-ghost use lib.ListN.{take, getD};
+ghost use Prim.Native.Nat.{_<_};
+ghost use lib.ListN.{getD};
 ghost use Rattle.transaction.specs.Lists.{all};
-ghost use Rattle.transaction.specs.Tokens.{inputShard, outputShard, shardsOf};
-ghost use Rattle.model.specs.Steps.{decide, outcomeOf};
+ghost use Rattle.transaction.specs.Tokens.{usedInputs, usedOutputs, shardsOf, zeroInput, zeroOutput};
+ghost use Rattle.model.specs.Steps.{outcomeOf};
+ghost use Rattle.layout.specs.Layout.{knownSlots, slotKnown};
 ghost use Rattle.registry.specs.Voted.{voted, inputVoted, outputVoted};
-use model::Known;
+use layout::Words;
+use layout::entries::heard_at;
+use layout::entries::input_count_at;
+use layout::entries::input_shard_at;
+use layout::entries::output_count_at;
+use layout::entries::output_shard_at;
 use model::Outcome;
-use transaction::Input;
-use transaction::Output;
-use transaction::Transaction;
 
-// What is noted of a sender: 0 not heard, 1 no, 2 yes.
-pub fn heard_from(heard: [u8; 8], sender: u8) -> u8
-    ensures { λ r. ⌜ r ≡ getD heard sender 0 ⌝ }
+// Is the shard heard, or has it said yes. The questions end at the first no: most transactions that are asked for wait for somebody.
+fn has_voted(s: &Words, k: usize, agreed: bool, shard: u8) -> bool
+    requires { ⌜ k < knownSlots ⌝ }
+    ensures { λ r. ⌜ r ≡ voted agreed (slotKnown (now (s .entry)) k .heard) shard ⌝ }
 {
-    let at = sender as usize;
-    if at < 8 {
-        return heard[at];
-    }
-    0
-}
-
-// Is the shard heard, or has it said yes.
-fn has_voted(agreed: bool, heard: [u8; 8], shard: u8) -> bool
-    ensures { λ r. ⌜ r ≡ voted agreed heard shard ⌝ }
-{
-    let said = heard_from(heard, shard);
+    let said = heard_at(s, k, shard);
     if agreed { said == 2 } else { said != 0 }
 }
 
-fn input_voted(agreed: bool, heard: [u8; 8], used: bool, x: Input) -> bool
-    ensures { λ r. ⌜ r ≡ cond used (inputVoted agreed heard x) true ⌝ }
+fn input_voted(s: &Words, k: usize, agreed: bool, used: bool, i: usize) -> bool
+    requires { ⌜ (k < knownSlots) × (i < 4) ⌝ }
+    ensures { λ r. ⌜ r ≡ cond used
+        (inputVoted agreed (slotKnown (now (s .entry)) k .heard) (getD (slotKnown (now (s .entry)) k .transaction .inputs) i zeroInput)) true ⌝ }
 {
-    let id = x.token;
     if used {
-        has_voted(agreed, heard, id.shard)
+        let shard = input_shard_at(s, k, i);
+        has_voted(s, k, agreed, shard)
     } else {
         true
     }
 }
 
-fn inputs_voted(agreed: bool, heard: [u8; 8], count: u8, x: [Input; 4]) -> bool
-    ensures { λ r. ⌜ r ≡ all (inputVoted agreed heard) (take count x) ⌝ }
-{
-    input_voted(agreed, heard, 0 < count, x[0])
-        & input_voted(agreed, heard, 1 < count, x[1])
-        & input_voted(agreed, heard, 2 < count, x[2])
-        & input_voted(agreed, heard, 3 < count, x[3])
-}
-
-fn output_voted(agreed: bool, heard: [u8; 8], used: bool, y: Output) -> bool
-    ensures { λ r. ⌜ r ≡ cond used (outputVoted agreed heard y) true ⌝ }
+fn output_voted(s: &Words, k: usize, agreed: bool, used: bool, i: usize) -> bool
+    requires { ⌜ (k < knownSlots) × (i < 4) ⌝ }
+    ensures { λ r. ⌜ r ≡ cond used
+        (outputVoted agreed (slotKnown (now (s .entry)) k .heard) (getD (slotKnown (now (s .entry)) k .transaction .outputs) i zeroOutput)) true ⌝ }
 {
     if used {
-        has_voted(agreed, heard, y.shard)
+        let shard = output_shard_at(s, k, i);
+        has_voted(s, k, agreed, shard)
     } else {
         true
     }
 }
 
-fn outputs_voted(agreed: bool, heard: [u8; 8], count: u8, y: [Output; 4]) -> bool
-    ensures { λ r. ⌜ r ≡ all (outputVoted agreed heard) (take count y) ⌝ }
+fn inputs_voted(s: &Words, k: usize, agreed: bool) -> bool
+    requires { ⌜ k < knownSlots ⌝ }
+    ensures { λ r. ⌜ r ≡ all (inputVoted agreed (slotKnown (now (s .entry)) k .heard))
+        (usedInputs (slotKnown (now (s .entry)) k .transaction)) ⌝ }
 {
-    output_voted(agreed, heard, 0 < count, y[0])
-        & output_voted(agreed, heard, 1 < count, y[1])
-        & output_voted(agreed, heard, 2 < count, y[2])
-        & output_voted(agreed, heard, 3 < count, y[3])
+    let n = input_count_at(s, k);
+    if !input_voted(s, k, agreed, 0 < n, 0) {
+        return false;
+    }
+    if !input_voted(s, k, agreed, 1 < n, 1) {
+        return false;
+    }
+    if !input_voted(s, k, agreed, 2 < n, 2) {
+        return false;
+    }
+    input_voted(s, k, agreed, 3 < n, 3)
 }
 
-fn all_voted(agreed: bool, t: Transaction, heard: [u8; 8]) -> bool
-    ensures { λ r. ⌜ r ≡ all (voted agreed heard) (shardsOf t) ⌝ }
+fn outputs_voted(s: &Words, k: usize, agreed: bool) -> bool
+    requires { ⌜ k < knownSlots ⌝ }
+    ensures { λ r. ⌜ r ≡ all (outputVoted agreed (slotKnown (now (s .entry)) k .heard))
+        (usedOutputs (slotKnown (now (s .entry)) k .transaction)) ⌝ }
 {
-    let i = t.input_count;
-    let o = t.output_count;
-    let x = t.inputs;
-    let y = t.outputs;
-    inputs_voted(agreed, heard, i, x) & outputs_voted(agreed, heard, o, y)
+    let n = output_count_at(s, k);
+    if !output_voted(s, k, agreed, 0 < n, 0) {
+        return false;
+    }
+    if !output_voted(s, k, agreed, 1 < n, 1) {
+        return false;
+    }
+    if !output_voted(s, k, agreed, 2 < n, 2) {
+        return false;
+    }
+    output_voted(s, k, agreed, 3 < n, 3)
 }
 
-pub fn outcome(t: Transaction, heard: [u8; 8]) -> Outcome
-    ensures { λ r. ⌜ r ≡ decide t heard ⌝ }
+// All its shards are heard, or all have said yes.
+pub fn all_voted(s: &Words, k: usize, agreed: bool) -> bool
+    requires { ⌜ k < knownSlots ⌝ }
+    ensures { λ r. ⌜ r ≡ all (voted agreed (slotKnown (now (s .entry)) k .heard)) (shardsOf (slotKnown (now (s .entry)) k .transaction)) ⌝ }
 {
-    if !all_voted(false, t, heard) {
+    if !inputs_voted(s, k, agreed) {
+        return false;
+    }
+    outputs_voted(s, k, agreed)
+}
+
+// The outcome of the known transaction in a slot.
+pub fn outcome_at(s: &Words, k: usize) -> Outcome
+    requires { ⌜ k < knownSlots ⌝ }
+    ensures { λ r. ⌜ r ≡ outcomeOf (slotKnown (now (s .entry)) k) ⌝ }
+{
+    if !all_voted(s, k, false) {
         return Outcome::Wait;
     }
-    if all_voted(true, t, heard) {
+    if all_voted(s, k, true) {
         Outcome::Commit
     } else {
         Outcome::Abort

@@ -1,82 +1,29 @@
-// Known transactions: by number, and by every field.
+// Known transactions: by number first, and by every field. A number is known for one transaction only, so that one search answers every question.
 ghost use mathlib.Core.Path.{_≡_};
-ghost use Prim.Native.Nat.{_≤_};
-ghost use lib.ListN.{take};
-ghost use Rattle.transaction.specs.Lists.{any};
-ghost use Rattle.model.specs.Steps.{isFor, placeOf};
-ghost use Rattle.model.specs.Shard.{hasNumber, isOther};
-ghost use Rattle.model.specs.Cluster.{hasGiven};
-use crate::deciding::heard_from;
-use model::Known;
+ghost use Prim.Native.Nat.{_≤_, _<_};
+ghost use Rattle.model.specs.Lists.{find};
+ghost use Rattle.model.specs.Steps.{isFor};
+ghost use Rattle.model.specs.Cluster.{gave};
+ghost use Rattle.layout.specs.Layout.{knownSlots, shardOf, ledgerOf, slotKnown};
+ghost use Rattle.registry.specs.Numbers.{isNumbered, OneEach};
+use layout::Words;
+use layout::counts::known_count;
+use layout::entries::heard_at;
+use layout::entries::number_at;
+use layout::entries::transaction_at;
 use transaction::Transaction;
 use transaction::equality::same_transaction;
 
-// The numbers first: most known transactions have another one.
-pub fn is_for(t: Transaction, k: Known) -> bool
-    ensures { λ r. ⌜ r ≡ isFor t k ⌝ }
+// The place of the known transaction of that number; the count where it is not known. The number alone is handed over: a whole transaction
+// would be copied in every turn.
+pub fn place_of_number(s: &Words, number: u32) -> usize
+    requires { ⌜ shardOf (now s) .known ≤ knownSlots ⌝ }
+    ensures { λ r. ⌜ (r ≡ find (isNumbered number) (ledgerOf (now (s .entry)) .known)) × (r ≤ shardOf (now (s .entry)) .known) ⌝ }
 {
-    let s = k.transaction;
-    if s.number != t.number {
-        return false;
-    }
-    same_transaction(s, t)
-}
-
-fn has_number(t: Transaction, k: Known) -> bool
-    ensures { λ r. ⌜ r ≡ hasNumber t k ⌝ }
-{
-    let s = k.transaction;
-    s.number == t.number
-}
-
-// Another transaction of this number.
-fn is_other(t: Transaction, k: Known) -> bool
-    ensures { λ r. ⌜ r ≡ isOther t k ⌝ }
-{
-    let numbered = has_number(t, k);
-    let same = is_for(t, k);
-    numbered & !same
-}
-
-pub fn knows_number(known: [Known; 32], count: usize, t: Transaction) -> bool
-    requires { ⌜ count ≤ 32 ⌝ }
-    ensures { λ r. ⌜ r ≡ any (hasNumber t) (take count known) ⌝ }
-{
+    let n = known_count(s);
     let mut i = 0;
-    while i < count {
-        let k = known[i];
-        if has_number(t, k) {
-            return true;
-        }
-        i += 1;
-    }
-    false
-}
-
-pub fn knows_other(known: [Known; 32], count: usize, t: Transaction) -> bool
-    requires { ⌜ count ≤ 32 ⌝ }
-    ensures { λ r. ⌜ r ≡ any (isOther t) (take count known) ⌝ }
-{
-    let mut i = 0;
-    while i < count {
-        let k = known[i];
-        if is_other(t, k) {
-            return true;
-        }
-        i += 1;
-    }
-    false
-}
-
-// The place of this transaction; the count where it is not known.
-pub fn place_of(known: [Known; 32], count: usize, t: Transaction) -> usize
-    requires { ⌜ count ≤ 32 ⌝ }
-    ensures { λ r. ⌜ (r ≡ placeOf t (take count known)) × (r ≤ count) ⌝ }
-{
-    let mut i = 0;
-    while i < count {
-        let k = known[i];
-        if is_for(t, k) {
+    while i < n {
+        if number_at(s, i) == number {
             return i;
         }
         i += 1;
@@ -84,27 +31,27 @@ pub fn place_of(known: [Known; 32], count: usize, t: Transaction) -> usize
     i
 }
 
-// The sender has given this vote on this transaction.
-fn is_given_vote(sender: u8, verdict: u8, t: Transaction, k: Known) -> bool
-    ensures { λ r. ⌜ r ≡ hasGiven sender verdict t k ⌝ }
+// Every field of it agrees.
+pub fn same_at(s: &Words, k: usize, t: Transaction) -> bool
+    requires { ⌜ k < knownSlots ⌝ }
+    ensures { λ r. ⌜ r ≡ isFor t (slotKnown (now (s .entry)) k) ⌝ }
 {
-    let heard = k.heard;
-    let said = heard_from(heard, sender);
-    let noted = (verdict as u16) + 1;
-    is_for(t, k) & ((said as u16) == noted)
+    let stored = transaction_at(s, k);
+    same_transaction(stored, t)
 }
 
-pub fn has_given(known: [Known; 32], count: usize, sender: u8, verdict: u8, t: Transaction) -> bool
-    requires { ⌜ count ≤ 32 ⌝ }
-    ensures { λ r. ⌜ r ≡ any (hasGiven sender verdict t) (take count known) ⌝ }
+// The shard has given this vote on this transaction.
+pub fn has_given(s: &Words, sender: u8, verdict: u8, t: Transaction) -> bool
+    requires { ⌜ (shardOf (now s) .known ≤ knownSlots) × OneEach (ledgerOf (now s) .known) ⌝ }
+    ensures { λ r. ⌜ r ≡ gave (ledgerOf (now (s .entry))) sender verdict t ⌝ }
 {
-    let mut i = 0;
-    while i < count {
-        let k = known[i];
-        if is_given_vote(sender, verdict, t, k) {
-            return true;
+    let place = place_of_number(s, t.number);
+    if place < known_count(s) {
+        let said = heard_at(s, place, sender);
+        let noted = (verdict as u16) + 1;
+        if (said as u16) == noted {
+            return same_at(s, place, t);
         }
-        i += 1;
     }
     false
 }

@@ -1,13 +1,17 @@
 // Outputs here of undecided transactions.
 ghost use mathlib.Core.Path.{_≡_};
-ghost use Prim.Native.Nat.{_≤_, _*_};
 ghost use mathlib.Core.Bool.{cond, _&&_};
-ghost use lib.ListN.{take, length};
+ghost use Prim.Native.Nat.{_≤_, _<_, _*_};
+ghost use lib.ListN.{length, getD};
+ghost use Rattle.transaction.specs.Tokens.{zeroOutput};
 ghost use Rattle.model.specs.Steps.{outputHere, outputsHere};
 ghost use Rattle.model.specs.Shard.{reservedBy, reserved};
-use crate::deciding::outcome;
-use model::Known;
-use model::Outcome;
+ghost use Rattle.layout.specs.Layout.{knownSlots, shardOf, ledgerOf, slotKnown};
+use crate::deciding::all_voted;
+use layout::Words;
+use layout::counts::known_count;
+use layout::entries::output_count_at;
+use layout::entries::output_shard_at;
 use transaction::Output;
 use transaction::Transaction;
 
@@ -30,28 +34,52 @@ pub fn count_here(me: u8, t: Transaction) -> usize
     a + b + c + d
 }
 
-fn reserved_by(me: u8, k: Known) -> usize
-    ensures { λ r. ⌜ (r ≡ reservedBy me k) × (r ≤ 4) ⌝ }
+// The same of one output of the known transaction in a slot.
+fn one_at(s: &Words, k: usize, me: u8, used: bool, i: usize) -> usize
+    requires { ⌜ (k < knownSlots) × (i < 4) ⌝ }
+    ensures { λ r. ⌜ (r ≡ cond (used && outputHere me (getD (slotKnown (now (s .entry)) k .transaction .outputs) i zeroOutput)) 1 0) × (r ≤ 1) ⌝ }
 {
-    let t = k.transaction;
-    let heard = k.heard;
-    let o = outcome(t, heard);
-    match o {
-        Outcome::Wait => count_here(me, t),
-        Outcome::Commit => 0,
-        Outcome::Abort => 0,
-    }
+    let shard = output_shard_at(s, k, i);
+    if used & (shard == me) { 1 } else { 0 }
 }
 
-pub fn reserved_here(me: u8, known: [Known; 32], count: usize) -> usize
-    requires { ⌜ count ≤ 32 ⌝ }
-    ensures { λ r. ⌜ (r ≡ reserved me (take count known)) × (r ≤ 4 * count) ⌝ }
+fn count_at(s: &Words, k: usize, me: u8) -> usize
+    requires { ⌜ k < knownSlots ⌝ }
+    ensures { λ r. ⌜ (r ≡ length (outputsHere me (slotKnown (now (s .entry)) k .transaction))) × (r ≤ 4) ⌝ }
 {
+    let n = output_count_at(s, k);
+    let a = one_at(s, k, me, 0 < n, 0);
+    let b = one_at(s, k, me, 1 < n, 1);
+    let c = one_at(s, k, me, 2 < n, 2);
+    let d = one_at(s, k, me, 3 < n, 3);
+    a + b + c + d
+}
+
+// Outputs here, while it is undecided: those that have none here are not decided anew.
+fn reserved_at(s: &Words, k: usize, me: u8) -> usize
+    requires { ⌜ k < knownSlots ⌝ }
+    ensures { λ r. ⌜ (r ≡ reservedBy me (slotKnown (now (s .entry)) k)) × (r ≤ 4) ⌝ }
+{
+    let n = count_at(s, k, me);
+    if n == 0 {
+        return 0;
+    }
+    if all_voted(s, k, false) {
+        return 0;
+    }
+    n
+}
+
+// Of all undecided transactions.
+pub fn reserved_here(s: &Words, me: u8) -> usize
+    requires { ⌜ shardOf (now s) .known ≤ knownSlots ⌝ }
+    ensures { λ r. ⌜ (r ≡ reserved me (ledgerOf (now (s .entry)) .known)) × (r ≤ 4 * shardOf (now (s .entry)) .known) ⌝ }
+{
+    let count = known_count(s);
     let mut sum: usize = 0;
     let mut i = 0;
     while i < count {
-        let k = known[i];
-        let n = reserved_by(me, k);
+        let n = reserved_at(s, i, me);
         sum += n;
         i += 1;
     }

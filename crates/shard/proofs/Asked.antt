@@ -1,46 +1,58 @@
--- What is asked of a shard: an element of an array within the count is the element of the ledger's list, and behind the count there is none.
+-- What is asked of a shard: a slot within a count is an element of the ledger's list, and behind the count there is none.
 use Prim.Native.Nat.{ℕ, _≤_, _<_}
 use mathlib.Core.Path.{_≡_, refl, sym, ap, _∙_}
+use mathlib.Core.List.{List}
 use native.Mathlib.Omega.{arith}
 use borrow.Author.Tests.{lt-ltb, le-ltb}
-use lib.ListN.{length, getD, List·getD-eq-default}
+use lib.ListN.{length, List·getD-eq-default}
 use Rattle.model.specs.declared.Token.{Token}
 use Rattle.model.specs.declared.Known.{Known}
 use Rattle.model.specs.declared.Outcome.{Outcome}
-use Rattle.model.specs.Steps.{genesisToken, outcomeOf, decide}
-use Rattle.shard.specs.declared.Shard.{Shard}
+use Rattle.model.specs.Lists.{find}
+use Rattle.model.specs.Steps.{genesisToken, outcomeOf}
+use Rattle.layout.specs.Layout.{shardOf, slotToken, slotKnown}
+use Rattle.layout.proofs.Ledgers.{held-length, known-length, held-entry, known-entry}
+use Rattle.registry.specs.Numbers.{isNumbered}
 use Rattle.shard.specs.declared.queries.HeldToken.the-variants.{Held, NotHeld}
 use Rattle.shard.specs.declared.queries.KnownOutcome.the-variants as outcome
 use Rattle.shard.specs.View.{view, Sound}
-use Rattle.shard.specs.Queries.{tokenAt, blankKnown, knownAt, outcomeAt}
-use Rattle.shard.proofs.Long.{Long}
-use Rattle.shard.proofs.Ledgers.{held-count, known-count, entry-at}
+use Rattle.shard.specs.Queries.{tokenAt, blankKnown, knownAt, outcomeAt, outcomeOfNumber}
 
-module _ (s : Shard) (long : Long s) (sound : Sound s) (place : ℕ) where
-  pub token-within : (d : Token) → place < s .held → Held (getD (s .tokens) place d) ≡ tokenAt (view s .tokens) place
-  unfolding view tokenAt
-  token-within d h =
-      let e = entry-at (s .tokens) (s .held) place d (genesisToken 0 0 0) h (omega (arith, sound .held, long .tokens)) in
-      ap Held e ∙ sym (rw (lt-ltb place (length (view s .tokens)) (omega (arith, held-count s long (sound .held)))) refl)
+module _ (ws : List ℕ) (sound : Sound ws) (place : ℕ) {n : ℕ} where
+  -- the tokens held
+  module _ (count : n ≡ shardOf ws .held) where
+    held-all : length (view ws .tokens) ≡ n
+    held-all = held-length ws (sound .held) ∙ sym count
 
-  pub token-behind : s .held ≤ place → NotHeld ≡ tokenAt (view s .tokens) place
-  unfolding tokenAt
-  token-behind h = sym (rw (le-ltb place (length (view s .tokens)) (omega (arith, held-count s long (sound .held)))) refl)
+    pub token-within : {t : Token} → place < n → t ≡ slotToken ws place → Held t ≡ tokenAt (view ws .tokens) place
+    unfolding tokenAt
+    token-within h e =
+        ap Held (e ∙ held-entry ws place (omega arith) (sound .held) (genesisToken 0 0 0))
+        ∙ sym (rw (lt-ltb place (length (view ws .tokens)) (omega (arith, held-all))) refl)
 
-  pub known-within : (d : Known) → place < s .known → getD (s .transactions) place d ≡ knownAt (view s .known) place
-  unfolding view
-  known-within d h = entry-at (s .transactions) (s .known) place d blankKnown h (omega (arith, sound .known, long .transactions))
+    pub token-behind : n ≤ place → NotHeld ≡ tokenAt (view ws .tokens) place
+    unfolding tokenAt
+    token-behind h = sym (rw (le-ltb place (length (view ws .tokens)) (omega (arith, held-all))) refl)
 
-  pub known-behind : {k : Known} → s .known ≤ place → k ≡ blankKnown → k ≡ knownAt (view s .known) place
-  known-behind h e = e ∙ sym (List·getD-eq-default (view s .known) blankKnown {n = place} (omega (arith, known-count s long (sound .known))))
+  -- the known transactions
+  module _ (count : n ≡ shardOf ws .known) where
+    known-all : length (view ws .known) ≡ n
+    known-all = known-length ws (sound .known) ∙ sym count
 
-  pub outcome-within : {k : Known} {o : Outcome} → place < s .known → k ≡ knownAt (view s .known) place → o ≡ decide (k .transaction) (k .heard)
-      → outcome.Known o ≡ outcomeAt (view s .known) place
-  unfolding outcomeAt
-  outcome-within h ek eo =
-      ap outcome.Known (eo ∙ ap outcomeOf ek)
-      ∙ sym (rw (lt-ltb place (length (view s .known)) (omega (arith, known-count s long (sound .known)))) refl)
+    pub known-within : {k : Known} → place < n → k ≡ slotKnown ws place → k ≡ knownAt (view ws .known) place
+    known-within h e = e ∙ known-entry ws place (omega arith) (sound .known) blankKnown
 
-  pub outcome-behind : s .known ≤ place → outcome.Unknown ≡ outcomeAt (view s .known) place
-  unfolding outcomeAt
-  outcome-behind h = sym (rw (le-ltb place (length (view s .known)) (omega (arith, known-count s long (sound .known)))) refl)
+    pub known-behind : {k : Known} → n ≤ place → k ≡ blankKnown → k ≡ knownAt (view ws .known) place
+    known-behind h e = e ∙ sym (List·getD-eq-default (view ws .known) blankKnown {n = place} (omega (arith, known-all)))
+
+    -- the outcome of the one of a number
+    module _ (number : ℕ) (found : place ≡ find (isNumbered number) (view ws .known)) where
+      pub outcome-within : {o : Outcome} → place < n → o ≡ outcomeOf (slotKnown ws place) → outcome.Known o ≡ outcomeOfNumber (view ws .known) number
+      unfolding outcomeAt outcomeOfNumber
+      outcome-within h e =
+          ap outcome.Known (e ∙ ap outcomeOf (known-within h refl))
+          ∙ sym (rw (← found, lt-ltb place (length (view ws .known)) (omega (arith, known-all))) refl)
+
+      pub outcome-behind : n ≤ place → outcome.Unknown ≡ outcomeOfNumber (view ws .known) number
+      unfolding outcomeAt outcomeOfNumber
+      outcome-behind h = sym (rw (← found, le-ltb place (length (view ws .known)) (omega (arith, known-all))) refl)

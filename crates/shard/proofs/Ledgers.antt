@@ -1,90 +1,289 @@
--- What the arrays of a shard say of its ledger: counts, entries, and the ledger after a store.
+-- The ledger that each part of a step leaves, from what it did to the slots.
 use Prim.Native.Nat.{ℕ, zero, suc, _+_, _≤_, _<_}
-use mathlib.Core.Path.{_≡_, refl, sym, _∙_}
-use mathlib.Core.Bool.{Bool, true, false, cond, _||_}
+use mathlib.Core.Path.{_≡_, refl, sym, ap, subst, _∙_}
+use mathlib.Core.Bool.{Bool, true, false}
 use mathlib.Core.List.{List, [], _∷_, _++_}
 use native.Mathlib.Omega.{arith}
-use lib.ListN.{length, getD, take, set, List·getD-eq-default}
-use lib.Seq.{length-take-le, getD-take, take-set-lt}
+use native.Mathlib.Nat.{not-suc-le-zero}
+use lib.ListN.{length, getD, take, set, replicate, length-append}
+use lib.Dec.{eqb}
+use lib.Seq.{getD-set-same, take-set-lt, length-take-le}
+use Rattle.transaction.specs.declared.Input.{Input}
 use Rattle.transaction.specs.declared.Transaction.{Transaction}
-use Rattle.transaction.specs.Lists.{any}
-use Rattle.model.specs.declared.Known.{Known}
 use Rattle.model.specs.declared.Token.{Token}
-use Rattle.model.specs.Lists.{find}
-use Rattle.model.specs.Steps.{placeOf, entryOf, nothingKnown, heardFrom, afterMint}
-use Rattle.model.proofs.Capacity.{find-below}
+use Rattle.model.specs.declared.Known.{Known}
+use Rattle.model.specs.declared.Outcome.{Outcome}
+use Rattle.model.specs.declared.Answer.{Answer}
+use Rattle.model.specs.declared.Answer.the-variants.{Heard}
+use Rattle.model.specs.Steps.{house, emptyLedger, Ledger, genesisToken, afterMint, outcomeOf, settle, inputsHere, available, availableHere, pledges, vote}
+use Rattle.model.specs.Lists.{keep}
+use Rattle.model.proofs.Capacity.{Fit, empty-fit}
 use Rattle.loops.proofs.Loops.{append-one}
-use Rattle.shard.specs.declared.Shard.{Shard}
-use Rattle.shard.specs.View.{view}
-use Rattle.shard.proofs.Long.{Long}
+use Rattle.loops.proofs.Fours.{all-kept}
+use Rattle.layout.specs.Layout as layout
+use Rattle.layout.specs.Layout.{
+  shardWords,
+  tokenSlots,
+  knownSlots,
+  genesisSlots,
+  numberPlace,
+  heldPlace,
+  knownPlace,
+  givenPlace,
+  word,
+  tab,
+  givenAt,
+  givenOf,
+  tokensOf,
+  transactionsOf,
+  Shard,
+  shardOf,
+  withHeld,
+  withTokens,
+  withKnown,
+  withTransactions,
+  withGiven,
+  withSaid,
+  noKnown,
+  slotKnown,
+  Becomes,
+  Cleared,
+  PutsToken,
+  PutsKnown,
+}
+use Rattle.layout.proofs.Regions.{tab-same}
+use Rattle.layout.proofs.Slots.{length-tokens, length-known}
+use Rattle.layout.proofs.Ledgers.{held-length, known-length}
+use Rattle.holdings.specs.declared.Inputs.{Inputs}
+use Rattle.holdings.specs.Held.{inputsOf, Room, Holds, Changes, Settling, Settles, settledAt}
+use Rattle.shard.specs.View.{number, view, Sound, Fresh}
+use Rattle.shard.specs.Parts.{
+  knownWith,
+  Leaves,
+  Minted,
+  Grows,
+  decidedOn,
+  entryFor,
+  enteredLedger,
+  Entering,
+  Entered,
+  heardIn,
+  heardLedger,
+  FreshVote,
+  FreshDone,
+}
 
--- the counts are the lengths
-module _ (s : Shard) (long : Long s) where
-  pub held-count : s .held ≤ 128 → length (view s .tokens) ≡ s .held
-  unfolding view
-  held-count h = length-take-le (s .held) (s .tokens) (omega (arith, long .tokens))
+-- one after another
+pub leaves-then : {ws vs us : List ℕ} {a b c : Ledger} {m n : ℕ} → Leaves ws a m vs → Leaves vs b n us → b ≡ c → Leaves ws c n us
+leaves-then p q e = record {
+  long = q .long;
+  seen = q .seen ∙ e;
+  numbered = q .numbered ∙ p .numbered;
+  holds = q .holds ∙ ap (λ (l : Ledger). length (l .tokens)) e;
+  knows = q .knows;
+}
 
-  pub known-count : s .known ≤ 32 → length (view s .known) ≡ s .known
-  unfolding view
-  known-count h = length-take-le (s .known) (s .transactions) (omega (arith, long .transactions))
+-- other tokens
+pub holds-leaves : (ws vs : List ℕ) {l : List Token} → Holds (shardOf ws) l vs
+    → Leaves ws (record { tokens = l; given = view ws .given; known = view ws .known }) (shardOf ws .known) vs
+unfolding layout.view
+holds-leaves ws vs {l} p = record {
+  long = p .long;
+  seen = ap layout.view (p .kept) ∙ ap (λ (t : List Token). record { tokens = t; given = view ws .given; known = view ws .known }) (p .tokens);
+  numbered = ap (λ (x : Shard). x .number) (p .kept);
+  holds = ap (λ (x : Shard). x .held) (p .kept);
+  knows = ap (λ (x : Shard). x .known) (p .kept);
+}
 
--- an element within a list is the same by any default
-getD-any : {A : Type 0} (l : List A) (i : ℕ) (d e : A) → i < length l → getD l i d ≡ getD l i e
-getD-any [] i d e h = absurd (omega arith)
-getD-any (x ∷ l) zero d e h = refl
-getD-any (x ∷ l) (suc i) d e h = getD-any l i d e (omega arith)
+-- one known transaction more
+module _ (ws vs : List ℕ) (k : Known) (g : Grows ws k vs) (h : shardOf ws .held ≤ tokenSlots) (free : shardOf ws .known < knownSlots) where
+  pub grows-leaves : Leaves ws (record { tokens = view ws .tokens; given = view ws .given; known = view ws .known ++ (k ∷ []) }) (shardOf ws .known + 1) vs
+  unfolding layout.view
+  grows-leaves =
+      let all = append-one (transactionsOf ws) (shardOf ws .known) k (omega (arith, length-known ws)) in
+      record {
+        long = g .is .long;
+        seen =
+            ap layout.view (g .is .is) ∙ ap (λ (x : List Known). record { tokens = view ws .tokens; given = view ws .given; known = x }) all;
+        numbered = ap (λ (x : Shard). x .number) (g .is .is);
+        holds = ap (λ (x : Shard). x .held) (g .is .is) ∙ sym (held-length ws h);
+        knows = ap (λ (x : Shard). x .known) (g .is .is);
+      }
 
--- the entry at a place among the first n
-pub entry-at : {A : Type 0} (l : List A) (n place : ℕ) (d e : A) → place < n → n ≤ length l → getD l place d ≡ getD (take n l) place e
-entry-at l n place d e h k = getD-any l place d e (omega arith) ∙ sym (getD-take n l place e h)
+  pub grows-entry : slotKnown vs (shardOf ws .known) ≡ k
+  grows-entry =
+      ap (λ (x : Shard). getD (x .transactions) (shardOf ws .known) noKnown) (g .is .is)
+      ∙ getD-set-same (transactionsOf ws) (shardOf ws .known) k noKnown (omega (arith, length-known ws))
 
--- one passes exactly where the first that passes stands within the list
-pub any-found : {A : Type 0} (f : A → Bool) (l : List A) → find f l < length l → any f l ≡ true
-any-found f [] h = absurd (omega arith)
-any-found f (x ∷ l) h = go (f x) h (any-found f l)
-  where
-    go : (b : Bool) → cond b 0 (suc (find f l)) < suc (length l) → (find f l < length l → any f l ≡ true) → b || any f l ≡ true
-    go true k r = refl
-    go false k r = r (omega arith)
+-- two stores
+pub grown : (ws vs us : List ℕ) (k : Known) {n : ℕ} → n ≡ shardOf ws .known → PutsKnown ws n k vs → Becomes (withKnown (shardOf vs) (n + 1)) us → Grows ws k us
+grown ws vs us k {n} e p q =
+    let is : shardOf us ≡ withKnown (withTransactions (shardOf ws) (set (shardOf ws .transactions) n k)) (n + 1) =
+    q .is ∙ ap (λ (x : Shard). withKnown x (n + 1)) (p .is) in
+    record { is = record { is = rw (← e) is; long = q .long } }
 
-pub none-found : {A : Type 0} (f : A → Bool) (l : List A) → length l ≤ find f l → any f l ≡ false
-none-found f l h = go (any f l) refl
-  where
-    go : (b : Bool) → any f l ≡ b → b ≡ false
-    go true e = absurd (omega (arith, find-below f l e))
-    go false e = refl
+-- a known transaction changed
+module _ (ws vs : List ℕ) (place : ℕ) (k : Known) (p : PutsKnown ws place k vs) (h : shardOf ws .held ≤ tokenSlots)
+    (below : place < shardOf ws .known) (most : shardOf ws .known ≤ knownSlots) where
+  pub changed-leaves : Leaves ws (record { tokens = view ws .tokens; given = view ws .given; known = set (view ws .known) place k }) (shardOf ws .known) vs
+  unfolding layout.view
+  changed-leaves =
+      let there = take-set-lt (shardOf ws .known) (transactionsOf ws) place k below in
+      record {
+        long = p .long;
+        seen = ap layout.view (p .is) ∙ ap (λ (x : List Known). record { tokens = view ws .tokens; given = view ws .given; known = x }) there;
+        numbered = ap (λ (x : Shard). x .number) (p .is);
+        holds = ap (λ (x : Shard). x .held) (p .is) ∙ sym (held-length ws h);
+        knows = ap (λ (x : Shard). x .known) (p .is);
+      }
 
--- what is noted of a sender, where the transaction is known and where it is not
-module _ (t : Transaction) (known : List Known) (sender : ℕ) where
-  pub noted-at : {place heard : ℕ} {k : Known} → place ≡ placeOf t known → k ≡ getD known place nothingKnown → heard ≡ getD (k .heard) sender 0
-      → heard ≡ heardFrom sender (entryOf t known)
-  unfolding entryOf
-  noted-at ep ek eh = rw (eh, ek, ep) refl
+  pub changed-entry : slotKnown vs place ≡ k
+  changed-entry =
+      ap (λ (x : Shard). getD (x .transactions) place noKnown) (p .is)
+      ∙ getD-set-same (transactionsOf ws) place k noKnown (omega (arith, length-known ws))
 
-  pub noted-none : {place : ℕ} → place ≡ placeOf t known → length known ≤ place → 0 ≡ heardFrom sender (entryOf t known)
-  unfolding entryOf
-  noted-none ep h = rw (List·getD-eq-default known nothingKnown {n = placeOf t known} (rw (← ep) h)) refl
+-- ---- The decision on an entry
 
--- the ledger after a store
-module _ (s : Shard) (long : Long s) where
-  pub minted : (r : Shard) (index owner amount : ℕ) → s .held < 128
-      → r .tokens ≡ set (s .tokens) (s .held) (record { creator = 0; index = index; owner = owner; amount = amount; pledge = 0 })
-      → r .given ≡ set (s .given) index true → r .transactions ≡ s .transactions → r .held ≡ s .held + 1 → r .known ≡ s .known
-      → view r ≡ afterMint (view s) index owner amount
-  unfolding view afterMint
-  minted r index owner amount h et eg ek eh en =
-      rw (et, eg, ek, eh, en, append-one (s .tokens) (s .held) (record { creator = 0; index = index; owner = owner; amount = amount; pledge = 0 }) (omega (arith, long .tokens)))
-      refl
+module _ (ws vs : List ℕ) (ledger : Ledger) (count place : ℕ) (k : Known) (p : Leaves ws ledger count vs) (e : slotKnown vs place ≡ k) where
+  settled-is : settledAt (outcomeOf (slotKnown vs place)) place vs ≡ settle (outcomeOf k) (number ws) (k .transaction) (ledger .tokens)
+  settled-is = rw (e, p .seen, p .numbered) refl
 
-  pub grown : (r : Shard) (tokens : List Token) (k : Known) (held : ℕ) → s .known < 32 → take (r .held) (r .tokens) ≡ tokens
-      → r .transactions ≡ set (s .transactions) (s .known) k → r .given ≡ s .given → r .known ≡ s .known + 1
-      → view r ≡ record { tokens = tokens; given = view s .given; known = view s .known ++ (k ∷ []) }
-  unfolding view
-  grown r tokens k held h et ek eg en =
-      rw (et, ek, eg, en, append-one (s .transactions) (s .known) k (omega (arith, long .transactions))) refl
+  pub can-decide : length (ledger .tokens) ≤ tokenSlots → place < knownSlots
+      → length (settle (outcomeOf k) (number ws) (k .transaction) (ledger .tokens)) ≤ tokenSlots → Settling (outcomeOf (slotKnown vs place)) place vs
+  can-decide h l f = record {
+    room = record { long = p .long; held = rw (p .holds) h };
+    slot = l;
+    fits = rw settled-is f;
+  }
 
-  pub changed : (r : Shard) (tokens : List Token) (k : Known) (held place : ℕ) → place < s .known → take (r .held) (r .tokens) ≡ tokens
-      → r .transactions ≡ set (s .transactions) place k → r .given ≡ s .given → r .known ≡ s .known
-      → view r ≡ record { tokens = tokens; given = view s .given; known = set (view s .known) place k }
-  unfolding view
-  changed r tokens k held place h et ek eg en = rw (et, ek, eg, en, take-set-lt (s .known) (s .transactions) place k h) refl
+  pub decided-leaves : (us : List ℕ) → Settles (outcomeOf (slotKnown vs place)) place vs us
+      → Leaves ws (decidedOn (number ws) ledger k (ledger .known)) count us
+  decided-leaves us s =
+      let q = holds-leaves vs us s in
+      let d = leaves-then {c = decidedOn (number ws) ledger k (ledger .known)} p q (rw (settled-is, p .seen) refl) in
+      record { long = d .long; seen = d .seen; numbered = d .numbered; holds = d .holds; knows = d .knows ∙ p .knows }
+
+-- a transaction entered
+module _ (verdict : Bool) (t : Transaction) (ws : List ℕ) (pre : Entering verdict t ws) (vs : List ℕ) {k : Known} {me place : ℕ}
+    (em : me ≡ number ws) (ep : place ≡ shardOf ws .known) (ek : k ≡ knownWith me verdict t) (g : Grows ws k vs) where
+  is-entry : k ≡ entryFor verdict t ws
+  is-entry = ek ∙ rw em refl
+
+  grows-to : Leaves ws (record { tokens = view ws .tokens; given = view ws .given; known = view ws .known ++ (entryFor verdict t ws ∷ []) })
+      (shardOf ws .known + 1) vs
+  grows-to = rw is-entry at (grows-leaves ws vs k g (pre .room .held) (pre .free))
+
+  entry-there : slotKnown vs place ≡ entryFor verdict t ws
+  entry-there = rw ep (grows-entry ws vs k g (pre .room .held) (pre .free)) ∙ is-entry
+
+  pub enter-decides : Settling (outcomeOf (slotKnown vs place)) place vs
+  enter-decides =
+      can-decide ws vs _ _ place (entryFor verdict t ws) grows-to entry-there (omega (arith, held-length ws (pre .room .held), pre .room .held))
+      (omega (arith, pre .free)) (pre .fits)
+
+  pub entered : (us : List ℕ) {decided : Outcome} → decided ≡ outcomeOf (slotKnown vs place) → Settles (outcomeOf (slotKnown vs place)) place vs us
+      → Entered verdict t ws decided us
+  entered us ed s = record {
+    decides = ed ∙ ap outcomeOf entry-there;
+    leaves = decided-leaves ws vs _ _ place (entryFor verdict t ws) grows-to entry-there us s;
+  }
+
+-- a vote noted
+module _ (place sender verdict : ℕ) (ws : List ℕ) (pre : FreshVote place sender verdict ws) (vs : List ℕ)
+    (p : PutsKnown ws place (withSaid sender (verdict + 1) (slotKnown ws place)) vs) where
+  hears : Leaves ws (record { tokens = view ws .tokens; given = view ws .given; known = set (view ws .known) place (heardIn place sender verdict ws) })
+      (shardOf ws .known) vs
+  hears = changed-leaves ws vs place (heardIn place sender verdict ws) p (pre .room .held) (pre .entry) (pre .known)
+
+  heard-there : slotKnown vs place ≡ heardIn place sender verdict ws
+  heard-there = changed-entry ws vs place (heardIn place sender verdict ws) p (pre .room .held) (pre .entry) (pre .known)
+
+  pub fresh-decides : Settling (outcomeOf (slotKnown vs place)) place vs
+  fresh-decides =
+      can-decide ws vs _ _ place (heardIn place sender verdict ws) hears heard-there (omega (arith, held-length ws (pre .room .held), pre .room .held))
+      (omega (arith, pre .entry, pre .known)) (pre .fits)
+
+  pub fresh-done : (us : List ℕ) {decided : Outcome} → decided ≡ outcomeOf (slotKnown vs place) → Settles (outcomeOf (slotKnown vs place)) place vs us
+      → FreshDone place sender verdict ws (Heard decided) us
+  fresh-done us ed s = record {
+    answered = ap Heard (ed ∙ ap outcomeOf heard-there);
+    leaves = decided-leaves ws vs _ _ place (heardIn place sender verdict ws) hears heard-there us s;
+  }
+
+-- ---- A genesis token
+
+pub minted : (ws vs us xs : List ℕ) (index owner amount : ℕ) {n at : ℕ} → n ≡ shardOf ws .held → at ≡ index → n < tokenSlots
+    → PutsToken ws n (genesisToken index owner amount) vs → Becomes (withHeld (shardOf vs) (n + 1)) us
+    → Becomes (withGiven (shardOf us) (set (shardOf us .given) at true)) xs → Minted ws index owner amount xs
+unfolding layout.view afterMint
+minted ws vs us xs index owner amount {n} {at} en ea h p q g =
+    let token = genesisToken index owner amount in
+    let tokens = set (tokensOf ws) n token in
+    let given = set (givenOf ws) index true in
+    let held : shardOf us ≡ withHeld (withTokens (shardOf ws) tokens) (n + 1) = q .is ∙ ap (λ (x : Shard). withHeld x (n + 1)) (p .is) in
+    let is : shardOf xs ≡ withGiven (withHeld (withTokens (shardOf ws) tokens) (n + 1)) given =
+    g .is ∙ rw ea (ap (λ (x : Shard). withGiven x (set (x .given) index true)) held) in
+    let more : take (n + 1) tokens ≡ take n (tokensOf ws) ++ (token ∷ []) = append-one (tokensOf ws) n token (omega (arith, length-tokens ws)) in
+    let some : length (view ws .tokens) ≡ n = held-length ws (omega arith) ∙ sym en in
+    record {
+      long = g .long;
+      seen = ap layout.view is ∙ rw (more, en) refl;
+      numbered = ap (λ (x : Shard). x .number) is;
+      holds = ap (λ (x : Shard). x .held) is ∙ sym (length-append (view ws .tokens) (token ∷ []) ∙ rw some refl);
+      knows = ap (λ (x : Shard). x .known) is;
+    }
+
+-- ---- An empty shard
+
+module _ (ws : List ℕ) (me : ℕ) (c : Cleared me ws) where
+  none : (i : ℕ) → numberPlace < i → word ws i ≡ 0
+  none = c .rest
+
+  no-flags : (n : ℕ) → tab n (λ (i : ℕ). false) ≡ replicate n false
+  no-flags zero = refl
+  no-flags (suc n) = ap (λ (l : List Bool). false ∷ l) (no-flags n)
+
+  none-given : givenOf ws ≡ replicate genesisSlots false
+  unfolding givenOf
+  none-given =
+      tab-same genesisSlots (λ (i : ℕ). false) (givenAt ws) (λ i l. rw (none (givenPlace + i) (omega arith)) refl) ∙ no-flags genesisSlots
+
+  nothing : view ws ≡ emptyLedger house
+  unfolding layout.view
+  nothing = rw (none heldPlace (omega arith), none knownPlace (omega arith), none-given) refl
+
+  pub fresh : Fresh me ws
+  fresh = record {
+    numbered = c .numbered;
+    empty = nothing;
+    sound = record {
+      long = c .long;
+      held = omega (arith, none heldPlace (omega arith));
+      known = omega (arith, none knownPlace (omega arith));
+      fit = subst (λ (m : ℕ). Fit house m (view ws)) (sym (c .numbered)) (subst (Fit house me) (sym nothing) (empty-fit house me));
+      once = rw nothing (λ i j h k e. absurd (not-suc-le-zero h));
+    };
+  }
+
+-- ---- The message, and the pledges
+
+pub same-count : (here found : Inputs) → length (here .list) ≡ 4 → length (found .list) ≡ 4 → here .count ≤ 4 → found .count ≤ 4
+    → eqb (found .count) (here .count) ≡ eqb (length (inputsOf found)) (length (inputsOf here))
+same-count here found lh lf ch cf =
+    let h : length (inputsOf here) ≡ here .count = length-take-le (here .count) (here .list) (omega arith) in
+    let f : length (inputsOf found) ≡ found .count = length-take-le (found .count) (found .list) (omega arith) in
+    rw (h, f) refl
+
+module _ (ws : List ℕ) (t : Transaction) {me : ℕ} {here found : List Input} (em : me ≡ number ws) (eh : here ≡ inputsHere me t)
+    (ef : found ≡ keep (available (view ws .tokens)) here) where
+  found-is : found ≡ availableHere (number ws) (view ws .tokens) t
+  unfolding availableHere
+  found-is = ef ∙ rw (eh, em) refl
+
+  pub pledges-here : {vs : List ℕ} → Changes (pledges (t .number) found) ws vs
+      → Changes (pledges (t .number) (availableHere (number ws) (view ws .tokens) t)) ws vs
+  pledges-here p = rw found-is at p
+
+  pub votes-here : {verdict : Bool} → verdict ≡ eqb (length found) (length here) → verdict ≡ vote (number ws) (view ws .tokens) t
+  unfolding vote
+  votes-here e = e ∙ rw (ef, eh, em) (all-kept (available (view ws .tokens)) (inputsHere (number ws) t))

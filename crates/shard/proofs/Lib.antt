@@ -1,4 +1,5 @@
-pub mod Long
+pub mod Once
 pub mod Ledgers
-pub mod Carried
+pub mod Calls
+pub mod Rows
 pub mod Asked

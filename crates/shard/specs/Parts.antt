@@ -3,53 +3,85 @@ use Prim.Native.Nat.{ℕ, _+_, _≤_, _<_}
 use mathlib.Core.Path.{_≡_}
 use mathlib.Core.Bool.{Bool}
 use mathlib.Core.List.{List, [], _∷_, _++_}
-use lib.ListN.{length, set, getD, replicate}
+use lib.ListN.{length, set, replicate}
 use Rattle.transaction.specs.declared.Transaction.{Transaction}
 use Rattle.model.specs.declared.Token.{Token}
 use Rattle.model.specs.declared.Known.{Known}
-use Rattle.model.specs.Steps.{noted, hearing, outcomeOf, settle, nothingKnown}
+use Rattle.model.specs.declared.Outcome.{Outcome}
+use Rattle.model.specs.declared.Answer.{Answer}
 use Rattle.model.specs.declared.Answer.the-variants.{Heard}
-use Rattle.shard.specs.declared.Shard.{Shard}
-use Rattle.shard.specs.declared.Stepped.{Stepped}
-use Rattle.shard.specs.View.{view}
+use Rattle.model.specs.Steps.{Ledger, availableHere, pledges, vote, noted, hearing, outcomeOf, settle, afterMint}
+use Rattle.layout.specs.Layout.{shardWords, tokenSlots, knownSlots, Shard, shardOf, withKnown, withTransactions, slotKnown, Becomes}
+use Rattle.holdings.specs.Held.{Room, Changes}
+use Rattle.shard.specs.View.{number, view}
 
 -- a transaction that becomes known with this own verdict
 abbrev pub knownWith : ℕ → Bool → Transaction → Known
 knownWith me verdict t = record { transaction = t; heard = set (replicate 8 0) me (noted verdict) }
 
--- the shard with other tokens and one known transaction more
-pub record Grown (s : Shard) (tokens : List Token) (k : Known) (held : ℕ) (r : Shard) : Type 0 where
-  pub seen : view r ≡ record { tokens = tokens; given = view s .given; known = view s .known ++ (k ∷ []) }
-  pub numbered : r .number ≡ s .number
-  pub holds : r .held ≡ held
-  pub knows : r .known ≡ s .known + 1
+-- the tokens of the available inputs here are pledged, and nothing else is changed; the verdict is the vote
+abbrev pub Pledges : Transaction → List ℕ → Bool → List ℕ → Type 0
+Pledges t ws verdict vs =
+    Changes (pledges (t .number) (availableHere (number ws) (view ws .tokens) t)) ws vs × (verdict ≡ vote (number ws) (view ws .tokens) t)
 
--- the shard with other tokens and the known transaction at a place changed
-pub record Changed (s : Shard) (tokens : List Token) (k : Known) (held place : ℕ) (r : Shard) : Type 0 where
-  pub seen : view r ≡ record { tokens = tokens; given = view s .given; known = set (view s .known) place k }
-  pub numbered : r .number ≡ s .number
-  pub holds : r .held ≡ held
-  pub knows : r .known ≡ s .known
+-- what a step leaves: this ledger, in words whose counts are known
+pub record Leaves (ws : List ℕ) (ledger : Ledger) (count : ℕ) (vs : List ℕ) : Type 0 where
+  pub long : length vs ≡ shardWords
+  pub seen : view vs ≡ ledger
+  pub numbered : number vs ≡ number ws
+  pub holds : shardOf vs .held ≡ length (ledger .tokens)
+  pub knows : shardOf vs .known ≡ count
 
--- the known transaction at a place with the vote noted
-abbrev pub heardAt : Shard → ℕ → ℕ → ℕ → Known
-heardAt s place sender verdict = hearing sender verdict (getD (view s .known) place nothingKnown)
+-- a genesis token more
+abbrev pub Minted : List ℕ → ℕ → ℕ → ℕ → List ℕ → Type 0
+Minted ws index owner amount vs = Leaves ws (afterMint (view ws) index owner amount) (shardOf ws .known) vs
 
--- the tokens after the decision that it brings
-abbrev pub tokensAfter : Shard → ℕ → ℕ → ℕ → List Token
-tokensAfter s place sender verdict =
-    settle (outcomeOf (heardAt s place sender verdict)) (s .number) (heardAt s place sender verdict .transaction) (view s .tokens)
+-- one known transaction more in the slots
+pub record Grows (ws : List ℕ) (k : Known) (vs : List ℕ) : Type 0 where
+  pub is : Becomes (withKnown (withTransactions (shardOf ws) (set (shardOf ws .transactions) (shardOf ws .known) k)) (shardOf ws .known + 1)) vs
+
+-- the ledger with the known transactions changed, and the tokens after the decision on one of them
+abbrev pub decidedOn : ℕ → Ledger → Known → List Known → Ledger
+decidedOn me ledger k known =
+    record { tokens = settle (outcomeOf k) me (k .transaction) (ledger .tokens); given = ledger .given; known = known }
+
+-- the transaction as it is entered, and the ledger after it
+abbrev pub entryFor : Bool → Transaction → List ℕ → Known
+entryFor verdict t ws = knownWith (number ws) verdict t
+
+abbrev pub enteredLedger : Bool → Transaction → List ℕ → Ledger
+enteredLedger verdict t ws = decidedOn (number ws) (view ws) (entryFor verdict t ws) (view ws .known ++ (entryFor verdict t ws ∷ []))
+
+-- a transaction can be entered: a slot is free, and the tokens after the decision fit
+pub record Entering (verdict : Bool) (t : Transaction) (ws : List ℕ) : Type 0 where
+  pub room : Room ws
+  pub me : number ws < 8
+  pub free : shardOf ws .known < knownSlots
+  pub fits : length (enteredLedger verdict t ws .tokens) ≤ tokenSlots
+
+-- it is entered
+pub record Entered (verdict : Bool) (t : Transaction) (ws : List ℕ) (decided : Outcome) (vs : List ℕ) : Type 0 where
+  pub decides : decided ≡ outcomeOf (entryFor verdict t ws)
+  pub leaves : Leaves ws (enteredLedger verdict t ws) (shardOf ws .known + 1) vs
+
+-- the known transaction in a slot with the vote noted, and the ledger after it
+abbrev pub heardIn : ℕ → ℕ → ℕ → List ℕ → Known
+heardIn place sender verdict ws = hearing sender verdict (slotKnown ws place)
+
+abbrev pub heardLedger : ℕ → ℕ → ℕ → List ℕ → Ledger
+heardLedger place sender verdict ws =
+    decidedOn (number ws) (view ws) (heardIn place sender verdict ws) (set (view ws .known) place (heardIn place sender verdict ws))
 
 -- a fresh vote can be carried out: there is such an entry, and the tokens after the decision fit
-pub record FreshVote (s : Shard) (place sender verdict : ℕ) : Type 0 where
-  pub held : s .held ≤ 128
-  pub known : s .known ≤ 32
-  pub entry : place < s .known
+pub record FreshVote (place sender verdict : ℕ) (ws : List ℕ) : Type 0 where
+  pub room : Room ws
+  pub known : shardOf ws .known ≤ knownSlots
+  pub entry : place < shardOf ws .known
   pub from : sender < 8
   pub says : verdict ≤ 1
-  pub room : length (tokensAfter s place sender verdict) ≤ 128
+  pub fits : length (heardLedger place sender verdict ws .tokens) ≤ tokenSlots
 
 -- it is carried out
-pub record FreshDone (s : Shard) (place sender verdict : ℕ) (r : Stepped) : Type 0 where
-  pub answered : r .answer ≡ Heard (outcomeOf (heardAt s place sender verdict))
-  pub changed : Changed s (tokensAfter s place sender verdict) (heardAt s place sender verdict) (length (tokensAfter s place sender verdict)) place (r .shard)
+pub record FreshDone (place sender verdict : ℕ) (ws : List ℕ) (answer : Answer) (vs : List ℕ) : Type 0 where
+  pub answered : answer ≡ Heard (outcomeOf (heardIn place sender verdict ws))
+  pub leaves : Leaves ws (heardLedger place sender verdict ws) (shardOf ws .known) vs

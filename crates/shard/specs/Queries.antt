@@ -10,6 +10,7 @@ use Rattle.model.specs.declared.Token.{Token}
 use Rattle.model.specs.declared.Known.{Known}
 use Rattle.model.specs.Lists.{find}
 use Rattle.model.specs.Steps.{genesisToken, outcomeOf}
+use Rattle.registry.specs.Numbers.{isNumbered}
 use Rattle.shard.specs.declared.queries.HeldToken.{HeldToken}
 use Rattle.shard.specs.declared.queries.HeldToken.the-variants.{Held, NotHeld}
 use Rattle.shard.specs.declared.queries.KnownOutcome.{KnownOutcome}
@@ -34,10 +35,6 @@ blankKnown = record { transaction = blankTransaction; heard = replicate 8 0 }
 -- the known transaction at a place (document 01: of a pantry's known swaps)
 abbrev pub knownAt : List Known → ℕ → Known
 knownAt known place = getD known place blankKnown
-
--- the known transaction has that number (document 01: the swap's number)
-abbrev pub isNumbered : ℕ → Known → Bool
-isNumbered number k = eqb (k .transaction .number) number
 
 -- the outcome of the known transaction at a place (document 01: wait, commit, abort)
 unfoldable pub outcomeAt : List Known → ℕ → KnownOutcome

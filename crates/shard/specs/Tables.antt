@@ -14,12 +14,16 @@ use Rattle.model.specs.Shard.{hasNumber, isOther, otherVerdict, reserved}
 abbrev pub registerForm : ℕ → ℕ → Transaction → List (Bool × ℕ)
 registerForm me receiver t = (not (eqb receiver me), 3) ∷ registerChecks (house .genesis) receiver t ++ (not (takesPart receiver t), 6) ∷ []
 
+-- 10: tokens would pass the limit
+abbrev pub tooFull : ℕ → Ledger → Transaction → Bool
+tooFull me ledger t = ltb (house .tokens) (length (ledger .tokens) + reserved me (ledger .known) + length (outputsHere me t))
+
 abbrev pub registerLedger : ℕ → Ledger → Transaction → List (Bool × ℕ)
 registerLedger me ledger t =
     (any (isOther t) (ledger .known), 7)
     ∷ (any (isFor t) (ledger .known), 8)
     ∷ (leb (house .transactions) (length (ledger .known)), 9)
-    ∷ (ltb (house .tokens) (length (ledger .tokens) + reserved me (ledger .known) + length (outputsHere me t)), 10)
+    ∷ (tooFull me ledger t, 10)
     ∷ []
 
 abbrev pub deliverLedger : Ledger → ℕ → ℕ → Transaction → List (Bool × ℕ)

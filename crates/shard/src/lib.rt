@@ -1,114 +1,81 @@
-// One shard's ledger (document 01: a pantry's), by value. Each call gets a shard and gives back the next one with its answer.
+// One shard's ledger (document 01: a pantry's), in place: each call is lent the shard's words, changes them and answers.
 ghost use mathlib.Core.Path.{_≡_};
-ghost use Prim.Native.Nat.{_≤_, _<_};
-ghost use Rattle.model.specs.Shard.{mint, register, deliver};
+ghost use Rattle.transaction.specs.Lists.{firstOf};
+ghost use Rattle.model.specs.Steps.{house};
+ghost use Rattle.model.specs.Shard.{mint, register, deliver, deliverForm};
 ghost use Rattle.model.specs.Cluster.{gave};
-ghost use Rattle.shard.specs.View.{view, Sound, Fresh, Steps};
+ghost use Rattle.shard.specs.View.{number, view, Sound, Fresh, Steps};
+use layout::Words;
+use layout::counts::own_number;
 use model::Answer;
-use model::Known;
-use model::Token;
+use registry::finding::place_of_number;
 use transaction::Transaction;
 
 pub mod refusals; // the tables of refusals
 pub mod steps; // the steps that a call that passes takes
 pub mod queries; // what can be asked of a shard
 
-// The shard's number, the tokens held, the known transactions, and the genesis indices given. The counts say how many slots are used.
-pub struct Shard {
-    number: u8,
-    held: usize,
-    known: usize,
-    tokens: [Token; 128],
-    transactions: [Known; 32],
-    given: [bool; 128],
-}
-
-// What a call answers, and the shard after it.
-pub struct Stepped {
-    pub answer: Answer,
-    pub shard: Shard,
-}
-
-// An empty shard of that number.
-pub fn new(number: u8) -> Shard
-    ensures { λ r. ⌜ Fresh number r ⌝ }
+// An empty shard of that number, whatever the words were.
+pub fn new(s: &mut Words, me: u8)
+    ensures { λ _. ⌜ Fresh me (now (s .exit)) ⌝ }
 {
-    let token = Token {
-        creator: 0,
-        index: 0,
-        owner: 0,
-        amount: 0,
-        pledge: 0,
-    };
-    let k = Known {
-        transaction: transaction::parts::blank(),
-        heard: [0; 8],
-    };
-    Shard {
-        number: number,
-        held: 0,
-        known: 0,
-        tokens: [token; 128],
-        transactions: [k; 32],
-        given: [false; 128],
-    }
-}
-
-fn refused(s: Shard, cause: u8) -> Stepped
-    ensures { λ r. ⌜ (r .answer ≡ Answer.Refused cause) × (r .shard ≡ s) ⌝ }
-{
-    Stepped {
-        answer: Answer::Refused(cause),
-        shard: s,
-    }
+    layout::counts::clear(s, me);
 }
 
 // An opening: the shard holds a genesis token.
-pub fn mint_token(s: Shard, receiver: u8, index: u8, owner: u32, amount: u32) -> Stepped
-    requires { ⌜ Sound s ⌝ }
-    ensures { λ r. ⌜ Steps s (mint receiver index owner amount) r ⌝ }
+pub fn mint_token(s: &mut Words, receiver: u8, index: u8, owner: u32, amount: u32) -> Answer
+    requires { ⌜ Sound (now s) ⌝ }
+    ensures { λ r. ⌜ Steps (now (s .entry)) (mint receiver index owner amount) r (now (s .exit)) ⌝ }
 {
     let cause = refusals::mint_refusal(s, receiver, index, owner, amount);
     if cause != 0 {
-        return refused(s, cause);
+        return Answer::Refused(cause);
     }
-    let after = steps::after_mint(s, index, owner, amount);
-    Stepped {
-        answer: Answer::Minted,
-        shard: after,
-    }
+    steps::after_mint(s, index, owner, amount);
+    Answer::Minted
 }
 
 // A registration: available inputs are pledged, the shard votes, and decides if it is the only one.
-pub fn register_transaction(s: Shard, receiver: u8, t: Transaction) -> Stepped
-    requires { ⌜ Sound s ⌝ }
-    ensures { λ r. ⌜ Steps s (register receiver t) r ⌝ }
+pub fn register_transaction(s: &mut Words, receiver: u8, t: Transaction) -> Answer
+    requires { ⌜ Sound (now s) ⌝ }
+    ensures { λ r. ⌜ Steps (now (s .entry)) (register receiver t) r (now (s .exit)) ⌝ }
 {
     let cause = refusals::register_refusal(s, receiver, t);
     if cause != 0 {
-        return refused(s, cause);
+        return Answer::Refused(cause);
     }
     steps::carry_registration(s, t)
 }
 
 // A vote of another shard, or of its own: fresh or repeated.
-pub fn hear_vote(s: Shard, receiver: u8, sender: u8, verdict: u8, t: Transaction) -> Stepped
-    requires { ⌜ Sound s ⌝ }
-    ensures { λ r. ⌜ Steps s (deliver receiver sender verdict t) r ⌝ }
+pub fn hear_vote(s: &mut Words, receiver: u8, sender: u8, verdict: u8, t: Transaction) -> Answer
+    requires { ⌜ Sound (now s) ⌝ }
+    ensures { λ r. ⌜ Steps (now (s .entry)) (deliver receiver sender verdict t) r (now (s .exit)) ⌝ }
 {
-    let cause = refusals::deliver_refusal(s, receiver, sender, verdict, t);
+    let cause = refusals::deliver_form(own_number(s), receiver, sender, verdict, t);
     if cause != 0 {
-        return refused(s, cause);
+        return Answer::Refused(cause);
     }
-    steps::carry_vote(s, sender, verdict, t)
+    hear_formed(s, sender, verdict, t)
+}
+
+// A vote to this shard that has passed 3 to 6. Internal: a cluster, which asks for 16 behind them, calls it so that they are asked for once.
+pub fn hear_formed(s: &mut Words, sender: u8, verdict: u8, t: Transaction) -> Answer
+    requires { ⌜ Sound (now s) × (firstOf (deliverForm house (number (now s)) (number (now s)) sender verdict t) ≡ 0) ⌝ }
+    ensures { λ r. ⌜ Steps (now (s .entry)) (deliver (number (now (s .entry))) sender verdict t) r (now (s .exit)) ⌝ }
+{
+    let place = place_of_number(s, t.number);
+    let cause = refusals::deliver_ledger(s, place, sender, verdict, t);
+    if cause != 0 {
+        return Answer::Refused(cause);
+    }
+    steps::carry_vote(s, place, sender, verdict, t)
 }
 
 // The shard has given this vote on this transaction; asked of the sender before a cluster delivers it.
-pub fn has_given_vote(s: Shard, sender: u8, verdict: u8, t: Transaction) -> bool
-    requires { ⌜ Sound s ⌝ }
-    ensures { λ r. ⌜ r ≡ gave (view s) sender verdict t ⌝ }
+pub fn has_given_vote(s: &Words, sender: u8, verdict: u8, t: Transaction) -> bool
+    requires { ⌜ Sound (now s) ⌝ }
+    ensures { λ r. ⌜ r ≡ gave (view (now (s .entry))) sender verdict t ⌝ }
 {
-    let known = s.known;
-    let list = s.transactions;
-    registry::finding::has_given(list, known, sender, verdict, t)
+    registry::finding::has_given(s, sender, verdict, t)
 }

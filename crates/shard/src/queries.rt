@@ -1,16 +1,20 @@
-// What can be asked of a shard: each answer is read off its ledger, and nothing is changed.
+// What can be asked of a shard: each answer is read off its words, and nothing is changed.
 ghost use mathlib.Core.Path.{_≡_};
 ghost use mathlib.Core.Bool.{false};
 ghost use Prim.Native.Nat.{_≤_, _<_};
-ghost use lib.ListN.{getD, length, take};
+ghost use lib.ListN.{getD, length};
 ghost use Rattle.model.specs.Lists.{find};
 ghost use Rattle.shard.specs.View.{view, Sound};
-ghost use Rattle.shard.specs.Queries.{tokenAt, hasId, tokenOfId, blankKnown, knownAt, isNumbered, outcomeAt, outcomeOfNumber, totalAmount};
-use crate::Shard;
+ghost use Rattle.shard.specs.Queries.{tokenAt, hasId, tokenOfId, blankKnown, knownAt, outcomeOfNumber, totalAmount};
+use layout::Words;
+use layout::counts;
+use layout::entries;
+use layout::tokens;
 use model::Known;
 use model::Outcome;
 use model::Token;
-use registry::deciding::outcome;
+use registry::deciding::outcome_at;
+use registry::finding::place_of_number;
 
 pub enum HeldToken {
     Held(Token),
@@ -23,50 +27,41 @@ pub enum KnownOutcome {
 }
 
 // How many tokens are held.
-pub fn held_count(s: Shard) -> usize
-    requires { ⌜ Sound s ⌝ }
-    ensures { λ r. ⌜ r ≡ length (view s .tokens) ⌝ }
+pub fn held_count(s: &Words) -> usize
+    requires { ⌜ Sound (now s) ⌝ }
+    ensures { λ r. ⌜ r ≡ length (view (now (s .entry)) .tokens) ⌝ }
 {
-    s.held
+    counts::held(s)
 }
 
 // How many transactions are known.
-pub fn known_count(s: Shard) -> usize
-    requires { ⌜ Sound s ⌝ }
-    ensures { λ r. ⌜ r ≡ length (view s .known) ⌝ }
+pub fn known_count(s: &Words) -> usize
+    requires { ⌜ Sound (now s) ⌝ }
+    ensures { λ r. ⌜ r ≡ length (view (now (s .entry)) .known) ⌝ }
 {
-    s.known
+    counts::known_count(s)
 }
 
 // The token at a place of those held.
-pub fn token_at(s: Shard, place: usize) -> HeldToken
-    requires { ⌜ Sound s ⌝ }
-    ensures { λ r. ⌜ r ≡ tokenAt (view s .tokens) place ⌝ }
+pub fn token_at(s: &Words, place: usize) -> HeldToken
+    requires { ⌜ Sound (now s) ⌝ }
+    ensures { λ r. ⌜ r ≡ tokenAt (view (now (s .entry)) .tokens) place ⌝ }
 {
-    let held = s.held;
-    let tokens = s.tokens;
-    if place < held {
-        let token = tokens[place];
-        return HeldToken::Held(token);
+    if place < counts::held(s) {
+        return HeldToken::Held(tokens::token_at(s, place));
     }
     HeldToken::NotHeld
 }
 
-fn has_id(creator: u32, index: u8, token: Token) -> bool
-    ensures { λ r. ⌜ r ≡ hasId creator index token ⌝ }
-{
-    (token.creator == creator) & (token.index == index)
-}
-
 // The place of the token of that id; the count where it is not held.
-fn place_of_token(tokens: [Token; 128], held: usize, creator: u32, index: u8) -> usize
-    requires { ⌜ held ≤ 128 ⌝ }
-    ensures { λ r. ⌜ r ≡ find (hasId creator index) (take held tokens) ⌝ }
+fn place_of_token(s: &Words, creator: u32, index: u8) -> usize
+    requires { ⌜ Sound (now s) ⌝ }
+    ensures { λ r. ⌜ r ≡ find (hasId creator index) (view (now (s .entry)) .tokens) ⌝ }
 {
+    let n = counts::held(s);
     let mut i = 0;
-    while i < held {
-        let token = tokens[i];
-        if has_id(creator, index, token) {
+    while i < n {
+        if tokens::is_token(s, i, creator, index) {
             return i;
         }
         i += 1;
@@ -75,13 +70,11 @@ fn place_of_token(tokens: [Token; 128], held: usize, creator: u32, index: u8) ->
 }
 
 // The held token of that id.
-pub fn find_token(s: Shard, creator: u32, index: u8) -> HeldToken
-    requires { ⌜ Sound s ⌝ }
-    ensures { λ r. ⌜ r ≡ tokenOfId (view s .tokens) creator index ⌝ }
+pub fn find_token(s: &Words, creator: u32, index: u8) -> HeldToken
+    requires { ⌜ Sound (now s) ⌝ }
+    ensures { λ r. ⌜ r ≡ tokenOfId (view (now (s .entry)) .tokens) creator index ⌝ }
 {
-    let held = s.held;
-    let tokens = s.tokens;
-    let place = place_of_token(tokens, held, creator, index);
+    let place = place_of_token(s, creator, index);
     token_at(s, place)
 }
 
@@ -95,72 +88,34 @@ fn blank_known() -> Known
 }
 
 // The known transaction at a place; a blank one behind the last.
-pub fn known_at(s: Shard, place: usize) -> Known
-    requires { ⌜ Sound s ⌝ }
-    ensures { λ r. ⌜ r ≡ knownAt (view s .known) place ⌝ }
+pub fn known_at(s: &Words, place: usize) -> Known
+    requires { ⌜ Sound (now s) ⌝ }
+    ensures { λ r. ⌜ r ≡ knownAt (view (now (s .entry)) .known) place ⌝ }
 {
-    let known = s.known;
-    let list = s.transactions;
-    if place < known {
-        return list[place];
+    if place < counts::known_count(s) {
+        return entries::known_at(s, place);
     }
     blank_known()
 }
 
-fn is_numbered(number: u32, k: Known) -> bool
-    ensures { λ r. ⌜ r ≡ isNumbered number k ⌝ }
+// The outcome of the known transaction of that number.
+pub fn outcome_of(s: &Words, number: u32) -> KnownOutcome
+    requires { ⌜ Sound (now s) ⌝ }
+    ensures { λ r. ⌜ r ≡ outcomeOfNumber (view (now (s .entry)) .known) number ⌝ }
 {
-    let t = k.transaction;
-    t.number == number
-}
-
-// The place of the known transaction of that number; the count where it is not known.
-fn place_of_number(list: [Known; 32], known: usize, number: u32) -> usize
-    requires { ⌜ known ≤ 32 ⌝ }
-    ensures { λ r. ⌜ r ≡ find (isNumbered number) (take known list) ⌝ }
-{
-    let mut i = 0;
-    while i < known {
-        let k = list[i];
-        if is_numbered(number, k) {
-            return i;
-        }
-        i += 1;
-    }
-    i
-}
-
-fn outcome_at(s: Shard, place: usize) -> KnownOutcome
-    requires { ⌜ Sound s ⌝ }
-    ensures { λ r. ⌜ r ≡ outcomeAt (view s .known) place ⌝ }
-{
-    let known = s.known;
-    if place < known {
-        let k = known_at(s, place);
-        let t = k.transaction;
-        let heard = k.heard;
-        return KnownOutcome::Known(outcome(t, heard));
+    let place = place_of_number(s, number);
+    if place < counts::known_count(s) {
+        return KnownOutcome::Known(outcome_at(s, place));
     }
     KnownOutcome::Unknown
 }
 
-// The outcome of the known transaction of that number.
-pub fn outcome_of(s: Shard, number: u32) -> KnownOutcome
-    requires { ⌜ Sound s ⌝ }
-    ensures { λ r. ⌜ r ≡ outcomeOfNumber (view s .known) number ⌝ }
-{
-    let known = s.known;
-    let list = s.transactions;
-    let place = place_of_number(list, known, number);
-    outcome_at(s, place)
-}
-
 // The genesis index was given.
-pub fn is_given(s: Shard, index: u8) -> bool
-    ensures { λ r. ⌜ r ≡ getD (view s .given) index false ⌝ }
+pub fn is_given(s: &Words, index: u8) -> bool
+    requires { ⌜ Sound (now s) ⌝ }
+    ensures { λ r. ⌜ r ≡ getD (view (now (s .entry)) .given) index false ⌝ }
 {
-    let given = s.given;
-    crate::refusals::is_given(given, index)
+    crate::refusals::was_given(s, index)
 }
 
 fn wide(x: u32) -> u64
@@ -169,27 +124,18 @@ fn wide(x: u32) -> u64
     x as u64
 }
 
-fn sum_of(tokens: [Token; 128], held: usize) -> u64
-    requires { ⌜ held ≤ 128 ⌝ }
-    ensures { λ r. ⌜ (r ≡ totalAmount (take held tokens)) × (r ≤ 549755813888) ⌝ }
+// The sum of the held amounts, of 128 tokens at most.
+pub fn total_amount(s: &Words) -> u64
+    requires { ⌜ Sound (now s) ⌝ }
+    ensures { λ r. ⌜ (r ≡ totalAmount (view (now (s .entry)) .tokens)) × (r ≤ 549755813888) ⌝ }
 {
+    let n = counts::held(s);
     let mut sum: u64 = 0;
     let mut i = 0;
-    while i < held {
-        let token = tokens[i];
-        let amount = wide(token.amount);
+    while i < n {
+        let amount = wide(tokens::amount_at(s, i));
         sum += amount;
         i += 1;
     }
     sum
-}
-
-// The sum of the held amounts, of 128 tokens at most.
-pub fn total_amount(s: Shard) -> u64
-    requires { ⌜ Sound s ⌝ }
-    ensures { λ r. ⌜ (r ≡ totalAmount (view s .tokens)) × (r ≤ 549755813888) ⌝ }
-{
-    let held = s.held;
-    let tokens = s.tokens;
-    sum_of(tokens, held)
 }

@@ -1,22 +1,25 @@
 // The tables of refusals at one shard, in document 01's order: the number of the first test that holds, 0 for none.
 ghost use mathlib.Core.Path.{_≡_};
-ghost use mathlib.Core.Bool.{false, not};
-ghost use mathlib.Core.List.{[], _∷_, _++_};
-ghost use lib.Dec.{eqb, leb, ltb};
-ghost use lib.ListN.{getD, length};
-ghost use Prim.Native.Nat.{_+_};
-ghost use Rattle.transaction.specs.Lists.{any, firstOf};
-ghost use Rattle.transaction.specs.Tokens.{takesPart};
-ghost use Rattle.transaction.specs.Checks.{registerChecks, voteChecks};
-ghost use Rattle.model.specs.Steps.{house, isFor, entryOf, heardFrom, outputsHere};
-ghost use Rattle.model.specs.Shard.{hasNumber, isOther, otherVerdict, reserved, mintRefusals, registerRefusals, deliverForm, deliverRefusals};
-ghost use Rattle.shard.specs.View.{view, Sound};
-ghost use Rattle.shard.specs.Tables.{registerForm, registerLedger, deliverLedger};
-use crate::Shard;
-use registry::deciding::heard_from;
-use registry::finding::knows_number;
-use registry::finding::knows_other;
-use registry::finding::place_of;
+ghost use mathlib.Core.Bool.{false};
+ghost use lib.ListN.{getD};
+ghost use Rattle.transaction.specs.Lists.{firstOf};
+ghost use Rattle.model.specs.Lists.{find};
+ghost use Rattle.model.specs.Steps.{house};
+ghost use Rattle.model.specs.Shard.{otherVerdict, mintRefusals, registerRefusals, deliverForm};
+ghost use Rattle.registry.specs.Numbers.{isNumbered};
+ghost use Rattle.shard.specs.View.{number, view, Sound};
+ghost use Rattle.shard.specs.Tables.{registerForm, tooFull, registerLedger, deliverLedger};
+use layout::GENESIS_SLOTS;
+use layout::KNOWN_SLOTS;
+use layout::TOKEN_SLOTS;
+use layout::Words;
+use layout::counts::held;
+use layout::counts::is_given;
+use layout::counts::known_count;
+use layout::counts::own_number;
+use layout::entries::heard_at;
+use registry::finding::place_of_number;
+use registry::finding::same_at;
 use registry::reserving::count_here;
 use registry::reserving::reserved_here;
 use transaction::Transaction;
@@ -26,32 +29,31 @@ use transaction::checks::vote_cause;
 use transaction::parts::takes_part;
 
 // The genesis index was given.
-pub fn is_given(given: [bool; 128], index: u8) -> bool
-    ensures { λ r. ⌜ r ≡ getD given index false ⌝ }
+pub fn was_given(s: &Words, index: u8) -> bool
+    ensures { λ r. ⌜ r ≡ getD (view (now (s .entry)) .given) index false ⌝ }
 {
     let at = index as usize;
-    if at < 128 {
-        return given[at];
+    if at < GENESIS_SLOTS {
+        return is_given(s, at);
     }
     false
 }
 
-pub fn mint_refusal(s: Shard, receiver: u8, index: u8, owner: u32, amount: u32) -> u8
-    requires { ⌜ Sound s ⌝ }
-    ensures { λ r. ⌜ r ≡ firstOf (mintRefusals house (s .number) (view s) receiver index owner amount) ⌝ }
+pub fn mint_refusal(s: &Words, receiver: u8, index: u8, owner: u32, amount: u32) -> u8
+    requires { ⌜ Sound (now s) ⌝ }
+    ensures { λ r. ⌜ r ≡ firstOf (mintRefusals house (number (now (s .entry))) (view (now (s .entry))) receiver index owner amount) ⌝ }
 {
-    if receiver != s.number {
+    if receiver != own_number(s) {
         return 3;
     }
     let cause = mint_cause(128, receiver, index, owner, amount);
     if cause != 0 {
         return cause;
     }
-    if s.known != 0 {
+    if known_count(s) != 0 {
         return 13;
     }
-    let given = s.given;
-    if is_given(given, index) {
+    if was_given(s, index) {
         return 14;
     }
     0
@@ -74,36 +76,49 @@ fn register_form(me: u8, receiver: u8, t: Transaction) -> u8
     0
 }
 
-// 7 to 10.
-fn register_ledger(s: Shard, t: Transaction) -> u8
-    requires { ⌜ Sound s ⌝ }
-    ensures { λ r. ⌜ r ≡ firstOf (registerLedger (s .number) (view s) t) ⌝ }
+// 10: held tokens, outputs here of undecided transactions and of the new one would pass the limit. A known transaction has at most four
+// outputs here, so that most often they need not be counted.
+fn is_too_full(s: &Words, t: Transaction) -> bool
+    requires { ⌜ Sound (now s) ⌝ }
+    ensures { λ r. ⌜ r ≡ tooFull (number (now (s .entry))) (view (now (s .entry))) t ⌝ }
 {
-    let held = s.held;
-    let known = s.known;
-    let list = s.transactions;
-    if knows_other(list, known, t) {
+    let me = own_number(s);
+    let n = held(s);
+    let more = count_here(me, t);
+    if n + 4 * known_count(s) + more <= TOKEN_SLOTS {
+        return false;
+    }
+    let waiting = reserved_here(s, me);
+    TOKEN_SLOTS < n + waiting + more
+}
+
+// 7 to 10.
+fn register_ledger(s: &Words, t: Transaction) -> u8
+    requires { ⌜ Sound (now s) ⌝ }
+    ensures { λ r. ⌜ r ≡ firstOf (registerLedger (number (now (s .entry))) (view (now (s .entry))) t) ⌝ }
+{
+    let known = known_count(s);
+    let place = place_of_number(s, t.number);
+    if place < known {
+        if same_at(s, place, t) {
+            return 8;
+        }
         return 7;
     }
-    if place_of(list, known, t) < known {
-        return 8;
-    }
-    if 32 <= known {
+    if KNOWN_SLOTS <= known {
         return 9;
     }
-    let reserved = reserved_here(s.number, list, known);
-    let more = count_here(s.number, t);
-    if 128 < held + reserved + more {
+    if is_too_full(s, t) {
         return 10;
     }
     0
 }
 
-pub fn register_refusal(s: Shard, receiver: u8, t: Transaction) -> u8
-    requires { ⌜ Sound s ⌝ }
-    ensures { λ r. ⌜ r ≡ firstOf (registerRefusals house (s .number) (view s) receiver t) ⌝ }
+pub fn register_refusal(s: &Words, receiver: u8, t: Transaction) -> u8
+    requires { ⌜ Sound (now s) ⌝ }
+    ensures { λ r. ⌜ r ≡ firstOf (registerRefusals house (number (now (s .entry))) (view (now (s .entry))) receiver t) ⌝ }
 {
-    let cause = register_form(s.number, receiver, t);
+    let cause = register_form(own_number(s), receiver, t);
     if cause != 0 {
         return cause;
     }
@@ -130,42 +145,6 @@ pub fn deliver_form(me: u8, receiver: u8, sender: u8, verdict: u8, t: Transactio
     0
 }
 
-// What is noted of the sender on this transaction; 0 where it is not known.
-pub fn heard_of(s: Shard, sender: u8, t: Transaction) -> u8
-    requires { ⌜ Sound s ⌝ }
-    ensures { λ r. ⌜ r ≡ heardFrom sender (entryOf t (view s .known)) ⌝ }
-{
-    let known = s.known;
-    let list = s.transactions;
-    let place = place_of(list, known, t);
-    if place < known {
-        let k = list[place];
-        let heard = k.heard;
-        return heard_from(heard, sender);
-    }
-    0
-}
-
-// 11, 7 and 12.
-fn deliver_ledger(s: Shard, sender: u8, verdict: u8, t: Transaction) -> u8
-    requires { ⌜ Sound s ⌝ }
-    ensures { λ r. ⌜ r ≡ firstOf (deliverLedger (view s) sender verdict t) ⌝ }
-{
-    let known = s.known;
-    let list = s.transactions;
-    if !knows_number(list, known, t) {
-        return 11;
-    }
-    if knows_other(list, known, t) {
-        return 7;
-    }
-    let heard = heard_of(s, sender, t);
-    if is_other_verdict(heard, verdict) {
-        return 12;
-    }
-    0
-}
-
 fn is_other_verdict(heard: u8, verdict: u8) -> bool
     ensures { λ r. ⌜ r ≡ otherVerdict heard verdict ⌝ }
 {
@@ -173,13 +152,20 @@ fn is_other_verdict(heard: u8, verdict: u8) -> bool
     (heard != 0) & ((heard as u16) != noted)
 }
 
-pub fn deliver_refusal(s: Shard, receiver: u8, sender: u8, verdict: u8, t: Transaction) -> u8
-    requires { ⌜ Sound s ⌝ }
-    ensures { λ r. ⌜ r ≡ firstOf (deliverRefusals house (s .number) (view s) receiver sender verdict t) ⌝ }
+// 11, 7 and 12, from the place of the transaction's number.
+pub fn deliver_ledger(s: &Words, place: usize, sender: u8, verdict: u8, t: Transaction) -> u8
+    requires { ⌜ Sound (now s) × (place ≡ find (isNumbered (t .number)) (view (now s) .known)) ⌝ }
+    ensures { λ r. ⌜ r ≡ firstOf (deliverLedger (view (now (s .entry))) sender verdict t) ⌝ }
 {
-    let cause = deliver_form(s.number, receiver, sender, verdict, t);
-    if cause != 0 {
-        return cause;
+    if known_count(s) <= place {
+        return 11;
     }
-    deliver_ledger(s, sender, verdict, t)
+    if !same_at(s, place, t) {
+        return 7;
+    }
+    let heard = heard_at(s, place, sender);
+    if is_other_verdict(heard, verdict) {
+        return 12;
+    }
+    0
 }

@@ -1,62 +1,57 @@
 // The steps of a call that passes: document 01's, in document 000's order.
 ghost use mathlib.Core.Path.{_≡_};
-ghost use Prim.Native.Nat.{_≤_, _<_};
-ghost use lib.ListN.{take, length, set};
+ghost use Prim.Native.Nat.{_<_, _≤_};
+ghost use lib.ListN.{length};
 ghost use lib.Dec.{eqb};
 ghost use Rattle.transaction.specs.Lists.{firstOf};
-ghost use Rattle.model.specs.Steps.{house, availableHere, pledges, vote, noted, newlyKnown, outcomeOf, settle, afterMint, hearing, entryOf, heardFrom};
-ghost use Rattle.model.specs.Shard.{mintRefusals, registerRefusals, deliverRefusals, mint, register, deliver};
-ghost use Rattle.holdings.specs.Arrays.{inputsOf};
-ghost use Rattle.shard.specs.View.{view, Sound, Steps};
-ghost use Rattle.shard.specs.Parts.{knownWith, Grown, Changed, FreshVote, FreshDone};
-use crate::Shard;
-use crate::Stepped;
+ghost use Rattle.model.specs.Lists.{find};
+ghost use Rattle.model.specs.Steps.{house, noted, outcomeOf};
+ghost use Rattle.model.specs.Shard.{registerRefusals, deliverRefusals, register, deliver};
+ghost use Rattle.layout.specs.Layout.{shardWords, tokenSlots, knownSlots, genesisSlots, shardOf, slotKnown};
+ghost use Rattle.holdings.specs.Held.{inputsOf, Settling, Settles, Room};
+ghost use Rattle.registry.specs.Numbers.{isNumbered};
+ghost use Rattle.shard.specs.View.{number, view, Sound, Steps};
+ghost use Rattle.shard.specs.Parts.{knownWith, Pledges, Minted, Grows, Entering, Entered, FreshVote, FreshDone};
 use holdings::Inputs;
 use holdings::availability::available_of;
 use holdings::availability::inputs_here;
-use holdings::committing::settle_here;
+use holdings::committing::settle_at;
 use holdings::pledging::pledge_all;
+use layout::Words;
+use layout::counts::give;
+use layout::counts::held;
+use layout::counts::known_count;
+use layout::counts::own_number;
+use layout::counts::set_held;
+use layout::counts::set_known_count;
+use layout::entries::heard_at;
+use layout::stores::put_heard;
+use layout::stores::put_known;
+use layout::tokens::put_token;
 use model::Answer;
 use model::Known;
 use model::Outcome;
 use model::Token;
-use registry::deciding::heard_from;
-use registry::deciding::outcome;
-use registry::finding::place_of;
+use registry::deciding::outcome_at;
 use transaction::Transaction;
 
 // The genesis token, and its index given.
-pub fn after_mint(s: Shard, index: u8, owner: u32, amount: u32) -> Shard
-    requires { ⌜ (s .held < 128) × (index < 128) ⌝ }
-    ensures { λ r. ⌜ (view r ≡ afterMint (view s) index owner amount) × ((r .number ≡ s .number) × ((r .held ≤ 128) × (r .known ≡ s .known))) ⌝ }
+pub fn after_mint(s: &mut Words, index: u8, owner: u32, amount: u32)
+    requires { ⌜ (length (now s) ≡ shardWords) × ((shardOf (now s) .held < tokenSlots) × (index < genesisSlots)) ⌝ }
+    ensures { λ _. ⌜ Minted (now (s .entry)) index owner amount (now (s .exit)) ⌝ }
 {
-    let held = s.held;
+    let n = held(s);
     let at = index as usize;
-    let mut tokens = s.tokens;
-    let mut given = s.given;
-    tokens[held] = Token {
+    let token = Token {
         creator: 0,
         index: index,
         owner: owner,
         amount: amount,
         pledge: 0,
     };
-    given[at] = true;
-    let transactions = s.transactions;
-    Shard {
-        number: s.number,
-        held: held + 1,
-        known: s.known,
-        tokens: tokens,
-        transactions: transactions,
-        given: given,
-    }
-}
-
-// What a registration does to the tokens, and the vote that it gives.
-pub struct Pledged {
-    pub tokens: [Token; 128],
-    pub verdict: bool,
+    put_token(s, n, token);
+    set_held(s, n + 1);
+    give(s, at);
 }
 
 // The message: yes if all inputs here are available, as many as there are.
@@ -68,18 +63,15 @@ fn own_vote(here: Inputs, found: Inputs) -> bool
 }
 
 // The inputs at this shard, the available ones among them, the pledges, the message.
-fn registration(tokens: [Token; 128], held: usize, me: u8, t: Transaction) -> Pledged
-    requires { ⌜ held ≤ 128 ⌝ }
-    ensures { λ r. ⌜ (take held (r .tokens) ≡ pledges (t .number) (availableHere me (take held tokens) t) (take held tokens)) × (r .verdict ≡ vote me (take held tokens) t) ⌝ }
+fn pledge_here(s: &mut Words, t: Transaction) -> bool
+    requires { ⌜ Room (now s) ⌝ }
+    ensures { λ r. ⌜ Pledges t (now (s .entry)) r (now (s .exit)) ⌝ }
 {
+    let me = own_number(s);
     let here = inputs_here(me, t);
-    let found = available_of(tokens, held, here);
-    let pledged = pledge_all(tokens, held, t.number, found);
-    let verdict = own_vote(here, found);
-    Pledged {
-        tokens: pledged,
-        verdict: verdict,
-    }
+    let found = available_of(s, here);
+    pledge_all(s, t.number, found);
+    own_vote(here, found)
 }
 
 // A verdict as it is noted.
@@ -103,117 +95,68 @@ fn newly_known(me: u8, verdict: bool, t: Transaction) -> Known
     }
 }
 
-// A known transaction more, and the tokens after its decision.
-fn with_known(s: Shard, tokens: [Token; 128], held: usize, k: Known) -> Shard
-    requires { ⌜ s .known < 32 ⌝ }
-    ensures { λ r. ⌜ Grown s (take held tokens) k held r ⌝ }
+// A known transaction more.
+fn add_known(s: &mut Words, k: Known)
+    requires { ⌜ (length (now s) ≡ shardWords) × (shardOf (now s) .known < knownSlots) ⌝ }
+    ensures { λ _. ⌜ Grows (now (s .entry)) k (now (s .exit)) ⌝ }
 {
-    let n = s.known;
-    let given = s.given;
-    let mut transactions = s.transactions;
-    transactions[n] = k;
-    Shard {
-        number: s.number,
-        held: held,
-        known: n + 1,
-        tokens: tokens,
-        transactions: transactions,
-        given: given,
-    }
+    let n = known_count(s);
+    put_known(s, n, k);
+    set_known_count(s, n + 1);
 }
 
-pub fn carry_registration(s: Shard, t: Transaction) -> Stepped
-    requires { ⌜ Sound s × (firstOf (registerRefusals house (s .number) (view s) (s .number) t) ≡ 0) ⌝ }
-    ensures { λ r. ⌜ Steps s (register (s .number) t) r ⌝ }
+// The decision on the known transaction in a slot, and what it does to the tokens.
+fn decide_at(s: &mut Words, place: usize) -> Outcome
+    requires { ⌜ Settling (outcomeOf (slotKnown (now s) place)) place (now s) ⌝ }
+    ensures { λ r. ⌜ (r ≡ outcomeOf (slotKnown (now (s .entry)) place))
+        × Settles (outcomeOf (slotKnown (now (s .entry)) place)) place (now (s .entry)) (now (s .exit)) ⌝ }
 {
-    let me = s.number;
-    let held = s.held;
-    let tokens = s.tokens;
-    let found = registration(tokens, held, me, t);
-    let pledged = found.tokens;
-    let k = newly_known(me, found.verdict, t);
-    let heard = k.heard;
-    let decided = outcome(t, heard);
-    let after = settle_here(pledged, held, me, t, decided);
-    let list = after.list;
-    let next = with_known(s, list, after.count, k);
-    Stepped {
-        answer: Answer::Registered(found.verdict, decided),
-        shard: next,
-    }
+    let decided = outcome_at(s, place);
+    settle_at(s, place, decided);
+    decided
 }
 
-// The vote noted for its sender.
-fn hearing_vote(k: Known, sender: u8, verdict: u8) -> Known
-    requires { ⌜ (sender < 8) × (verdict ≤ 1) ⌝ }
-    ensures { λ r. ⌜ r ≡ hearing sender verdict k ⌝ }
+// The transaction becomes known with the shard's verdict, and is decided if that was the only vote missing.
+fn enter(s: &mut Words, verdict: bool, t: Transaction) -> Outcome
+    requires { ⌜ Entering verdict t (now s) ⌝ }
+    ensures { λ r. ⌜ Entered verdict t (now (s .entry)) r (now (s .exit)) ⌝ }
+{
+    let me = own_number(s);
+    let place = known_count(s);
+    let k = newly_known(me, verdict, t);
+    add_known(s, k);
+    decide_at(s, place)
+}
+
+pub fn carry_registration(s: &mut Words, t: Transaction) -> Answer
+    requires { ⌜ Sound (now s) × (firstOf (registerRefusals house (number (now s)) (view (now s)) (number (now s)) t) ≡ 0) ⌝ }
+    ensures { λ r. ⌜ Steps (now (s .entry)) (register (number (now (s .entry))) t) r (now (s .exit)) ⌝ }
+{
+    let verdict = pledge_here(s, t);
+    let decided = enter(s, verdict, t);
+    Answer::Registered(verdict, decided)
+}
+
+// A fresh vote on the known transaction in a slot: it is noted, and what it decides is done.
+fn fresh_vote(s: &mut Words, place: usize, sender: u8, verdict: u8) -> Answer
+    requires { ⌜ FreshVote place sender verdict (now s) ⌝ }
+    ensures { λ r. ⌜ FreshDone place sender verdict (now (s .entry)) r (now (s .exit)) ⌝ }
 {
     let at = sender as usize;
-    let t = k.transaction;
-    let mut heard = k.heard;
-    heard[at] = verdict + 1;
-    Known {
-        transaction: t,
-        heard: heard,
-    }
+    put_heard(s, place, at, verdict + 1);
+    let decided = decide_at(s, place);
+    Answer::Heard(decided)
 }
 
-// The known transaction at a place changed, and the tokens after its decision.
-fn with_changed(s: Shard, tokens: [Token; 128], held: usize, place: usize, k: Known) -> Shard
-    requires { ⌜ (place < s .known) × (s .known ≤ 32) ⌝ }
-    ensures { λ r. ⌜ Changed s (take held tokens) k held place r ⌝ }
+// A vote that passes, on the transaction whose number stands at a place.
+pub fn carry_vote(s: &mut Words, place: usize, sender: u8, verdict: u8, t: Transaction) -> Answer
+    requires { ⌜ Sound (now s) × ((place ≡ find (isNumbered (t .number)) (view (now s) .known))
+        × (firstOf (deliverRefusals house (number (now s)) (view (now s)) (number (now s)) sender verdict t) ≡ 0)) ⌝ }
+    ensures { λ r. ⌜ Steps (now (s .entry)) (deliver (number (now (s .entry))) sender verdict t) r (now (s .exit)) ⌝ }
 {
-    let given = s.given;
-    let mut transactions = s.transactions;
-    transactions[place] = k;
-    Shard {
-        number: s.number,
-        held: held,
-        known: s.known,
-        tokens: tokens,
-        transactions: transactions,
-        given: given,
-    }
-}
-
-// A fresh vote on the known transaction at a place.
-fn fresh_vote(s: Shard, place: usize, sender: u8, verdict: u8) -> Stepped
-    requires { ⌜ FreshVote s place sender verdict ⌝ }
-    ensures { λ r. ⌜ FreshDone s place sender verdict r ⌝ }
-{
-    let me = s.number;
-    let held = s.held;
-    let tokens = s.tokens;
-    let list = s.transactions;
-    let k = hearing_vote(list[place], sender, verdict);
-    let t = k.transaction;
-    let heard = k.heard;
-    let decided = outcome(t, heard);
-    let after = settle_here(tokens, held, me, t, decided);
-    let left = after.list;
-    let next = with_changed(s, left, after.count, place, k);
-    Stepped {
-        answer: Answer::Heard(decided),
-        shard: next,
-    }
-}
-
-pub fn carry_vote(s: Shard, sender: u8, verdict: u8, t: Transaction) -> Stepped
-    requires { ⌜ Sound s × (firstOf (deliverRefusals house (s .number) (view s) (s .number) sender verdict t) ≡ 0) ⌝ }
-    ensures { λ r. ⌜ Steps s (deliver (s .number) sender verdict t) r ⌝ }
-{
-    let known = s.known;
-    let list = s.transactions;
-    let place = place_of(list, known, t);
-    let k = list[place];
-    let heard = k.heard;
-    if heard_from(heard, sender) == 0 {
+    if heard_at(s, place, sender) == 0 {
         return fresh_vote(s, place, sender, verdict);
     }
-    let stored = k.transaction;
-    let decided = outcome(stored, heard);
-    Stepped {
-        answer: Answer::Again(decided),
-        shard: s,
-    }
+    let decided = outcome_at(s, place);
+    Answer::Again(decided)
 }

@@ -1,86 +1,94 @@
-//! The benchmark's loops over shards and clusters with the reference.
+//! The benchmark's loops over shards and clusters: the engine's calls with
+//! their words at hand, the reference's with their fields.
 
-use engine::{CallWords, answer_word, from_words};
-use reference::{Answer, Cluster, LIMITS, Record, Shard};
+use std::time::{Duration, Instant};
 
-/// The loop of `engine::shard_run` with the reference.
-#[inline(never)]
-pub fn shard_run(number: u8, calls: &[CallWords], rounds: usize) -> u64 {
-    let fresh = || Shard::new(number, LIMITS);
-    sum(calls, rounds, fresh, |shard, words| {
-        shard.play(&record(words))
-    })
+use engine::{Call, Ledger, answer_code};
+use reference::{Cluster, LIMITS, Record, Shard};
+
+/// A week for a lone shard, if it has a number, or for a cluster. What each
+/// side is handed is prepared beforehand.
+pub struct Week {
+    /// The lone shard's number.
+    pub shard: Option<u8>,
+    /// The reference's calls.
+    pub records: Vec<Record>,
+    /// The engine's.
+    pub calls: Vec<Call>,
 }
 
-/// The same with the fields at hand, so that no words have to be taken apart.
-#[inline(never)]
-pub fn shard_run_fields(number: u8, records: &[Record], rounds: usize) -> u64 {
-    sum(records, rounds, || Shard::new(number, LIMITS), Shard::play)
+impl Week {
+    /// The week of these calls.
+    pub fn new(shard: Option<u8>, records: Vec<Record>) -> Self {
+        let calls = records.iter().map(Call::from).collect();
+        Week {
+            shard,
+            records,
+            calls,
+        }
+    }
 }
 
-/// The loop of `engine::cluster_run` with the reference.
-#[inline(never)]
-pub fn cluster_run(calls: &[CallWords], rounds: usize) -> u64 {
-    let fresh = || Cluster::new(LIMITS);
-    sum(calls, rounds, fresh, |cluster, words| {
-        cluster.play(&record(words))
-    })
+/// All answers' codes in their order, folded into one number, and the time for
+/// the calls. Making the ledgers is not counted.
+pub type Run = (u64, Duration);
+
+/// Plays the week so many times with the engine, each time from empty.
+pub fn engine_run(week: &Week, rounds: usize) -> Run {
+    match week.shard {
+        Some(number) => held_run(&mut engine::Shard::new(number), &week.calls, rounds),
+        None => held_run(&mut engine::Cluster::new(), &week.calls, rounds),
+    }
 }
 
-/// The same with the fields at hand.
-#[inline(never)]
-pub fn cluster_run_fields(records: &[Record], rounds: usize) -> u64 {
-    sum(records, rounds, || Cluster::new(LIMITS), Cluster::play)
+/// The same with the reference.
+pub fn reference_run(week: &Week, rounds: usize) -> Run {
+    let records = &week.records;
+    match week.shard {
+        Some(number) => {
+            let fresh = |shard: &mut Shard| *shard = Shard::new(number, LIMITS);
+            let play = |shard: &mut Shard, record: &Record| answer_code(shard.play(record));
+            run(
+                &mut Shard::new(number, LIMITS),
+                records,
+                rounds,
+                fresh,
+                play,
+            )
+        }
+        None => {
+            let fresh = |cluster: &mut Cluster| *cluster = Cluster::new(LIMITS);
+            let play = |cluster: &mut Cluster, record: &Record| answer_code(cluster.play(record));
+            run(&mut Cluster::new(LIMITS), records, rounds, fresh, play)
+        }
+    }
+}
+
+fn held_run<E: Ledger>(ledger: &mut E, calls: &[Call], rounds: usize) -> Run {
+    run(ledger, calls, rounds, E::renew, E::call)
 }
 
 #[inline(always)]
-fn sum<Call, Ledger>(
-    calls: &[Call],
+fn run<L, C>(
+    ledger: &mut L,
+    calls: &[C],
     rounds: usize,
-    fresh: impl Fn() -> Ledger,
-    play: impl Fn(&mut Ledger, &Call) -> Answer,
-) -> u64 {
-    let mut sum = 0_u64;
+    fresh: impl Fn(&mut L),
+    play: impl Fn(&mut L, &C) -> u32,
+) -> Run {
+    let (mut fold, mut time) = (0, Duration::ZERO);
     for _ in 0..rounds {
-        let mut ledger = fresh();
+        fresh(ledger);
+        let start = Instant::now();
         for call in calls {
-            sum = sum.wrapping_add(answer_word(play(&mut ledger, call)));
+            fold = folded(fold, play(ledger, call));
         }
+        time += start.elapsed();
     }
-    sum
+    (fold, time)
 }
 
-/// The fields of a call, reduced to their widths.
-fn record(words: &CallWords) -> Record {
-    let &[
-        kind,
-        receiver,
-        sender,
-        verdict,
-        index,
-        owner,
-        amount,
-        _,
-        ref transaction @ ..,
-    ] = words;
-    let receiver = receiver as u8;
-    match kind {
-        1 => Record::Register {
-            receiver,
-            transaction: from_words(transaction),
-        },
-        2 => Record::Vote {
-            receiver,
-            sender: sender as u8,
-            verdict: verdict as u8,
-            transaction: from_words(transaction),
-        },
-        3 => Record::Mint {
-            receiver,
-            index: index as u8,
-            owner: owner as u32,
-            amount: amount as u32,
-        },
-        _ => panic!("there is no kind {kind}"),
-    }
+/// Another order of the answers gives another number.
+pub(crate) fn folded(fold: u64, code: u32) -> u64 {
+    fold.wrapping_mul(31).wrapping_add(code.into())
 }

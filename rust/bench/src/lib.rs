@@ -1,8 +1,10 @@
 //! The benchmarks' loops with the reference, for comparison with the engine's
-//! own: here its reader, in [`ledgers`] its shard and cluster.
+//! own: here its reader; in [`ledgers`] and [`kinds`] the calls on shards and
+//! clusters, for both.
 
 #![forbid(unsafe_code)]
 
+pub mod kinds;
 pub mod ledgers;
 
 use reference::{Reading, Record};

@@ -3,7 +3,7 @@
 use std::io::{Write, stderr};
 use std::{ptr, thread};
 
-use engine::{READING_WORDS, ReadingWords};
+use engine::places::{READING_WORDS, ReadingWords};
 use reference::{GENESIS, REGISTER_LENGTH, Reading, Record, Refusal, Transaction, VOTE_LENGTH};
 
 use crate::Rng;
@@ -77,9 +77,13 @@ pub fn check_read(case: &Case) -> u8 {
     let expected_number = number(expected.outcome.err());
 
     // Filled beforehand, so that a word left as it was shows.
-    let mut words = [!case.number; READING_WORDS];
+    let mut words = [!case.number as u32; READING_WORDS];
     let number = engine::read_words(bytes, &mut words);
-    assert_eq!(number, expected_number, "refusal; expected {expected:?}");
+    assert_eq!(
+        number,
+        u32::from(expected_number),
+        "refusal; expected {expected:?}"
+    );
     assert_eq!(
         words,
         expected_words(&expected),
@@ -105,7 +109,7 @@ pub fn check_read(case: &Case) -> u8 {
         );
         assert_eq!(again[..expected.taken], *record_bytes, "written again");
     }
-    number
+    expected_number
 }
 
 /// Compares writing into a buffer of `room` bytes with random contents: the
@@ -235,7 +239,7 @@ fn number(refusal: Option<Refusal>) -> u8 {
 }
 
 /// The words that the boundary's description asks for: fields that a kind does
-/// not have are 0, and so are all but the length taken beside a refusal.
+/// not have are 0, and so are all beside a refusal.
 fn expected_words(reading: &Reading) -> ReadingWords {
     let blank = Transaction::default();
     let (head, transaction): ([u32; 7], Transaction) = match reading.outcome {
@@ -264,8 +268,7 @@ fn expected_words(reading: &Reading) -> ReadingWords {
         ),
     };
     let mut words = [0; READING_WORDS];
-    words[..7].copy_from_slice(&head.map(u64::from));
-    words[7] = reading.taken as u64;
-    words[8..].copy_from_slice(&engine::to_words(&transaction));
+    words[..7].copy_from_slice(&head);
+    words[7..].copy_from_slice(&engine::to_words(&transaction));
     words
 }

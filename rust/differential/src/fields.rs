@@ -1,5 +1,6 @@
 //! Access to a transaction's fields by their place, and records of any fields.
 
+use engine::places::{TRANSACTION_WORDS, is_byte};
 use reference::{Input, Output, Record, Transaction};
 
 /// A field of a transaction, by its place among the words of the boundary.
@@ -7,7 +8,7 @@ use reference::{Input, Output, Record, Transaction};
 pub struct Field(usize);
 
 /// Fields of a transaction.
-pub const FIELDS: usize = engine::TRANSACTION_WORDS;
+pub const FIELDS: usize = TRANSACTION_WORDS;
 
 /// Ends of the ranges, one beyond, and what a mistaken width would make of them.
 const BYTE_EDGES: [u32; 17] = [
@@ -56,13 +57,7 @@ impl Field {
 
     /// Width in bits: counts, shards and indices have 8, all others 32.
     pub fn bits(self) -> u32 {
-        match self.0 {
-            0 => 32,
-            1 | 2 => 8,
-            place @ 3..23 if matches!((place - 3) % 5, 0 | 2) => 8,
-            place @ 23.. if (place - 23) % 3 == 0 => 8,
-            _ => 32,
-        }
+        if is_byte(self.0) { 8 } else { 32 }
     }
 
     /// Values worth trying.
@@ -76,13 +71,13 @@ impl Field {
 
     /// The field's value.
     pub fn get(self, transaction: &Transaction) -> u32 {
-        engine::to_words(transaction)[self.0] as u32
+        engine::to_words(transaction)[self.0]
     }
 
     /// The transaction with another value in this field.
     pub fn set(self, transaction: &Transaction, value: u32) -> Transaction {
         let mut words = engine::to_words(transaction);
-        words[self.0] = value.into();
+        words[self.0] = value;
         engine::from_words(&words)
     }
 }

@@ -1,194 +1,237 @@
-//! Weeks of calls, played by engine and reference from empty and compared
-//! after every call: the answer and the whole state.
+//! Engine and reference side by side, compared after every call: the answer
+//! and the whole state.
 
-use std::thread;
+use std::fmt::Debug;
+use std::{slice, thread};
 
-use engine::{
-    CLUSTER_WORDS, CallWords, SHARD_WORDS, answer_word, call_words, push_state, state_part,
-};
-use reference::{Answer, Cluster, LIMITS, Record, SHARDS, Shard};
+use engine::places::{ShardWords, name};
+use engine::{Call, Ledger, State, answer_code, code_answer};
+use reference::{Answer, Cluster, Done, LIMITS, Record, Refusal, Shard};
 use weeks::{Before, receiver};
 
 use crate::SEED;
 
 /// The call being compared. Printed if the comparison panics, wherever that
 /// is, so that no assertion has to carry it.
-struct Call<'a> {
+struct Case<'a> {
     week: u64,
-    call: usize,
-    words: &'a CallWords,
+    call: u64,
+    handed: &'a dyn Debug,
 }
 
-impl Drop for Call<'_> {
+impl Drop for Case<'_> {
     fn drop(&mut self) {
         if thread::panicking() {
-            let Call { week, call, words } = self;
-            eprintln!("seed {SEED:#x}, week {week}, call {call}, words {words:?}");
+            let Case { week, call, handed } = self;
+            eprintln!("seed {SEED:#x}, week {week}, call {call}: {handed:?}");
         }
     }
 }
 
-/// What happened in one call, for counts and further checks.
-pub struct Played<'a, L> {
-    /// The call.
-    pub record: &'a Record,
-    /// The answer of both.
+/// What the comparison needs of the reference's shard and cluster.
+pub trait Expected {
+    /// Makes the call that the record's fields stand for.
+    fn play(&mut self, record: &Record) -> Answer;
+    /// The sum of the amounts held.
+    fn total(&self) -> u64;
+    /// The lone shard, or all eight.
+    fn shards(&self) -> &[Shard];
+}
+
+impl Expected for Shard {
+    fn play(&mut self, record: &Record) -> Answer {
+        Shard::play(self, record)
+    }
+
+    fn total(&self) -> u64 {
+        Shard::total(self)
+    }
+
+    fn shards(&self) -> &[Shard] {
+        slice::from_ref(self)
+    }
+}
+
+impl Expected for Cluster {
+    fn play(&mut self, record: &Record) -> Answer {
+        Cluster::play(self, record)
+    }
+
+    fn total(&self) -> u64 {
+        Cluster::total(self)
+    }
+
+    fn shards(&self) -> &[Shard] {
+        Cluster::shards(self)
+    }
+}
+
+/// What a call brought, the same for both.
+pub struct Played {
+    /// The answer.
     pub answer: Answer,
     /// What counts need of the receiving shard before the call, if there is
     /// such a shard.
     pub before: Option<Before>,
-    /// The reference after the call.
-    pub ledger: &'a L,
-    /// The engine's state after the call, equal to the reference's.
-    pub state: &'a [u64],
 }
 
-/// Plays and compares weeks. The buffers serve all of them.
-#[derive(Default)]
-pub struct Player {
-    calls: Vec<CallWords>,
-    answers: Vec<u64>,
-    states: Vec<u64>,
-    expected: [Vec<u64>; SHARDS],
+/// A week played on both from empty. The engine's memory serves for many
+/// weeks, so that each finds what the one before has left.
+pub struct Player<'a, E, R> {
+    engine: &'a mut E,
+    reference: R,
+    /// The engine's words after the call before.
+    kept: Vec<ShardWords>,
+    /// The states that those words tell of.
+    states: Vec<State>,
+    week: u64,
+    call: u64,
 }
 
-impl Player {
-    /// Buffers for weeks of any length.
-    pub fn new() -> Self {
-        Player::default()
+/// A week of a lone shard.
+pub type ShardPlayer<'a> = Player<'a, engine::Shard, Shard>;
+/// A week of a cluster.
+pub type ClusterPlayer<'a> = Player<'a, engine::Cluster, Cluster>;
+
+impl<'a> ShardPlayer<'a> {
+    /// Starts the week with this number.
+    pub fn shard(week: u64, engine: &'a mut engine::Shard) -> Self {
+        let expected = Shard::new(engine.number(), LIMITS);
+        Player::new(week, engine, expected)
+    }
+}
+
+impl<'a> ClusterPlayer<'a> {
+    /// Starts the week with this number.
+    pub fn cluster(week: u64, engine: &'a mut engine::Cluster) -> Self {
+        Player::new(week, engine, Cluster::new(LIMITS))
     }
 
-    /// Compares the week with this number on a lone shard; `each` sees every
-    /// call.
-    pub fn shard(
-        &mut self,
-        week: u64,
-        number: u8,
-        records: &[Record],
-        mut each: impl FnMut(&Played<Shard>),
-    ) {
-        self.prepare(records, SHARD_WORDS);
-        let played = engine::shard_play(number, &self.calls, &mut self.answers, &mut self.states);
-        check_played(week, played, records.len());
+    /// Compares what comes of the record at the front of the bytes. Gives its
+    /// fields too, if it could be read, and the bytes behind it.
+    pub fn apply<'b>(&mut self, bytes: &'b [u8]) -> (Played, Option<Record>, &'b [u8]) {
+        let expected = reference::read(bytes);
+        let front = &bytes[..expected.taken];
+        let _case = self.case(&front);
+        let code = self.engine.apply(bytes);
+        let played = self.compare(code, expected.outcome.as_ref().map_err(|&refusal| refusal));
+        let rest = engine::rest(bytes);
+        assert_eq!(rest.len(), bytes.len() - front.len(), "bytes behind");
+        (played, expected.outcome.ok(), rest)
+    }
+}
 
-        let mut shard = Shard::new(number, LIMITS);
-        let mut states = &self.states[..];
-        let expected = &mut self.expected[0];
-        for (call, record) in records.iter().enumerate() {
-            let words = &self.calls[call];
-            let _call = Call { week, call, words };
-            let before = Some(Before::of(&shard));
-            let answer = shard.play(record);
-            check_answer(self.answers[call], answer);
-            expected.clear();
-            push_state(expected, &shard);
-            let rest = check_state(states, number, expected);
-            let state = &states[..states.len() - rest.len()];
-            states = rest;
-            each(&Played {
-                record,
-                answer,
-                before,
-                ledger: &shard,
-                state,
-            });
+impl<'a, E: Ledger, R: Expected> Player<'a, E, R> {
+    fn new(week: u64, engine: &'a mut E, reference: R) -> Self {
+        engine.renew();
+        let player = Player {
+            kept: engine.shards().to_vec(),
+            states: engine.shards().iter().map(State::of).collect(),
+            engine,
+            reference,
+            week,
+            call: 0,
+        };
+        player.compare_states();
+        player
+    }
+
+    /// Compares what comes of the record's fields.
+    pub fn call(&mut self, record: &Record) -> Played {
+        let call = Call::from(record);
+        let _case = self.case(&call);
+        let code = self.engine.call(&call);
+        self.compare(code, Ok(record))
+    }
+
+    /// The engine.
+    pub fn engine(&self) -> &E {
+        self.engine
+    }
+
+    /// The reference.
+    pub fn reference(&self) -> &R {
+        &self.reference
+    }
+
+    /// The states that the engine's words tell of, equal to the reference's.
+    pub fn states(&self) -> &[State] {
+        &self.states
+    }
+
+    /// Compares the states of all shards. After a call that of the receiver is
+    /// compared, and the engine's other words are those before it; here it
+    /// shows that the reference has not changed another either.
+    pub fn compare_states(&self) {
+        for place in 0..self.states.len() {
+            self.compare_state(place);
         }
     }
 
-    /// Compares the week with this number on a cluster; `each` sees every call.
-    pub fn cluster(
-        &mut self,
-        week: u64,
-        records: &[Record],
-        mut each: impl FnMut(&Played<Cluster>),
-    ) {
-        self.prepare(records, CLUSTER_WORDS);
-        let played = engine::cluster_play(&self.calls, &mut self.answers, &mut self.states);
-        check_played(week, played, records.len());
+    fn case<'c>(&mut self, handed: &'c dyn Debug) -> Case<'c> {
+        let (week, call) = (self.week, self.call);
+        self.call += 1;
+        Case { week, call, handed }
+    }
 
-        let mut cluster = Cluster::new(LIMITS);
-        for (expected, shard) in self.expected.iter_mut().zip(cluster.shards()) {
-            expected.clear();
-            push_state(expected, shard);
-        }
-        let mut states = &self.states[..];
-        for (call, record) in records.iter().enumerate() {
-            let words = &self.calls[call];
-            let _call = Call { week, call, words };
-            let receiver = usize::from(receiver(record));
-            let before = cluster.shards().get(receiver).map(Before::of);
-            let answer = cluster.play(record);
-            check_answer(self.answers[call], answer);
-            // The reference changes no other shard; the week's end sees to it.
-            if let Some(shard) = cluster.shards().get(receiver) {
-                self.expected[receiver].clear();
-                push_state(&mut self.expected[receiver], shard);
+    /// Compares the engine after a call with the reference's answer and state:
+    /// what a record's fields bring, or the reader's refusal.
+    fn compare(&mut self, code: u32, record: Result<&Record, Refusal>) -> Played {
+        let number = record.ok().map(receiver);
+        let mut shards = self.reference.shards().iter();
+        let place = shards.position(|shard| Some(shard.number()) == number);
+        let before = place.map(|place| Before::of(&self.reference.shards()[place]));
+        let answer = record.and_then(|record| self.reference.play(record));
+        compare_code(code, answer);
+
+        // A refused call and a repeat change nothing, any other its receiver.
+        let unchanged = matches!(answer, Err(_) | Ok(Done::Again(_)));
+        let changed = place.filter(|_| !unchanged);
+        let now = self.engine.shards();
+        for (place, (now, kept)) in now.iter().zip(&self.kept).enumerate() {
+            if Some(place) != changed {
+                compare_words(place, now, kept);
             }
-            let mut rest = states;
-            for (number, expected) in (0..).zip(&self.expected) {
-                rest = check_state(rest, number, expected);
-            }
-            let state = &states[..states.len() - rest.len()];
-            states = rest;
-            each(&Played {
-                record,
-                answer,
-                before,
-                ledger: &cluster,
-                state,
-            });
         }
-        for (shard, kept) in cluster.shards().iter().zip(&self.expected) {
-            let mut whole = Vec::with_capacity(kept.len());
-            push_state(&mut whole, shard);
-            assert_eq!(whole, *kept, "the reference changed a second shard");
+        if let Some(place) = changed {
+            self.kept[place] = now[place];
+            self.states[place].read(&now[place]);
         }
+        if let Some(place) = place {
+            self.compare_state(place);
+        }
+        let (total, expected) = (self.engine.total(), self.reference.total());
+        assert_eq!(total, expected, "total");
+        Played { answer, before }
     }
 
-    /// The calls' words, and room for all answers and states.
-    fn prepare(&mut self, records: &[Record], state: usize) {
-        self.calls.clear();
-        self.calls.extend(records.iter().map(call_words));
-        // No answer has this word, so that one left as it was shows.
-        self.answers.clear();
-        self.answers.resize(records.len(), u64::MAX);
-        // Most of it is never touched and costs nothing.
-        let room = records.len() * state;
-        if self.states.len() < room {
-            self.states = vec![0; room];
+    fn compare_state(&self, place: usize) {
+        let shard = &self.reference.shards()[place];
+        if let Some(difference) = self.states[place].difference(shard) {
+            panic!("state of shard {}: {difference}", shard.number());
         }
     }
 }
 
-fn check_played(week: u64, played: usize, calls: usize) {
-    assert_eq!(
-        played, calls,
-        "calls played; seed {SEED:#x}, week {week}, room for all"
-    );
-}
-
-fn check_answer(word: u64, expected: Answer) {
-    // The words have to agree; the answers are easier to read.
-    if word != answer_word(expected) {
-        assert_eq!(engine::word_answer(word), expected, "answer");
-        panic!("the engine answered {word} for {expected:?}");
+fn compare_code(code: u32, expected: Answer) {
+    // The codes have to agree; the answers are easier to read.
+    if code != answer_code(expected) {
+        assert_eq!(code_answer(code), expected, "answer");
+        panic!("the engine answered {code} for {expected:?}");
     }
 }
 
-/// Compares the state at the front of the words and gives the words behind it.
-fn check_state<'a>(words: &'a [u64], shard: u8, expected: &[u64]) -> &'a [u64] {
-    let (state, rest) = words.split_at(expected.len());
-    if state != expected {
-        let word = (0..expected.len()).find(|&word| state[word] != expected[word]);
+/// Fails unless the shard at this place has all words as they were, those
+/// behind its tokens and transactions too.
+fn compare_words(place: usize, now: &ShardWords, kept: &ShardWords) {
+    if now != kept {
+        let word = (0..now.len()).find(|&word| now[word] != kept[word]);
         let word = word.expect("some word differs");
-        let held = expected[0] as usize;
         panic!(
-            "state of shard {shard} after the call: word {word} ({}) is {}, expected {} of\n\
-             {expected:?}",
-            state_part(word, held),
-            state[word],
-            expected[word],
+            "the shard at place {place} has changed: word {word} ({}) was {}, is {}",
+            name(word),
+            kept[word],
+            now[word]
         );
     }
-    rest
 }

@@ -6,12 +6,16 @@
 mod compare;
 mod fields;
 mod generate;
+mod labels;
 mod ledger;
+mod share;
 
 pub use compare::{
     Case, Counts, check_cause, check_read, check_same, check_shard, check_transaction, check_write,
 };
 pub use fields::{FIELDS, Field, encode};
 pub use generate::{base, damage, damage_byte, damage_transaction, record, transaction, vote};
-pub use ledger::{Played, Player};
+pub use labels::{ANSWERS, CLUSTER_REFUSALS, EVENTS, SHARD_REFUSALS};
+pub use ledger::{ClusterPlayer, Expected, Played, Player, ShardPlayer};
+pub use share::{count_weeks, share_out};
 pub use weeks::{Rng, SEED};

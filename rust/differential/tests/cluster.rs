@@ -1,75 +1,34 @@
 //! Weeks of a cluster.
 
-use differential::{Player, Rng, SEED};
-use engine::answer_word;
+use differential::{ANSWERS, CLUSTER_REFUSALS, EVENTS, Player, Rng, SEED, count_weeks};
+use engine::{Cluster, Ledger, answer_code};
 use reference::{Input, Output, Record, TokenId, Transaction};
-use weeks::{Tally, cluster_week};
+use weeks::cluster_week;
 
-const CALLS: usize = 2_000_000;
+const WEEKS: u64 = 83_000;
+const CALLS: usize = 20_000_000;
+/// How often each kind of answer and event has to be met.
+const LEAST: u64 = 1_000;
 
-const LABELS: [&str; 38] = [
-    "REFUSED 3",
-    "REFUSED 4",
-    "REFUSED 5",
-    "REFUSED 6",
-    "REFUSED 7",
-    "REFUSED 8",
-    "REFUSED 9",
-    "REFUSED 10",
-    "REFUSED 11",
-    "REFUSED 13",
-    "REFUSED 14",
-    "REFUSED 16",
-    "OPENED",
-    "YES WAIT",
-    "YES COMMIT",
-    "NO WAIT",
-    "NO ABORT",
-    "HEARD WAIT",
-    "HEARD COMMIT",
-    "HEARD ABORT",
-    "AGAIN WAIT",
-    "AGAIN COMMIT",
-    "AGAIN ABORT",
-    "no, with a pledge",
-    "no, without a pledge",
-    "no, token not held",
-    "no, other owner",
-    "no, other amount",
-    "no, token pledged",
-    "yes, with outputs only",
-    "own vote again",
-    "made token destroyed",
-    "127 tokens held",
-    "128 tokens held",
-    "32 transactions known",
-    "freed space used again",
-    "vote overtaking another",
-    "two commits of one number",
-];
+/// What only a cluster shows.
+const CLUSTER_EVENTS: [&str; 2] = ["vote overtaking another", "two commits of one number"];
 
 #[test]
 fn random_weeks_of_a_cluster() {
-    let mut player = Player::new();
-    let mut tally = Tally::default();
-    let (mut week, mut calls) = (0, 0);
-    let mut words = 0;
-    while calls < CALLS {
+    let (tally, calls) = count_weeks(WEEKS, Cluster::new, |cluster, tally, week| {
         let records = cluster_week(&mut Rng::new(SEED, week));
-        player.cluster(week, &records, |played| {
-            let (record, answer) = (played.record, played.answer);
-            tally.cluster_call(record, answer, played.before, played.ledger);
-            words += played.state.len();
-        });
-        calls += records.len();
-        week += 1;
-    }
-    let title = format!(
-        "a cluster, {calls} calls in {week} weeks, states of {} words",
-        words / calls
-    );
-    tally.report(&title, &LABELS, 100);
-    // The cluster's own 16 goes before 12.
+        let mut player = Player::cluster(week, cluster);
+        for record in &records {
+            let played = player.call(record);
+            tally.cluster_call(record, played.answer, played.before, player.reference());
+        }
+        player.compare_states();
+        records.len()
+    });
+    assert!(calls >= CALLS, "{calls} calls only");
+    let title = format!("a cluster, {calls} calls in {WEEKS} weeks");
+    let labels = [&CLUSTER_REFUSALS[..], &ANSWERS, &EVENTS, &CLUSTER_EVENTS].concat();
+    tally.report(&title, &labels, LEAST);
     for never in ["YES ABORT", "NO COMMIT", "REFUSED 12"] {
         assert_eq!(tally.count(never), 0, "{never}");
     }
@@ -126,25 +85,18 @@ fn worked_example() {
         vote(0, 1),
         vote(0, 1),
     ];
-    let (mut answers, mut totals, mut ends) = (Vec::new(), Vec::new(), Vec::new());
-    let mut states: [engine::State; 8] = Default::default();
-    Player::new().cluster(0, &records, |played| {
-        answers.push(answer_word(played.answer));
-        let mut words = played.state;
-        for state in &mut states {
-            words = state.read(words);
-        }
-        let tokens = || states.iter().flat_map(|state| &state.tokens);
-        totals.push(tokens().map(|token| token.amount).sum::<u32>());
-        ends = (0_u8..)
-            .zip(&states)
-            .flat_map(|(shard, state)| {
-                let tokens = state.tokens.iter();
-                tokens.map(move |token| (shard, token.creator, token.index))
-            })
-            .collect();
-    });
+    let mut cluster = Cluster::new();
+    let mut player = Player::cluster(0, &mut cluster);
+    let (mut answers, mut totals) = (Vec::new(), Vec::new());
+    for record in &records {
+        answers.push(answer_code(player.call(record).answer));
+        totals.push(player.engine().total());
+    }
     assert_eq!(answers, [100, 100, 210, 210, 301, 301, 401]);
     assert_eq!(totals, [3, 5, 5, 5, 4, 5, 5]);
-    assert_eq!(ends, [(0, 5, 1), (1, 5, 0)]);
+    let ends = player.states().iter().flat_map(|state| {
+        let tokens = state.tokens.iter();
+        tokens.map(|token| (state.number, token.creator, token.index))
+    });
+    assert!(ends.eq([(0, 5, 1), (1, 5, 0)]), "{:?}", player.states());
 }

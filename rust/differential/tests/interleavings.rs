@@ -2,12 +2,11 @@
 //! states against demand 3's clauses.
 
 use std::collections::BTreeMap;
-use std::sync::atomic::{AtomicUsize, Ordering};
-use std::thread;
+use std::{array, thread};
 
-use differential::Player;
-use engine::State;
-use reference::{Done, SHARDS};
+use differential::{Player, share_out};
+use engine::Cluster;
+use reference::Done;
 use weeks::{Clauses, Scenario, Tally, View, label, scenarios};
 
 /// Printed beside a failing call: there, an order counts as a week.
@@ -30,35 +29,32 @@ struct Played {
 
 /// Plays every order of the scenario on the engine and on the reference, and
 /// holds the engine's states to the clauses after every call.
-fn play(scenario: &Scenario, player: &mut Player) -> Played {
+fn play(scenario: &Scenario, cluster: &mut Cluster) -> Played {
     let _name = Name(scenario.name);
-    let mut states: [State; SHARDS] = Default::default();
     let mut tally = Tally::default();
     let mut ends: BTreeMap<Vec<u32>, u64> = BTreeMap::new();
     let mut whole_orders = 0;
     let orders = scenario.orders(|order, records| {
         let mut clauses = Clauses::new();
-        let (mut call, mut whole) = (0, false);
-        player.cluster(order, records, |played| {
-            tally.add(label(played.answer));
-            let mut words = played.state;
-            for state in &mut states {
-                words = state.read(words);
-            }
-            let views = states.each_ref().map(|state| View {
-                tokens: &state.tokens,
-                known: &state.known,
+        let mut player = Player::cluster(order, cluster);
+        let mut whole = false;
+        for (record, call) in records.iter().zip(1..) {
+            let answer = player.call(record).answer;
+            tally.add(label(answer));
+            let views = array::from_fn(|shard| View {
+                tokens: &player.states()[shard].tokens,
+                known: &player.states()[shard].known,
             });
-            clauses.step(played.record, played.answer.is_err(), &views);
+            clauses.step(record, answer.is_err(), &views);
             // A repeat adds nothing, and neither does a refused call.
-            if !matches!(played.answer, Err(_) | Ok(Done::Again(_))) {
+            if !matches!(answer, Err(_) | Ok(Done::Again(_))) {
                 whole = clauses.serial();
             }
-            call += 1;
             if call == scenario.calls() {
                 whole_orders += u64::from(whole);
             }
-        });
+        }
+        player.compare_states();
         assert!(whole, "order {order} leaves a transaction undecided");
         *ends.entry(clauses.committed_numbers()).or_default() += 1;
     });
@@ -77,27 +73,17 @@ fn play(scenario: &Scenario, player: &mut Player) -> Played {
     }
 }
 
-/// The scenarios are shared out among the processors, each to whichever is free.
+/// The scenarios are shared out among the processors.
 #[test]
 fn every_order_of_every_scenario() {
     let scenarios = scenarios();
-    let next = AtomicUsize::new(0);
-    let worker = || {
-        let mut player = Player::new();
-        let mut played = Vec::new();
-        while let Some(scenario) = scenarios.get(next.fetch_add(1, Ordering::Relaxed)) {
-            played.push(play(scenario, &mut player));
-        }
-        played
-    };
-    let workers = thread::available_parallelism().map_or(1, usize::from);
-    let played: Vec<Played> = thread::scope(|scope| {
-        let running: Vec<_> = (0..workers).map(|_| scope.spawn(worker)).collect();
-        let ended = running.into_iter().map(|worker| worker.join());
-        ended
-            .flat_map(|played| played.expect("a scenario failed"))
-            .collect()
+    let played = share_out(scenarios.len() as u64, |jobs| {
+        let mut cluster = Cluster::new();
+        let scenarios = jobs.map(|job| &scenarios[job as usize]);
+        let played = scenarios.map(|scenario| play(scenario, &mut cluster));
+        played.collect::<Vec<_>>()
     });
+    let played: Vec<Played> = played.into_iter().flatten().collect();
     assert_eq!(played.len(), scenarios.len());
     let (mut orders, mut all) = (0, Tally::default());
     for scenario in &played {
@@ -121,4 +107,5 @@ fn every_order_of_every_scenario() {
         "AGAIN ABORT",
     ];
     all.report(&format!("all scenarios, {orders} orders"), &labels, 1000);
+    assert_eq!(orders, 497_649, "orders");
 }

@@ -1,77 +1,56 @@
 //! Weeks of a lone shard.
 
-use differential::{Player, Rng, SEED};
-use reference::Record;
-use weeks::{ShardStyle, Tally, shard_week, shard_week_of};
+use std::array;
 
-const CALLS: usize = 1_000_000;
+use differential::{ANSWERS, EVENTS, Player, Rng, SEED, SHARD_REFUSALS, count_weeks};
+use reference::{Record, SHARDS};
+use weeks::{ShardStyle, Tally, label, shard_week, shard_week_of};
+
+const WEEKS: u64 = 42_000;
+const CALLS: usize = 10_000_000;
+const FULL_WEEKS: u64 = 4_000;
 /// Weeks in which the shard runs full are numbered from here.
 const FULL: u64 = 1_000_000;
+/// How often each kind of answer and event has to be met.
+const LEAST: u64 = 10_000;
 
-const REFUSALS: [&str; 12] = [
-    "REFUSED 3",
-    "REFUSED 4",
-    "REFUSED 5",
-    "REFUSED 6",
-    "REFUSED 7",
-    "REFUSED 8",
-    "REFUSED 9",
-    "REFUSED 10",
-    "REFUSED 11",
-    "REFUSED 12",
-    "REFUSED 13",
-    "REFUSED 14",
-];
-const ANSWERS: [&str; 11] = [
-    "OPENED",
-    "YES WAIT",
-    "YES COMMIT",
-    "NO WAIT",
-    "NO ABORT",
-    "HEARD WAIT",
-    "HEARD COMMIT",
-    "HEARD ABORT",
-    "AGAIN WAIT",
-    "AGAIN COMMIT",
-    "AGAIN ABORT",
-];
-const EVENTS: [&str; 13] = [
-    "no, with a pledge",
-    "no, without a pledge",
-    "no, token not held",
-    "no, other owner",
-    "no, other amount",
-    "no, token pledged",
-    "yes, with outputs only",
-    "own vote again",
-    "made token destroyed",
-    "127 tokens held",
-    "128 tokens held",
-    "32 transactions known",
-    "freed space used again",
-];
+/// The engine's memory: a lone shard of every number.
+type Shards = [engine::Shard; SHARDS];
 
-fn play(player: &mut Player, tally: &mut Tally, week: u64, number: u8, records: &[Record]) {
-    player.shard(week, number, records, |played| {
-        let before = played.before.expect("a lone shard is always there");
-        tally.shard_call(played.record, played.answer, before, played.ledger);
-    });
+fn shards() -> Shards {
+    array::from_fn(|number| engine::Shard::new(number as u8))
+}
+
+/// Plays the week and gives the number of calls.
+fn play(
+    shards: &mut Shards,
+    tally: &mut Tally,
+    week: u64,
+    number: u8,
+    records: &[Record],
+) -> usize {
+    let mut player = Player::shard(week, &mut shards[usize::from(number)]);
+    for record in records {
+        let played = player.call(record);
+        match played.before {
+            Some(before) => tally.shard_call(record, played.answer, before, player.reference()),
+            // It is for another shard.
+            None => tally.add(label(played.answer)),
+        }
+    }
+    records.len()
 }
 
 #[test]
 fn random_weeks_of_a_shard() {
-    let mut player = Player::new();
-    let mut tally = Tally::default();
-    let (mut week, mut calls) = (0, 0);
-    while calls < CALLS {
+    let (tally, calls) = count_weeks(WEEKS, shards, |shards, tally, week| {
         let (number, records) = shard_week(&mut Rng::new(SEED, week));
-        play(&mut player, &mut tally, week, number, &records);
-        calls += records.len();
-        week += 1;
-    }
-    let title = format!("a shard, {calls} calls in {week} weeks");
-    let labels = [&REFUSALS[..], &ANSWERS, &EVENTS].concat();
-    tally.report(&title, &labels, 1000);
+        play(shards, tally, week, number, &records)
+    });
+    assert!(calls >= CALLS, "{calls} calls only");
+    let title = format!("a shard, {calls} calls in {WEEKS} weeks");
+    let labels = [&SHARD_REFUSALS[..], &ANSWERS, &EVENTS].concat();
+    tally.report(&title, &labels, LEAST);
     for never in ["YES ABORT", "NO COMMIT", "REFUSED 16"] {
         assert_eq!(tally.count(never), 0, "{never}");
     }
@@ -80,9 +59,8 @@ fn random_weeks_of_a_shard() {
 /// Weeks without damage that soon reach both limits.
 #[test]
 fn weeks_of_a_full_shard() {
-    let mut player = Player::new();
-    let mut tally = Tally::default();
-    for week in FULL..FULL + 400 {
+    let (tally, calls) = count_weeks(FULL_WEEKS, shards, |shards, tally, week| {
+        let week = FULL + week;
         let rng = &mut Rng::new(SEED, week);
         let style = ShardStyle {
             calls: 400,
@@ -94,8 +72,8 @@ fn weeks_of_a_full_shard() {
             yes: 14,
         };
         let (number, records) = shard_week_of(rng, style);
-        play(&mut player, &mut tally, week, number, &records);
-    }
+        play(shards, tally, week, number, &records)
+    });
     let labels = [
         "REFUSED 9",
         "REFUSED 10",
@@ -104,18 +82,19 @@ fn weeks_of_a_full_shard() {
         "32 transactions known",
         "freed space used again",
     ];
-    tally.report("a full shard", &labels, 1000);
+    let title = format!("a full shard, {calls} calls in {FULL_WEEKS} weeks");
+    tally.report(&title, &labels, LEAST);
 }
 
 /// Every number a shard can have, and records for every other.
 #[test]
 fn shards_of_every_number() {
-    let mut player = Player::new();
+    let mut shards = shards();
     for number in 0..8 {
         let mut tally = Tally::default();
         // The same week, whichever shard it was made for.
         let (_, records) = shard_week(&mut Rng::new(SEED, 3));
-        play(&mut player, &mut tally, 3, number, &records);
+        play(&mut shards, &mut tally, 3, number, &records);
         let mint = |receiver| Record::Mint {
             receiver,
             index: 5,
@@ -123,7 +102,7 @@ fn shards_of_every_number() {
             amount: 1,
         };
         let mints: Vec<Record> = (0..=255).map(mint).collect();
-        play(&mut player, &mut tally, 3, number, &mints);
+        play(&mut shards, &mut tally, 3, number, &mints);
         assert!(tally.count("OPENED") >= 1, "shard {number}");
     }
 }

@@ -1,258 +1,230 @@
-//! Shard and cluster: whole lists of calls, played from empty.
+//! Shard and cluster: the engine's memory held, and calls on it.
 
-use reference::{Answer, Done, Known, Outcome, Record, Refusal, SHARDS, Shard, Token, Verdict};
+use std::slice;
 
+use reference::{Answer, MAX_SHARD, Record, Transaction};
+
+use crate::calls::{Call, code_answer};
+use crate::places::{CLUSTER_WORDS, ClusterWords, SHARD_WORDS, ShardWords};
 use crate::raw;
-use crate::words::{TRANSACTION_WORDS, from_words, narrow, to_words};
 
-/// Words of a call.
-pub const CALL_WORDS: usize = 8 + TRANSACTION_WORDS;
-/// Kind, receiver, sender, verdict, index, owner, amount and 0, then the
-/// transaction; 0 where the kind has no such field.
-pub type CallWords = [u64; CALL_WORDS];
+/// Stands in all words before the engine makes a ledger of them: it has to
+/// set whatever it will look at.
+pub const UNSET: u32 = 0xA5A5_A5A5;
 
-const HEAD_WORDS: usize = 4;
-const TOKEN_WORDS: usize = 5;
-const KNOWN_WORDS: usize = TRANSACTION_WORDS + SHARDS;
+/// What a lone shard and a cluster have in common.
+pub trait Ledger {
+    /// Makes the ledger empty again, on the same memory.
+    fn renew(&mut self);
 
-/// Most words of a shard's state.
-pub const SHARD_WORDS: usize = HEAD_WORDS + 128 * TOKEN_WORDS + 32 * KNOWN_WORDS;
-/// Most words of a cluster's state.
-pub const CLUSTER_WORDS: usize = SHARDS * SHARD_WORDS;
+    /// Makes the call and gives its answer's code.
+    fn call(&mut self, call: &Call) -> u32;
 
-/// Plays the calls on a fresh shard of this number. After each call its answer
-/// and the shard's state are written behind those before. Stops before a call
-/// for which there might not be room, and gives the number of calls played.
-pub fn shard_play(
-    number: u8,
-    calls: &[CallWords],
-    answers: &mut [u64],
-    states: &mut [u64],
-) -> usize {
-    let calls = calls.as_flattened();
-    // SAFETY: pointers and lengths are those of live slices, two of them ours
-    // alone.
-    unsafe {
-        raw::engine_shard_play(
-            number,
-            calls.as_ptr(),
-            calls.len(),
-            answers.as_mut_ptr(),
-            answers.len(),
-            states.as_mut_ptr(),
-            states.len(),
-        )
+    /// The sum of the amounts held.
+    fn total(&self) -> u64;
+
+    /// The words of its shards: a lone shard's own, or those of all eight.
+    fn shards(&self) -> &[ShardWords];
+
+    /// Makes the call that the record's fields stand for.
+    fn play(&mut self, record: &Record) -> Answer {
+        code_answer(self.call(&record.into()))
     }
-}
 
-/// As [`shard_play`] on a fresh cluster; after each call the states of all
-/// eight shards are written, one behind the other.
-pub fn cluster_play(calls: &[CallWords], answers: &mut [u64], states: &mut [u64]) -> usize {
-    let calls = calls.as_flattened();
-    // SAFETY: pointers and lengths are those of live slices, two of them ours
-    // alone.
-    unsafe {
-        raw::engine_cluster_play(
-            calls.as_ptr(),
-            calls.len(),
-            answers.as_mut_ptr(),
-            answers.len(),
-            states.as_mut_ptr(),
-            states.len(),
-        )
-    }
-}
-
-/// The benchmark's loop: plays the calls so many times, each time on a fresh
-/// shard, and sums up the answers' words.
-pub fn shard_run(number: u8, calls: &[CallWords], rounds: usize) -> u64 {
-    let calls = calls.as_flattened();
-    // SAFETY: pointer and length are those of a live slice.
-    unsafe { raw::engine_shard_run(number, calls.as_ptr(), calls.len(), rounds) }
-}
-
-/// As [`shard_run`], each time on a fresh cluster.
-pub fn cluster_run(calls: &[CallWords], rounds: usize) -> u64 {
-    let calls = calls.as_flattened();
-    // SAFETY: pointer and length are those of a live slice.
-    unsafe { raw::engine_cluster_run(calls.as_ptr(), calls.len(), rounds) }
-}
-
-/// The call that the record's fields stand for.
-pub fn call_words(record: &Record) -> CallWords {
-    let mut words = [0; CALL_WORDS];
-    let (head, transaction) = match *record {
-        Record::Register {
-            receiver,
-            ref transaction,
-        } => ([1, receiver.into(), 0, 0, 0, 0, 0], Some(transaction)),
-        Record::Vote {
-            receiver,
-            sender,
-            verdict,
-            ref transaction,
-        } => {
-            let (receiver, sender) = (receiver.into(), sender.into());
-            let head = [2, receiver, sender, verdict.into(), 0, 0, 0];
-            (head, Some(transaction))
-        }
-        Record::Mint {
+    /// Gives a shard a genesis token (document 01: opening).
+    fn mint(&mut self, receiver: u8, index: u8, owner: u32, amount: u32) -> Answer {
+        self.play(&Record::Mint {
             receiver,
             index,
             owner,
             amount,
-        } => {
-            let (owner, amount) = (owner.into(), amount.into());
-            let head = [3, receiver.into(), 0, 0, index.into(), owner, amount];
-            (head, None)
-        }
-    };
-    words[..head.len()].copy_from_slice(&head);
-    if let Some(transaction) = transaction {
-        words[8..].copy_from_slice(&to_words(transaction));
+        })
     }
-    words
-}
 
-/// The answer's word.
-pub fn answer_word(answer: Answer) -> u64 {
-    let of = |outcome| match outcome {
-        Outcome::Wait => 0,
-        Outcome::Commit => 1,
-        Outcome::Abort => 2,
-    };
-    match answer {
-        Err(refusal) => refusal.number().into(),
-        Ok(Done::Minted) => 100,
-        Ok(Done::Registered { verdict, outcome }) => {
-            200 + 10 * u64::from(verdict == Verdict::Yes) + of(outcome)
-        }
-        Ok(Done::Heard(outcome)) => 300 + of(outcome),
-        Ok(Done::Again(outcome)) => 400 + of(outcome),
+    /// Registers a transaction at one of its shards (document 01:
+    /// registration).
+    fn register(&mut self, receiver: u8, transaction: &Transaction) -> Answer {
+        self.play(&Record::Register {
+            receiver,
+            transaction: *transaction,
+        })
     }
-}
 
-/// The answer with this word. Panics if there is none.
-pub fn word_answer(word: u64) -> Answer {
-    let outcome = match word % 10 {
-        0 => Some(Outcome::Wait),
-        1 => Some(Outcome::Commit),
-        2 => Some(Outcome::Abort),
-        _ => None,
-    };
-    let registered = |verdict, outcome| Done::Registered { verdict, outcome };
-    let done = match (word / 10, outcome) {
-        (10, Some(Outcome::Wait)) => Some(Done::Minted),
-        (20, Some(outcome)) => Some(registered(Verdict::No, outcome)),
-        (21, Some(outcome)) => Some(registered(Verdict::Yes, outcome)),
-        (30, Some(outcome)) => Some(Done::Heard(outcome)),
-        (40, Some(outcome)) => Some(Done::Again(outcome)),
-        _ => None,
-    };
-    if let Some(done) = done {
-        return Ok(done);
-    }
-    let refusal = u8::try_from(word).ok().and_then(Refusal::from_number);
-    Err(refusal.unwrap_or_else(|| panic!("the engine answered {word} to a call")))
-}
-
-/// Adds the state of a shard, as it crosses the boundary: the numbers of
-/// tokens held and transactions known, the genesis indices given in two words,
-/// the tokens, and the transactions with the verdicts heard.
-pub fn push_state(words: &mut Vec<u64>, shard: &Shard) {
-    words.extend([shard.tokens().len() as u64, shard.known().len() as u64]);
-    let low_first = |flags: &[bool]| {
-        let high_first = flags.iter().rev();
-        high_first.fold(0, |word, &flag| word << 1 | u64::from(flag))
-    };
-    let (low, high) = shard.given().split_at(64);
-    words.extend([low_first(low), low_first(high)]);
-    for token in shard.tokens() {
-        let pledge = token.pledge.unwrap_or(0);
-        let index = token.index.into();
-        words.extend([token.creator, index, token.owner, token.amount, pledge].map(u64::from));
-    }
-    for known in shard.known() {
-        words.extend(to_words(&known.transaction));
-        words.extend(known.heard.map(|verdict| match verdict {
-            None => 0,
-            Some(Verdict::No) => 1,
-            Some(Verdict::Yes) => 2,
-        }));
+    /// Hands one shard's vote to another (document 01: vote delivery; at a
+    /// lone shard, vote).
+    fn deliver(
+        &mut self,
+        receiver: u8,
+        sender: u8,
+        verdict: u8,
+        transaction: &Transaction,
+    ) -> Answer {
+        self.play(&Record::Vote {
+            receiver,
+            sender,
+            verdict,
+            transaction: *transaction,
+        })
     }
 }
 
-/// What the word at this place of a state is, for a state with so many tokens
-/// held.
-pub fn state_part(word: usize, held: usize) -> String {
-    const TOKEN: [&str; TOKEN_WORDS] = ["creator", "index", "owner", "amount", "pledge"];
-    let tokens = HEAD_WORDS + held * TOKEN_WORDS;
-    if word < HEAD_WORDS {
-        return ["held", "known", "given, low", "given, high"][word].into();
+/// A lone shard.
+#[derive(Clone, Debug)]
+pub struct Shard {
+    number: u8,
+    words: Box<ShardWords>,
+}
+
+impl Shard {
+    /// An empty shard with this number, 0 to 7.
+    pub fn new(number: u8) -> Self {
+        assert!(number <= MAX_SHARD, "there is no shard {number}");
+        check_words(raw::plankeeper_shard_words(), SHARD_WORDS);
+        let mut shard = Shard {
+            number,
+            words: unset(),
+        };
+        shard.renew();
+        shard
     }
-    if word < tokens {
-        let (token, part) = (word - HEAD_WORDS, TOKEN[(word - HEAD_WORDS) % TOKEN_WORDS]);
-        return format!("token {}, {part}", token / TOKEN_WORDS);
+
+    /// The number that it was made with.
+    pub fn number(&self) -> u8 {
+        self.number
     }
-    let (known, part) = ((word - tokens) / KNOWN_WORDS, (word - tokens) % KNOWN_WORDS);
-    match part.checked_sub(TRANSACTION_WORDS) {
-        Some(sender) => format!("transaction {known}, verdict of shard {sender}"),
-        None => format!("transaction {known}, word {part}"),
+
+    /// Its memory.
+    pub fn words(&self) -> &ShardWords {
+        &self.words
     }
 }
 
-/// A shard's state as its words tell it.
-#[derive(Clone, Debug, Default, PartialEq, Eq)]
-pub struct State {
-    /// The tokens held.
-    pub tokens: Vec<Token>,
-    /// Two words of flags, low bit first.
-    pub given: [u64; 2],
-    /// The transactions known.
-    pub known: Vec<Known>,
-}
+impl Ledger for Shard {
+    fn renew(&mut self) {
+        raw::plankeeper_shard_new(&mut self.words, self.number.into());
+    }
 
-impl State {
-    /// Takes over the state at the front of the words and gives the words
-    /// behind it. Panics if they tell of no state.
-    pub fn read<'a>(&mut self, words: &'a [u64]) -> &'a [u64] {
-        let (&[held, known, low, high], rest) = words
-            .split_first_chunk()
-            .expect("a state has at least four words");
-        self.given = [low, high];
-        let (held, known): (usize, usize) = (narrow(held), narrow(known));
-        let (tokens, rest) = rest.split_at(held * TOKEN_WORDS);
-        let (transactions, rest) = rest.split_at(known * KNOWN_WORDS);
-        self.tokens.clear();
-        self.tokens
-            .extend(tokens.as_chunks().0.iter().map(read_token));
-        self.known.clear();
-        self.known
-            .extend(transactions.as_chunks().0.iter().map(read_known));
-        rest
+    fn call(&mut self, call: &Call) -> u32 {
+        shard_call(&mut self.words, call)
+    }
+
+    fn total(&self) -> u64 {
+        raw::plankeeper_shard_total(&self.words)
+    }
+
+    fn shards(&self) -> &[ShardWords] {
+        slice::from_ref(&self.words)
     }
 }
 
-fn read_token(&[creator, index, owner, amount, pledge]: &[u64; TOKEN_WORDS]) -> Token {
-    Token {
-        creator: narrow(creator),
-        index: narrow(index),
-        owner: narrow(owner),
-        amount: narrow(amount),
-        pledge: Some(narrow(pledge)).filter(|&number| number != 0),
+/// A cluster of eight shards.
+#[derive(Clone, Debug)]
+pub struct Cluster {
+    words: Box<ClusterWords>,
+}
+
+impl Cluster {
+    /// A cluster of empty shards.
+    pub fn new() -> Self {
+        check_words(raw::plankeeper_words(), CLUSTER_WORDS);
+        let mut cluster = Cluster { words: unset() };
+        cluster.renew();
+        cluster
+    }
+
+    /// Reads the record at the front of the bytes, carries it out and gives
+    /// the answer's code.
+    pub fn apply(&mut self, bytes: &[u8]) -> u32 {
+        cluster_apply(&mut self.words, bytes)
+    }
+
+    /// Its memory.
+    pub fn words(&self) -> &ClusterWords {
+        &self.words
     }
 }
 
-fn read_known(words: &[u64; KNOWN_WORDS]) -> Known {
-    let (transaction, heard) = words.split_at(TRANSACTION_WORDS);
-    let transaction = transaction.try_into().expect("a transaction's words");
-    Known {
-        transaction: from_words(transaction),
-        heard: std::array::from_fn(|sender| match heard[sender] {
-            0 => None,
-            1 => Some(Verdict::No),
-            2 => Some(Verdict::Yes),
-            other => panic!("the engine heard verdict {other}"),
-        }),
+impl Default for Cluster {
+    fn default() -> Self {
+        Cluster::new()
     }
+}
+
+impl Ledger for Cluster {
+    fn renew(&mut self) {
+        raw::plankeeper_new(&mut self.words);
+    }
+
+    fn call(&mut self, call: &Call) -> u32 {
+        cluster_call(&mut self.words, call)
+    }
+
+    fn total(&self) -> u64 {
+        raw::plankeeper_total(&self.words)
+    }
+
+    fn shards(&self) -> &[ShardWords] {
+        self.words.as_chunks().0
+    }
+}
+
+/// The call on these words.
+pub(crate) fn shard_call(shard: &mut ShardWords, call: &Call) -> u32 {
+    match *call {
+        Call::Mint {
+            receiver,
+            index,
+            owner,
+            amount,
+        } => raw::plankeeper_shard_mint(shard, receiver, index, owner, amount),
+        Call::Register {
+            receiver,
+            ref transaction,
+        } => raw::plankeeper_shard_register(shard, receiver, transaction),
+        Call::Vote {
+            receiver,
+            sender,
+            verdict,
+            ref transaction,
+        } => raw::plankeeper_shard_hear(shard, receiver, sender, verdict, transaction),
+    }
+}
+
+/// The call on these words.
+pub(crate) fn cluster_call(cluster: &mut ClusterWords, call: &Call) -> u32 {
+    match *call {
+        Call::Mint {
+            receiver,
+            index,
+            owner,
+            amount,
+        } => raw::plankeeper_mint(cluster, receiver, index, owner, amount),
+        Call::Register {
+            receiver,
+            ref transaction,
+        } => raw::plankeeper_register(cluster, receiver, transaction),
+        Call::Vote {
+            receiver,
+            sender,
+            verdict,
+            ref transaction,
+        } => raw::plankeeper_deliver(cluster, receiver, sender, verdict, transaction),
+    }
+}
+
+/// Reads the record at the front of the bytes and carries it out on these
+/// words.
+pub(crate) fn cluster_apply(cluster: &mut ClusterWords, bytes: &[u8]) -> u32 {
+    // SAFETY: pointer and length are those of a live slice.
+    unsafe { raw::plankeeper_apply(cluster, bytes.as_ptr(), bytes.len()) }
+}
+
+/// Without it, too little memory might be lent.
+fn check_words(engine: usize, table: usize) {
+    assert_eq!(engine, table, "words of the engine's memory");
+}
+
+fn unset<const WORDS: usize>() -> Box<[u32; WORDS]> {
+    let words = vec![UNSET; WORDS].into_boxed_slice();
+    words.try_into().expect("as many words as were asked for")
 }

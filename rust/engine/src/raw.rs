@@ -1,70 +1,112 @@
-//! The boundary as the static library exports it: a slice passes as its
-//! pointer and then its length, a transaction as a slice of words.
+//! The boundary as the static libraries export it. A cluster, a shard or a
+//! transaction passes as one pointer to its words, bytes as a pointer and then
+//! their length.
 //!
-//! Every pointer must be valid for its length, and a `*mut` one not aliased;
-//! nothing is kept after the call.
+//! What these declarations say of the functions is trusted: a function touches
+//! no more than the words and bytes handed to it, changes only what is handed
+//! in as `&mut` or `*mut`, and keeps nothing after the call. So those that are
+//! handed words alone are safe; where bytes are handed in, the pointer must be
+//! valid for the length, and a `*mut` one not aliased.
 
+use crate::places::{ClusterWords, ReadingWords, ShardWords, TransactionWords};
+
+// The library `engine`.
 unsafe extern "C" {
-    pub fn engine_cause(genesis: u8, transaction: *const u64, words: usize) -> u8;
+    pub safe fn plankeeper_words() -> usize;
 
-    pub fn engine_takes_part(shard: u8, transaction: *const u64, words: usize) -> u8;
+    pub safe fn plankeeper_new(cluster: &mut ClusterWords);
 
-    pub fn engine_same(a: *const u64, a_words: usize, b: *const u64, b_words: usize) -> u8;
+    pub safe fn plankeeper_total(cluster: &ClusterWords) -> u64;
 
-    pub fn engine_read(bytes: *const u8, length: usize, fields: *mut u64, words: usize) -> u8;
+    pub fn plankeeper_apply(cluster: &mut ClusterWords, bytes: *const u8, length: usize) -> u32;
 
-    pub fn engine_rest(bytes: *const u8, length: usize) -> usize;
+    pub fn plankeeper_taken(bytes: *const u8, length: usize) -> usize;
 
-    pub fn engine_write_register(
-        receiver: u8,
-        transaction: *const u64,
-        words: usize,
+    pub safe fn plankeeper_mint(
+        cluster: &mut ClusterWords,
+        receiver: u32,
+        index: u32,
+        owner: u32,
+        amount: u32,
+    ) -> u32;
+
+    pub safe fn plankeeper_register(
+        cluster: &mut ClusterWords,
+        receiver: u32,
+        transaction: &TransactionWords,
+    ) -> u32;
+
+    pub safe fn plankeeper_deliver(
+        cluster: &mut ClusterWords,
+        receiver: u32,
+        sender: u32,
+        verdict: u32,
+        transaction: &TransactionWords,
+    ) -> u32;
+
+    pub safe fn plankeeper_shard_words() -> usize;
+
+    pub safe fn plankeeper_shard_new(shard: &mut ShardWords, number: u32);
+
+    pub safe fn plankeeper_shard_total(shard: &ShardWords) -> u64;
+
+    pub safe fn plankeeper_shard_mint(
+        shard: &mut ShardWords,
+        receiver: u32,
+        index: u32,
+        owner: u32,
+        amount: u32,
+    ) -> u32;
+
+    pub safe fn plankeeper_shard_register(
+        shard: &mut ShardWords,
+        receiver: u32,
+        transaction: &TransactionWords,
+    ) -> u32;
+
+    pub safe fn plankeeper_shard_hear(
+        shard: &mut ShardWords,
+        receiver: u32,
+        sender: u32,
+        verdict: u32,
+        transaction: &TransactionWords,
+    ) -> u32;
+
+    pub fn plankeeper_read(bytes: *const u8, length: usize, fields: &mut ReadingWords) -> u32;
+
+    pub fn plankeeper_write_register(
+        receiver: u32,
+        transaction: &TransactionWords,
         out: *mut u8,
         room: usize,
     ) -> u64;
 
-    pub fn engine_write_vote(
-        receiver: u8,
-        sender: u8,
-        verdict: u8,
-        transaction: *const u64,
-        words: usize,
+    pub fn plankeeper_write_vote(
+        receiver: u32,
+        sender: u32,
+        verdict: u32,
+        transaction: &TransactionWords,
         out: *mut u8,
         room: usize,
     ) -> u64;
 
-    pub fn engine_write_mint(
-        receiver: u8,
-        index: u8,
+    pub fn plankeeper_write_mint(
+        receiver: u32,
+        index: u32,
         owner: u32,
         amount: u32,
         out: *mut u8,
         room: usize,
     ) -> u64;
+}
 
-    pub fn engine_read_votes(bytes: *const u8, length: usize, records: usize) -> u64;
+// The library `probes`.
+unsafe extern "C" {
+    pub safe fn probe_cause(genesis: u32, transaction: &TransactionWords) -> u32;
 
-    pub fn engine_shard_play(
-        number: u8,
-        calls: *const u64,
-        call_words: usize,
-        answers: *mut u64,
-        answer_room: usize,
-        states: *mut u64,
-        state_room: usize,
-    ) -> usize;
+    pub safe fn probe_takes_part(shard: u32, transaction: &TransactionWords) -> u32;
 
-    pub fn engine_cluster_play(
-        calls: *const u64,
-        call_words: usize,
-        answers: *mut u64,
-        answer_room: usize,
-        states: *mut u64,
-        state_room: usize,
-    ) -> usize;
+    pub safe fn probe_same(a: &TransactionWords, b: &TransactionWords) -> u32;
 
-    pub fn engine_shard_run(number: u8, calls: *const u64, call_words: usize, rounds: usize)
-    -> u64;
-
-    pub fn engine_cluster_run(calls: *const u64, call_words: usize, rounds: usize) -> u64;
+    pub fn probe_read_votes(bytes: *const u8, length: usize, records: usize) -> u64;
 }

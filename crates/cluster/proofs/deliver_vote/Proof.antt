@@ -1,53 +1,100 @@
-use Rattle.model.proofs.Tables.{no-such-shard}
-use Rattle.model.specs.Shard.{deliver}
-use Rattle.model.specs.Steps.{house}
-use Rattle.cluster.specs.View.{view}
-use Rattle.cluster.proofs.Long.{eight}
-use Rattle.cluster.proofs.Shards.{refused, carried, vote-16, vote-goes}
-use borrow.Author.Tests.{lt-leb}
+use Rattle.cluster.proofs.Shards.{lent, form-refused, sender-below, receiver-below, not-given, own-form, heard}
 use native.Mathlib.Omega.{arith}
-use mathlib.Core.Path.{refl}
+use denote.Ref.{now}
 use borrow.Author.Needs.{needs}
 use Rattle.cluster.proofs.deliver_vote.Statement.{statement}
 use Rattle.cluster.proofs.deliver_vote.Tie as tie
 
-is-not-given-requires : tie.Need-is-not-given-requires
-is-not-given-requires c κs = search needs
+deliver-form-requires : tie.Need-deliver-form-requires
+deliver-form-requires c κs = search needs
 
 returns : tie.Need-returns
 returns c =
-    refused (c .before .before .args .c) (c .before .before .pre) (deliver (c .before .before .args .receiver) (c .before .before .args .sender) (c .before .before .args .verdict) (c .before .before .args .t)) 16 (vote-16 (view (c .before .before .args .c)) (c .before .before .args .receiver) (c .before .before .args .sender) (c .before .before .args .verdict) (c .before .before .args .t) (c .before .is-not-given .ensures) (c .if1 .taken))
+    let args = c .before .before .args in
+    let pre = c .before .before .pre in
+    let deliver-form = c .before .deliver-form in
+    let if1 = c .if1 in
+    form-refused (now (args .c)) pre (args .receiver) (args .sender) (args .verdict) (args .t) (deliver-form .ensures) (if1 .taken)
+
+mul-has-given-vote : tie.Need-mul-has-given-vote
+mul-has-given-vote c = search needs
+
+index-1-has-given-vote : tie.Need-index-1-has-given-vote
+index-1-has-given-vote c =
+    let args = c .before .before .args in
+    let pre = c .before .before .pre in
+    let deliver-form = c .before .deliver-form in
+    let if1 = c .if1 in
+    let below = sender-below (now (args .c)) pre (args .receiver) (args .sender) (args .verdict) (args .t) (deliver-form .ensures) (if1 .left) in
+    omega (arith, below, pre .eight)
+
+has-given-vote-requires : tie.Need-has-given-vote-requires
+has-given-vote-requires c κs =
+    let args = c .before .before .before .args in
+    let pre = c .before .before .before .pre in
+    let deliver-form = c .before .before .deliver-form in
+    let if1 = c .before .if1 in
+    let below = sender-below (now (args .c)) pre (args .receiver) (args .sender) (args .verdict) (args .t) (deliver-form .ensures) (if1 .left) in
+    lent (now (args .c)) pre (args .sender) below
 
 returns-2 : tie.Need-returns-2
 returns-2 c =
-    refused (c .before .before .before .args .c) (c .before .before .before .pre) (deliver (c .before .before .before .args .receiver) (c .before .before .before .args .sender) (c .before .before .before .args .verdict) (c .before .before .before .args .t)) 3 (no-such-shard house (view (c .before .before .before .args .c)) (deliver (c .before .before .before .args .receiver) (c .before .before .before .args .sender) (c .before .before .before .args .verdict) (c .before .before .before .args .t)) (lt-leb (c .before .before .before .args .receiver) 7 (omega (arith, c .if2 .taken))))
+    let args = c .before .before .before .before .before .args in
+    let pre = c .before .before .before .before .before .pre in
+    let deliver-form = c .before .before .before .before .deliver-form in
+    let if1 = c .before .before .before .if1 in
+    let has-given-vote = c .before .has-given-vote in
+    let if2 = c .if2 in
+    not-given (now (args .c)) pre (args .receiver) (args .sender) (args .verdict) (args .t) (deliver-form .ensures) (if1 .left)
+    (has-given-vote .ensures) (if2 .taken)
 
-mul-hear-vote : tie.Need-mul-hear-vote
-mul-hear-vote c = search needs
+mul-hear-formed : tie.Need-mul-hear-formed
+mul-hear-formed c = search needs
 
-array-copy-out-hear-vote : tie.Need-array-copy-out-hear-vote
-array-copy-out-hear-vote c = search needs
+index-1-hear-formed : tie.Need-index-1-hear-formed
+index-1-hear-formed c =
+    let args = c .before .before .before .before .before .args in
+    let pre = c .before .before .before .before .before .pre in
+    let deliver-form = c .before .before .before .before .deliver-form in
+    let if1 = c .before .before .before .if1 in
+    let below = receiver-below (now (args .c)) pre (args .receiver) (args .sender) (args .verdict) (args .t) (deliver-form .ensures) (if1 .left) in
+    omega (arith, below, pre .eight)
 
-hear-vote-requires : tie.Need-hear-vote-requires
-hear-vote-requires c κs =
-    c .before .before .before .before .before .pre (c .before .before .before .before .before .args .receiver) (c .before .before .if2 .left) .sound
-
-replaced-requires : tie.Need-replaced-requires
-replaced-requires c κs = search needs
+hear-formed-requires : tie.Need-hear-formed-requires
+hear-formed-requires c κs =
+    let args = c .before .before .before .before .before .before .args in
+    let pre = c .before .before .before .before .before .before .pre in
+    let deliver-form = c .before .before .before .before .before .deliver-form in
+    let if1 = c .before .before .before .before .if1 in
+    let has-given-vote = c .before .before .has-given-vote in
+    let below = receiver-below (now (args .c)) pre (args .receiver) (args .sender) (args .verdict) (args .t) (deliver-form .ensures) (if1 .left) in (
+      lent (now (args .c)) pre (args .receiver) below,
+      own-form (now (args .c)) pre (args .receiver) (args .sender) (args .verdict) (args .t) (deliver-form .ensures) (if1 .left) (has-given-vote .ensures),
+    )
 
 returns-3 : tie.Need-returns-3
 returns-3 c =
-    carried (c .before .before .before .before .before .before .before .before .args .c) (eight (c .before .before .before .before .before .before .before .before .args .c) (c .before .before .before .before .before .before .before .before .good .0)) (c .before .before .before .before .before .before .before .before .pre) (c .before .before .before .before .before .before .before .before .args .receiver) (c .before .before .before .before .before .if2 .left) (c .replaced .ensures) (deliver (c .before .before .before .before .before .before .before .before .args .receiver) (c .before .before .before .before .before .before .before .before .args .sender) (c .before .before .before .before .before .before .before .before .args .verdict) (c .before .before .before .before .before .before .before .before .args .t)) refl refl (c .before .before .hear-vote .ensures) (vote-goes (view (c .before .before .before .before .before .before .before .before .args .c)) (c .before .before .before .before .before .before .before .before .args .receiver) (c .before .before .before .before .before .before .before .before .args .sender) (c .before .before .before .before .before .before .before .before .args .verdict) (c .before .before .before .before .before .before .before .before .args .t) (c .before .before .before .before .before .before .before .is-not-given .ensures) (c .before .before .before .before .before .before .if1 .left))
+    let args = c .before .before .before .before .before .before .before .args in
+    let pre = c .before .before .before .before .before .before .before .pre in
+    let deliver-form = c .before .before .before .before .before .before .deliver-form in
+    let if1 = c .before .before .before .before .before .if1 in
+    let has-given-vote = c .before .before .before .has-given-vote in
+    let if2 = c .before .before .if2 in
+    let hear-formed = c .hear-formed in
+    heard (now (args .c)) pre (args .receiver) (args .sender) (args .verdict) (args .t) (deliver-form .ensures) (if1 .left)
+    (has-given-vote .ensures) (if2 .left) (hear-formed .ensures)
 
 pub deliver-vote-spec : {M : Type 1} → statement M
 deliver-vote-spec =
     tie.close
     (tie.spec
-    is-not-given-requires
+    deliver-form-requires
     returns
+    mul-has-given-vote
+    index-1-has-given-vote
+    has-given-vote-requires
     returns-2
-    mul-hear-vote
-    array-copy-out-hear-vote
-    hear-vote-requires
-    replaced-requires
+    mul-hear-formed
+    index-1-hear-formed
+    hear-formed-requires
     returns-3)

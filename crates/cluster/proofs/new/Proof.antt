@@ -1,45 +1,64 @@
-use Rattle.cluster.proofs.Shards.{fresh}
+use Rattle.cluster.proofs.Shards.{Freshened, freshen-start, freshen-next, freshened}
+use Prim.Native.Nat.{_-_}
+use mathlib.Core.Path.{refl}
+use native.Mathlib.Omega.{arith}
 use borrow.Author.Needs.{needs}
 use Rattle.cluster.proofs.new.Statement.{statement}
 use Rattle.cluster.proofs.new.Tie as tie
 
-new-requires : tie.Need-new-requires
+abbrev Inv-loop : tie.InvT-loop
+Inv-loop c₀ p₀ c p = Freshened c p
+
+abbrev μ-loop : tie.MeasureT-loop
+μ-loop c₀ p₀ c p = 8 - p
+
+loop-holds : tie.Need-loop-holds Inv-loop μ-loop
+loop-holds c = freshen-start _ refl
+
+narrow-requires : tie.Need-narrow-requires Inv-loop μ-loop
+narrow-requires c κs = search needs
+
+mul-new : tie.Need-mul-new Inv-loop μ-loop
+mul-new c = search needs
+
+index-1-new : tie.Need-index-1-new Inv-loop μ-loop
+index-1-new c =
+    let loop = c .before .before .loop in
+    omega (arith, loop .inv .eight)
+
+new-requires : tie.Need-new-requires Inv-loop μ-loop
 new-requires c κs = search needs
 
-new-requires-2 : tie.Need-new-requires-2
-new-requires-2 c κs = search needs
+add-p : tie.Need-add-p Inv-loop μ-loop
+add-p c = search needs
 
-new-requires-3 : tie.Need-new-requires-3
-new-requires-3 c κs = search needs
+loop-less : tie.Need-loop-less Inv-loop μ-loop
+loop-less c = search needs
 
-new-requires-4 : tie.Need-new-requires-4
-new-requires-4 c κs = search needs
+loop-again : tie.Need-loop-again Inv-loop μ-loop
+loop-again c =
+    let loop = c .before .before .before .before .loop in
+    let narrow = c .before .before .narrow in
+    let new = c .new in
+    freshen-next (loop .c) (loop .p) (narrow .result) _ (loop .inv) (search needs) (narrow .ensures) (new .ensures)
 
-new-requires-5 : tie.Need-new-requires-5
-new-requires-5 c κs = search needs
-
-new-requires-6 : tie.Need-new-requires-6
-new-requires-6 c κs = search needs
-
-new-requires-7 : tie.Need-new-requires-7
-new-requires-7 c κs = search needs
-
-new-requires-8 : tie.Need-new-requires-8
-new-requires-8 c κs = search needs
-
-returns : tie.Need-returns
-returns c = fresh (c .before .before .before .before .before .before .before .new .ensures) (c .before .before .before .before .before .before .new2 .ensures) (c .before .before .before .before .before .new3 .ensures) (c .before .before .before .before .new4 .ensures) (c .before .before .before .new5 .ensures) (c .before .before .new6 .ensures) (c .before .new7 .ensures) (c .new8 .ensures)
+returns : tie.Need-returns Inv-loop μ-loop
+returns c =
+    let loop = c .before .loop in
+    freshened (loop .c) (loop .p) (loop .inv) (search needs)
 
 pub new-spec : {M : Type 1} → statement M
 new-spec =
     tie.close
     (tie.spec
+    Inv-loop
+    μ-loop
+    loop-holds
+    narrow-requires
+    mul-new
+    index-1-new
     new-requires
-    new-requires-2
-    new-requires-3
-    new-requires-4
-    new-requires-5
-    new-requires-6
-    new-requires-7
-    new-requires-8
+    add-p
+    loop-less
+    loop-again
     returns)

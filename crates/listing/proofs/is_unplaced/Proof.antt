@@ -19,7 +19,9 @@ enum-told-4 : tie.Need-enum-told-4
 enum-told-4 c = search needs
 
 returns : tie.Need-returns
-returns c = rw (c .before .answer .given .1) refl
+returns c =
+    let answer = c .before .answer in
+    rw (answer .given .1) refl
 
 returns-2 : tie.Need-returns-2
 returns-2 c = search needs

@@ -19,8 +19,19 @@ cause-of-requires c κs = search needs
 put-line-requires : tie.Need-put-line-requires
 put-line-requires c κs = search needs
 
+same-length : tie.Need-same-length
+same-length c = search needs
+
 returns : tie.Need-returns
-returns c = refused (c .before .before .before .before .before .before .before .before .args .c) (c .before .before .before .before .before .before .before .before .pre) (c .before .before .before .before .before .before .before .before .args .number) (now (c .before .before .before .before .before .before .before .before .args .bytes)) (now (c .before .before .before .before .before .before .before .before .args .line)) (c .before .before .before .before .before .before .read .ensures) (c .before .before .before .enum-told .given .1) (c .before .before .cause-of .ensures) (c .put-line .ensures)
+returns c =
+    let args = c .before .before .before .before .before .before .before .before .before .before .before .args in
+    let read = c .before .before .before .before .before .before .before .before .read in
+    let pre = c .before .before .before .before .before .before .before .before .before .before .before .pre in
+    let enum-told = c .before .before .before .before .before .enum-told in
+    let cause-of = c .before .before .before .before .cause-of in
+    let put-line = c .before .before .put-line in
+    refused (now (args .c)) (args .number) (now (args .bytes)) (now (args .out)) (args .at) (read .ensures) (pre .0) (enum-told .given .1)
+    (cause-of .ensures) (put-line .ensures)
 
 call-requires : tie.Need-call-requires
 call-requires c κs = search needs
@@ -34,8 +45,20 @@ receiver-of-requires c κs = search needs
 put-line-requires-2 : tie.Need-put-line-requires-2
 put-line-requires-2 c κs = search needs
 
+same-length-2 : tie.Need-same-length-2
+same-length-2 c = search needs
+
 returns-2 : tie.Need-returns-2
-returns-2 c = carried (c .before .before .before .before .before .before .before .before .before .before .before .before .args .c) (c .before .before .before .before .before .before .before .before .before .before .before .before .pre) (c .before .before .before .before .before .before .before .before .before .before .before .before .args .number) (now (c .before .before .before .before .before .before .before .before .before .before .before .before .args .bytes)) (now (c .before .before .before .before .before .before .before .before .before .before .before .before .args .line)) (c .before .before .before .before .before .before .before .before .before .before .read .ensures) (c .before .before .before .before .before .before .before .answer .given .1) (c .before .before .before .before .before .call .ensures) (c .before .before .is-unplaced .ensures) (c .before .receiver-of .ensures) (c .put-line2 .ensures)
+returns-2 c =
+    let args = c .before .before .before .before .before .before .before .before .before .before .before .before .before .before .before .args in
+    let read = c .before .before .before .before .before .before .before .before .before .before .before .before .read in
+    let answer = c .before .before .before .before .before .before .before .before .before .answer in
+    let call = c .before .before .before .before .before .before .call in
+    let is-unplaced = c .before .before .before .before .is-unplaced in
+    let receiver-of = c .before .before .before .receiver-of in
+    let put-line2 = c .before .before .put-line2 in
+    carried (now (args .c)) (args .number) (now (args .bytes)) (now (args .out)) (args .at) (read .ensures) (answer .given .1) (call .ensures)
+    (is-unplaced .ensures) (receiver-of .ensures) (put-line2 .ensures)
 
 pub step-spec : {M : Type 1} → statement M
 step-spec =
@@ -46,9 +69,11 @@ step-spec =
     enum-told
     cause-of-requires
     put-line-requires
+    same-length
     returns
     call-requires
     is-unplaced-requires
     receiver-of-requires
     put-line-requires-2
+    same-length-2
     returns-2)

@@ -1,4 +1,4 @@
-use Rattle.listing.proofs.Stores.{of-amount}
+use Rattle.listing.proofs.Stores.{total-shown}
 use borrow.Author.Needs.{needs}
 use Rattle.listing.proofs.total.Statement.{statement}
 use Rattle.listing.proofs.total.Tie as tie
@@ -10,7 +10,10 @@ put-total-requires : tie.Need-put-total-requires
 put-total-requires c κs = search needs
 
 returns : tie.Need-returns
-returns c = of-amount (c .before .before .total-amount .ensures) (c .put-total .ensures)
+returns c =
+    let total-amount = c .before .before .total-amount in
+    let put-total = c .put-total in
+    total-shown (search needs) (total-amount .ensures) (put-total .ensures)
 
 pub total-spec : {M : Type 1} → statement M
 total-spec = tie.close (tie.spec total-amount-requires put-total-requires returns)

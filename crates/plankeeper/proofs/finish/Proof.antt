@@ -12,10 +12,14 @@ print-requires : tie.Need-print-requires
 print-requires c κs = search needs
 
 slice-aggregate-print : tie.Need-slice-aggregate-print
-slice-aggregate-print c = sym (as-long 64 refl (search needs) (c .before .before .before .before .total .ensures))
+slice-aggregate-print c =
+    let total = c .before .before .before .before .total in
+    sym (as-long 64 refl (search needs) (total .ensures))
 
 print-requires-2 : tie.Need-print-requires-2
-print-requires-2 c κs = omega (arith, as-long 64 refl (search needs) (c .before .before .before .before .total .ensures), c .before .before .before .before .total .ensures .within)
+print-requires-2 c κs =
+    let total = c .before .before .before .before .total in
+    omega (arith, as-long 64 refl (search needs) (total .ensures), total .ensures .within)
 
 returns : tie.Need-returns
 returns c = search needs

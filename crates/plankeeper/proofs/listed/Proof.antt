@@ -23,7 +23,11 @@ same-length : tie.Need-same-length
 same-length c = search needs
 
 returns : tie.Need-returns
-returns c = of-buffers (c .before .before .before .before .before .before .before .args .used) (now (c .before .before .before .before .before .before .before .args .out)) (c .before .before .list-records .last .1 .1 .1 .1 .0) (search needs) (c .before .before .before .before .between .ensures) (c .before .before .list-records .ensures)
+returns c =
+    let args = c .before .before .before .before .before .before .before .before .args in
+    let list-records = c .before .before .list-records in
+    let between = c .before .before .before .before .before .between in
+    of-buffers (args .used) (now (args .out)) (list-records .last .1 .1 .1 .1 .0) (search needs) (between .ensures) (list-records .ensures)
 
 pub listed-spec : {M : Type 1} → statement M
 listed-spec =

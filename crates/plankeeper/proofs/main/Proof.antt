@@ -1,9 +1,9 @@
-use Prim.Native.Nat.{_+_, _-_, _≤_}
+use Prim.Native.Nat.{_+_, _≤_}
 use native.Mathlib.Omega.{arith}
 use mathlib.Core.Path.{_≡_, sym}
-use lib.ListN.{length, drop, length-drop}
-use Rattle.plankeeper.proofs.Part.{part-size}
+use lib.ListN.{length}
 use Rattle.cluster.specs.View.{Sound}
+use Rattle.plankeeper.proofs.Part.{waiting, unread}
 use borrow.Author.Needs.{needs}
 use Rattle.plankeeper.proofs.main.Statement.{statement}
 use Rattle.plankeeper.proofs.main.Tie as tie
@@ -26,28 +26,53 @@ turns-after-requires : tie.Need-turns-after-requires Inv-loop μ-loop
 turns-after-requires c κs = search needs
 
 loop-holds : tie.Need-loop-holds Inv-loop μ-loop
-loop-holds c = (c .before .before .before .new .ensures .sound, search needs, search needs, search needs, search needs, search needs)
+loop-holds c =
+    let new = c .before .before .before .new in
+    (new .ensures .sound, search needs, search needs, search needs, search needs, search needs)
 
 slice-aggregate-listed : tie.Need-slice-aggregate-listed Inv-loop μ-loop
-slice-aggregate-listed c = sym (c .before .before .before .loop .inv .5)
+slice-aggregate-listed c =
+    let loop = c .before .before .before .before .loop in
+    sym (loop .inv .5)
 
 listed-requires : tie.Need-listed-requires Inv-loop μ-loop
-listed-requires c κs = (c .before .before .before .loop .inv .0, search needs, search needs, omega (arith, c .before .before .before .loop .inv .4, c .before .before .before .loop .inv .5))
+listed-requires c κs =
+    let loop = c .before .before .before .before .loop in
+    (loop .inv .0, search needs, search needs, omega (arith, loop .inv .4, loop .inv .5))
 
 add-flushed : tie.Need-add-flushed Inv-loop μ-loop
-add-flushed c = let h : (c .before .before .before .before .before .before .before .loop .used) + (c .before .before .before .listed .result .used) ≤ 65536 = omega (arith, c .before .before .before .listed .ensures .room, length-drop (c .before .before .before .before .before .before .before .loop .used) (c .before .before .before .before .before .before .before .loop .out), (c .before .before .before .before .before .before .before .loop .inv .4), (c .before .before .before .before .before .before .before .loop .inv .5)) in search needs
+add-flushed c =
+    let loop = c .before .before .before .before .before .before .before .before .loop in
+    let listed = c .before .before .before .listed in
+    let few : loop .used ≤ length (loop .out) = omega (arith, loop .inv .4, loop .inv .5) in
+    let h : loop .used + listed .result .used ≤ 65536 = omega (arith, waiting (loop .used) (loop .out) (listed .ensures .room) few, loop .inv .5) in
+    search needs
 
 flushed-requires : tie.Need-flushed-requires Inv-loop μ-loop
-flushed-requires c κs = omega (arith, c .before .before .before .listed .ensures .room, length-drop (c .before .before .before .before .before .before .before .loop .used) (c .before .before .before .before .before .before .before .loop .out), (c .before .before .before .before .before .before .before .loop .inv .4), (c .before .before .before .before .before .before .before .loop .inv .5))
+flushed-requires c κs =
+    let loop = c .before .before .before .before .before .before .before .before .loop in
+    let listed = c .before .before .before .listed in
+    let few : loop .used ≤ length (loop .out) = omega (arith, loop .inv .4, loop .inv .5) in
+    omega (arith, waiting (loop .used) (loop .out) (listed .ensures .room) few, loop .inv .5)
 
 add-filled : tie.Need-add-filled Inv-loop μ-loop
-add-filled c = let h : (c .before .before .before .before .before .before .before .before .before .before .loop .at) + (c .before .before .before .before .before .before .listed .result .taken) ≤ 65536 = omega (arith, c .before .before .before .before .before .before .listed .ensures .part, part-size ((c .before .before .before .before .before .before .before .before .before .before .loop .end) - (c .before .before .before .before .before .before .before .before .before .before .loop .at)) (drop (c .before .before .before .before .before .before .before .before .before .before .loop .at) (c .before .before .before .before .before .before .before .before .before .before .loop .buf)), (c .before .before .before .before .before .before .before .before .before .before .loop .inv .1), (c .before .before .before .before .before .before .before .before .before .before .loop .inv .2)) in search needs
+add-filled c =
+    let loop = c .before .before .before .before .before .before .before .before .before .before .before .loop in
+    let listed = c .before .before .before .before .before .before .listed in
+    let some = unread (loop .at) (loop .end) (loop .buf) (listed .ensures .part) (loop .inv .1) in
+    let h : loop .at + listed .result .taken ≤ 65536 = omega (arith, some, loop .inv .2) in
+    search needs
 
 wanted-after-requires : tie.Need-wanted-after-requires Inv-loop μ-loop
 wanted-after-requires c κs = search needs
 
 filled-requires-2 : tie.Need-filled-requires-2 Inv-loop μ-loop
-filled-requires-2 c κs = omega (arith, c .before .before .before .before .before .before .before .listed .ensures .part, part-size ((c .before .before .before .before .before .before .before .before .before .before .before .loop .end) - (c .before .before .before .before .before .before .before .before .before .before .before .loop .at)) (drop (c .before .before .before .before .before .before .before .before .before .before .before .loop .at) (c .before .before .before .before .before .before .before .before .before .before .before .loop .buf)), (c .before .before .before .before .before .before .before .before .before .before .before .loop .inv .1), (c .before .before .before .before .before .before .before .before .before .before .before .loop .inv .2), (c .before .before .before .before .before .before .before .before .before .before .before .loop .inv .3), c .wanted-after .ensures)
+filled-requires-2 c κs =
+    let loop = c .before .before .before .before .before .before .before .before .before .before .before .before .loop in
+    let listed = c .before .before .before .before .before .before .before .listed in
+    let wanted-after = c .wanted-after in
+    let some = unread (loop .at) (loop .end) (loop .buf) (listed .ensures .part) (loop .inv .1) in
+    omega (arith, some, loop .inv .2, loop .inv .3, wanted-after .ensures)
 
 turns-after-requires-2 : tie.Need-turns-after-requires-2 Inv-loop μ-loop
 turns-after-requires-2 c κs = search needs
@@ -56,10 +81,14 @@ loop-less : tie.Need-loop-less Inv-loop μ-loop
 loop-less c = search needs
 
 loop-again : tie.Need-loop-again Inv-loop μ-loop
-loop-again c = (c .before .before .before .before .before .before .before .before .before .before .listed .ensures .sound, search needs, search needs, search needs, search needs, search needs)
+loop-again c =
+    let listed = c .before .before .before .before .before .before .before .before .before .listed in
+    (listed .ensures .sound, search needs, search needs, search needs, search needs, search needs)
 
 finish-requires : tie.Need-finish-requires Inv-loop μ-loop
-finish-requires c κs = (c .before .before .before .loop .inv .0, omega (arith, c .before .before .before .loop .inv .4))
+finish-requires c κs =
+    let loop = c .before .before .before .before .loop in
+    (loop .inv .0, omega (arith, loop .inv .4))
 
 returns : tie.Need-returns Inv-loop μ-loop
 returns c = search needs

@@ -1,29 +1,46 @@
-use Rattle.shard.proofs.Carried.{deliver-refused, deliver-own, deliver-back}
-use mathlib.Core.Path.{sym, _∙_}
+use Rattle.shard.proofs.Calls.{form-refused, form-own, form-back}
+use denote.Ref.{now}
 use borrow.Author.Needs.{needs}
 use Rattle.shard.proofs.hear_vote.Statement.{statement}
 use Rattle.shard.proofs.hear_vote.Tie as tie
 
-deliver-refusal-requires : tie.Need-deliver-refusal-requires
-deliver-refusal-requires c κs = search needs
+own-number-requires : tie.Need-own-number-requires
+own-number-requires c κs = search needs
 
-refused-requires : tie.Need-refused-requires
-refused-requires c κs = search needs
+deliver-form-requires : tie.Need-deliver-form-requires
+deliver-form-requires c κs = search needs
 
 returns : tie.Need-returns
-returns c = deliver-refused (c .before .before .before .args .s) (c .before .before .before .pre) (c .before .if1 .taken) (c .refused .ensures .0) (c .refused .ensures .1) (c .before .before .before .args .receiver) (c .before .before .before .args .sender) (c .before .before .before .args .verdict) (c .before .before .before .args .t) (c .before .before .deliver-refusal .ensures)
+returns c =
+    let args = c .before .before .before .before .args in
+    let pre = c .before .before .before .before .pre in
+    let own-number = c .before .before .own-number in
+    let deliver-form = c .before .deliver-form in
+    let if1 = c .if1 in
+    form-refused (now (args .s)) pre (args .receiver) (args .sender) (args .verdict) (args .t) (own-number .ensures) (deliver-form .ensures) (if1 .taken)
 
-carry-vote-requires : tie.Need-carry-vote-requires
-carry-vote-requires c κs =
-    let a = c .before .before .args in
-    (c .before .before .pre, deliver-own (a .s) (a .receiver) (a .sender) (a .verdict) (a .t) (sym (c .before .deliver-refusal .ensures) ∙ c .if1 .left))
+hear-formed-requires : tie.Need-hear-formed-requires
+hear-formed-requires c κs =
+    let args = c .before .before .before .before .before .args in
+    let pre = c .before .before .before .before .before .pre in
+    let own-number = c .before .before .before .own-number in
+    let deliver-form = c .before .before .deliver-form in
+    let if1 = c .before .if1 in
+    let own = form-own (now (args .s)) pre (args .receiver) (args .sender) (args .verdict) (args .t) (own-number .ensures) (deliver-form .ensures) in
+    (pre, own (if1 .left))
 
 returns-2 : tie.Need-returns-2
 returns-2 c =
-    let a = c .before .before .before .args in
-    deliver-back (a .s) (a .receiver) (a .sender) (a .verdict) (a .t) (sym (c .before .before .deliver-refusal .ensures) ∙ c .before .if1 .left) (c .carry-vote .ensures)
+    let args = c .before .before .before .before .before .before .args in
+    let pre = c .before .before .before .before .before .before .pre in
+    let own-number = c .before .before .before .before .own-number in
+    let deliver-form = c .before .before .before .deliver-form in
+    let if1 = c .before .before .if1 in
+    let hear-formed = c .hear-formed in
+    form-back (now (args .s)) pre (args .receiver) (args .sender) (args .verdict) (args .t) (own-number .ensures) (deliver-form .ensures) (if1 .left)
+    (hear-formed .ensures)
 
 pub hear-vote-spec : {M : Type 1} → statement M
 hear-vote-spec =
     tie.close
-    (tie.spec deliver-refusal-requires refused-requires returns carry-vote-requires returns-2)
+    (tie.spec own-number-requires deliver-form-requires returns hear-formed-requires returns-2)

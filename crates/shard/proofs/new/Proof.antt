@@ -1,23 +1,16 @@
-use Rattle.shard.specs.View.{view}
-use Rattle.model.specs.Steps.{house}
-use Rattle.model.proofs.Capacity.{empty-fit}
-use mathlib.Core.Path.{refl}
+use Rattle.shard.proofs.Ledgers.{fresh}
 use borrow.Author.Needs.{needs}
 use Rattle.shard.proofs.new.Statement.{statement}
 use Rattle.shard.proofs.new.Tie as tie
 
-blank-requires : tie.Need-blank-requires
-blank-requires c κs = search needs
+clear-requires : tie.Need-clear-requires
+clear-requires c κs = search needs
 
 returns : tie.Need-returns
-unfolding view
 returns c =
-    let n = c .before .args .number in
-    record {
-      numbered = refl;
-      empty = refl;
-      sound = record { held = search needs; known = search needs; fit = empty-fit house n };
-    }
+    let args = c .before .before .args in
+    let clear = c .clear in
+    fresh _ (args .me) (clear .ensures)
 
 pub new-spec : {M : Type 1} → statement M
-new-spec = tie.close (tie.spec blank-requires returns)
+new-spec = tie.close (tie.spec clear-requires returns)

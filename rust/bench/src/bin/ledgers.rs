@@ -1,5 +1,6 @@
 //! Time for a call on a shard and on a cluster: the proved engine against the
-//! reference; and the sizes of their states.
+//! reference, each handed what it takes; for clusters by kind of call too; and
+//! the sizes of the states.
 
 #![forbid(unsafe_code)]
 
@@ -7,39 +8,51 @@ use std::env;
 use std::hint::black_box;
 use std::mem::size_of;
 use std::process::ExitCode;
-use std::time::{Duration, Instant};
+use std::time::Duration;
 
-use bench::ledgers;
-use engine::{CLUSTER_WORDS, CallWords, SHARD_WORDS, call_words, push_state};
-use reference::{Cluster, Known, LIMITS, Record, Shard, Token};
+use bench::kinds::{KINDS, Kind, kinds};
+use bench::ledgers::{Run, Week, engine_run, reference_run};
+use engine::places::{CLUSTER_WORDS, SHARD_WORDS};
+use reference::{Known, LIMITS, Shard, Token};
 use weeks::{ClusterStyle, Rng, SEED, ShardStyle, cluster_week_of, shard_week_of};
 
 /// Weeks of each kind.
 const WEEKS: u64 = 8;
 
-/// A week for a lone shard, if it has a number, or for a cluster.
-struct Week {
-    shard: Option<u8>,
-    records: Vec<Record>,
-    calls: Vec<CallWords>,
-}
+type Loop = fn(&Week, usize) -> Run;
 
-type Loop = fn(&Week, usize) -> u64;
+const LOOPS: [(&str, Loop); 2] = [("engine", engine_run), ("reference", reference_run)];
 
-const LOOPS: [(&str, Loop); 3] = [
-    ("engine", |week, rounds| match week.shard {
-        Some(number) => engine::shard_run(number, &week.calls, rounds),
-        None => engine::cluster_run(&week.calls, rounds),
-    }),
-    ("reference", |week, rounds| match week.shard {
-        Some(number) => ledgers::shard_run(number, &week.calls, rounds),
-        None => ledgers::cluster_run(&week.calls, rounds),
-    }),
-    ("reference, fields", |week, rounds| match week.shard {
-        Some(number) => ledgers::shard_run_fields(number, &week.records, rounds),
-        None => ledgers::cluster_run_fields(&week.records, rounds),
-    }),
-];
+const SHARD: ShardStyle = ShardStyle {
+    calls: 300,
+    mints: 40,
+    amounts: 60,
+    local: 2,
+    here: 4,
+    damage: None,
+    yes: 14,
+};
+const FULL_SHARD: ShardStyle = ShardStyle {
+    calls: 500,
+    mints: 122,
+    ..SHARD
+};
+const CLUSTER: ClusterStyle = ClusterStyle {
+    calls: 300,
+    shards: 4,
+    mints: 8,
+    amounts: 40,
+    new: 10,
+    due: 55,
+    damage: None,
+};
+const FULL_CLUSTER: ClusterStyle = ClusterStyle {
+    calls: 800,
+    shards: 2,
+    mints: 122,
+    amounts: 60,
+    ..CLUSTER
+};
 
 fn main() -> ExitCode {
     let arguments: Vec<String> = env::args().skip(1).collect();
@@ -51,49 +64,28 @@ fn main() -> ExitCode {
             return ExitCode::FAILURE;
         }
     };
-    let shard = ShardStyle {
-        calls: 300,
-        mints: 40,
-        amounts: 60,
-        local: 2,
-        here: 4,
-        damage: None,
-        yes: 14,
-    };
-    let full_shard = ShardStyle {
-        calls: 500,
-        mints: 122,
-        ..shard
-    };
-    let cluster = ClusterStyle {
-        calls: 300,
-        shards: 4,
-        mints: 8,
-        amounts: 40,
-        new: 10,
-        due: 55,
-        damage: None,
-    };
-    let full_cluster = ClusterStyle {
-        calls: 800,
-        shards: 2,
-        mints: 122,
-        amounts: 60,
-        ..cluster
-    };
+    let clusters = [("cluster", CLUSTER), ("full cluster", FULL_CLUSTER)]
+        .map(|(name, style)| (name, weeks(|rng| cluster_of(rng, style))));
+    let shards = [("shard", SHARD), ("full shard", FULL_SHARD)]
+        .map(|(name, style)| (name, weeks(|rng| shard_of(rng, style))));
+
     println!("{WEEKS} weeks each, played {rounds} times, least of {repeats}; ns for a call");
-    let agree = [
-        ("shard", weeks(|rng| shard_of(rng, shard))),
-        ("full shard", weeks(|rng| shard_of(rng, full_shard))),
-        ("cluster", weeks(|rng| cluster_of(rng, cluster))),
-        ("full cluster", weeks(|rng| cluster_of(rng, full_cluster))),
-    ]
-    .map(|(name, weeks)| measure(name, &weeks, rounds, repeats));
-    print_limits();
-    if agree.contains(&false) {
+    let mut agree = true;
+    for (name, weeks) in shards.iter().chain(&clusters) {
+        agree &= measure(name, weeks, rounds, repeats);
+    }
+    println!(
+        "ns for a call by its kind, least of {} rounds",
+        rounds * repeats
+    );
+    for (name, weeks) in &clusters {
+        agree &= measure_kinds(name, weeks, rounds * repeats);
+    }
+    print_sizes();
+    if !agree {
         return ExitCode::FAILURE;
     }
-    println!("sums agree");
+    println!("answers agree");
     ExitCode::SUCCESS
 }
 
@@ -105,94 +97,86 @@ fn weeks(week: impl Fn(&mut Rng) -> Week) -> Vec<Week> {
 
 fn shard_of(rng: &mut Rng, style: ShardStyle) -> Week {
     let (number, records) = shard_week_of(rng, style);
-    week(Some(number), records)
+    Week::new(Some(number), records)
 }
 
 fn cluster_of(rng: &mut Rng, style: ClusterStyle) -> Week {
-    week(None, cluster_week_of(rng, style))
+    Week::new(None, cluster_week_of(rng, style))
 }
 
-fn week(shard: Option<u8>, records: Vec<Record>) -> Week {
-    let calls = records.iter().map(call_words).collect();
-    Week {
-        shard,
-        records,
-        calls,
-    }
-}
-
-/// Prints times, ratios and states' sizes; tells whether the sums agree.
+/// Prints times and their ratio; tells whether the answers agree.
 fn measure(name: &str, weeks: &[Week], rounds: usize, repeats: usize) -> bool {
-    // The loops take turns, so that a slow spell of the machine meets them all.
+    // The loops take turns, so that a slow spell of the machine meets both.
     let mut least = [Duration::MAX; LOOPS.len()];
-    let mut sums = [0_u64; LOOPS.len()];
+    let mut folds = [0_u64; LOOPS.len()];
     for _ in 0..repeats {
         for (number, (_, run)) in LOOPS.iter().enumerate() {
-            let start = Instant::now();
-            sums[number] = weeks.iter().fold(0, |sum, week| {
-                sum.wrapping_add(black_box(run(black_box(week), black_box(rounds))))
+            let mut time = Duration::ZERO;
+            folds[number] = weeks.iter().fold(0, |fold, week| {
+                let (codes, taken) = black_box(run(black_box(week), black_box(rounds)));
+                time += taken;
+                fold.wrapping_mul(31).wrapping_add(codes)
             });
-            least[number] = least[number].min(start.elapsed());
+            least[number] = least[number].min(time);
         }
     }
 
     let calls = weeks.iter().map(|week| week.calls.len()).sum::<usize>() * rounds;
     println!("{name} ({calls} calls)");
     for ((name, _), time) in LOOPS.iter().zip(least) {
-        println!(
-            "  {name:18} {:7.1}",
-            time.as_secs_f64() * 1e9 / calls as f64
-        );
+        println!("  {name:18} {:7.1}", nanoseconds(time, calls));
     }
-    let [engine, reference, fields] = least.map(|time| time.as_secs_f64());
-    println!("  engine / reference          {:.2}", engine / reference);
-    println!("  engine / reference, fields  {:.2}", engine / fields);
-    let sizes: Vec<usize> = weeks.iter().map(end_words).collect();
-    println!(
-        "  states at the end  {} to {} words",
-        sizes.iter().min().expect("there are weeks"),
-        sizes.iter().max().expect("there are weeks")
-    );
-    let agree = sums.iter().all(|&sum| sum == sums[0]);
+    println!("  engine / reference  {:6.2}", ratio(least));
+    let agree = folds[0] == folds[1];
     if !agree {
-        eprintln!("  the sums differ: {sums:?}");
+        eprintln!("  the answers differ");
     }
     agree
 }
 
-/// Words of the state that the week ends in.
-fn end_words(week: &Week) -> usize {
-    let mut words = Vec::new();
-    match week.shard {
-        Some(number) => {
-            let mut shard = Shard::new(number, LIMITS);
-            for record in &week.records {
-                let _ = shard.play(record);
-            }
-            push_state(&mut words, &shard);
+/// Prints the times by kind; tells whether the answers agree.
+fn measure_kinds(name: &str, weeks: &[Week], rounds: usize) -> bool {
+    let Some(kinds) = kinds(weeks, rounds) else {
+        eprintln!("{name}: the answers differ");
+        return false;
+    };
+    println!("{name:18}   calls   engine  reference  ratio");
+    let row = |name: &str, Kind { calls, times }: Kind| {
+        let [engine, reference] = times.map(|time| nanoseconds(time, calls));
+        let ratio = ratio(times);
+        println!("  {name:16} {calls:7} {engine:8.1} {reference:10.1} {ratio:6.2}");
+    };
+    let mut all = Kind::default();
+    for (name, kind) in KINDS.iter().zip(kinds) {
+        if kind.calls > 0 {
+            row(name, kind);
         }
-        None => {
-            let mut cluster = Cluster::new(LIMITS);
-            for record in &week.records {
-                let _ = cluster.play(record);
-            }
-            for shard in cluster.shards() {
-                push_state(&mut words, shard);
-            }
+        all.calls += kind.calls;
+        for (all, time) in all.times.iter_mut().zip(kind.times) {
+            *all += time;
         }
     }
-    words.len()
+    row("all", all);
+    true
 }
 
-fn print_limits() {
+fn nanoseconds(time: Duration, calls: usize) -> f64 {
+    time.as_secs_f64() * 1e9 / calls as f64
+}
+
+fn ratio([engine, reference]: [Duration; 2]) -> f64 {
+    engine.as_secs_f64() / reference.as_secs_f64()
+}
+
+fn print_sizes() {
     let shard = size_of::<Shard>()
         + LIMITS.tokens * size_of::<Token>()
         + LIMITS.transactions * size_of::<Known>()
         + usize::from(LIMITS.genesis);
     println!(
-        "state, at most: shard {SHARD_WORDS} words ({} bytes), cluster {CLUSTER_WORDS} words ({} \
-         bytes); the reference reserves {shard} bytes for a shard",
-        SHARD_WORDS * 8,
-        CLUSTER_WORDS * 8
+        "memory: shard {SHARD_WORDS} words ({} bytes), cluster {CLUSTER_WORDS} words ({} bytes); \
+         the reference reserves {shard} bytes for a shard",
+        SHARD_WORDS * 4,
+        CLUSTER_WORDS * 4
     );
 }

@@ -2,32 +2,39 @@ use Rattle.cluster.specs.Queries.{heldIn}
 use Rattle.cluster.proofs.Asked.{heldBy, held-in-all}
 use Rattle.loops.proofs.Loops.{Summing, sum-start, sum-next, sum-end}
 use Prim.Native.Nat.{_-_, _≤_, _*_}
-use Rattle.cluster.proofs.Long.{eight}
+use mathlib.Core.List.{[]}
 use native.Mathlib.Omega.{arith}
+use denote.Ref.{now}
 use borrow.Author.Needs.{needs}
 use Rattle.cluster.proofs.queries.total_amount.Statement.{statement}
 use Rattle.cluster.proofs.queries.total_amount.Tie as tie
 
 abbrev Inv-loop : tie.InvT-loop
-Inv-loop shards sum₀ i₀ sum i = (sum ≤ 549755813888 * i) × Summing heldBy shards 8 sum i
+Inv-loop c sum₀ i₀ sum i = (sum ≤ 549755813888 * i) × Summing heldBy c 8 sum i
 
 abbrev μ-loop : tie.MeasureT-loop
-μ-loop shards sum₀ i₀ sum i = 8 - i
+μ-loop c sum₀ i₀ sum i = 8 - i
 
 loop-holds : tie.Need-loop-holds Inv-loop μ-loop
-loop-holds c = (search needs, sum-start)
+loop-holds c = (omega arith, sum-start)
 
 mul-total-amount : tie.Need-mul-total-amount Inv-loop μ-loop
 mul-total-amount c = search needs
 
-array-copy-out-total-amount : tie.Need-array-copy-out-total-amount Inv-loop μ-loop
-array-copy-out-total-amount c = search needs
+index-1-total-amount : tie.Need-index-1-total-amount Inv-loop μ-loop
+index-1-total-amount c = search needs
 
 total-amount-requires : tie.Need-total-amount-requires Inv-loop μ-loop
-total-amount-requires c κs = c .before .before .before .before .pre (c .before .before .loop .i) (search needs) .sound
+total-amount-requires c κs =
+    let pre = c .before .before .before .pre in
+    let loop = c .before .before .loop in
+    pre .each (loop .i) (search needs) .sound
 
 add-sum : tie.Need-add-sum Inv-loop μ-loop
-add-sum c = omega (arith, c .total-amount .ensures .1)
+add-sum c =
+    let total-amount = c .total-amount in
+    let loop = c .before .before .before .loop in
+    omega (arith, total-amount .ensures .1, loop .inv .0, loop .inv .1 .within)
 
 add-i : tie.Need-add-i Inv-loop μ-loop
 add-i c = search needs
@@ -38,11 +45,18 @@ loop-less c = search needs
 loop-again : tie.Need-loop-again Inv-loop μ-loop
 unfolding heldIn
 loop-again c =
-    let long = eight (c .before .before .before .before .before .args .c) (c .before .before .before .before .before .good .0) in
-    (omega (arith, c .total-amount .ensures .1), sum-next _ _ (c .before .before .before .loop .inv .1) (search needs) (omega arith) (c .total-amount .ensures .0))
+    let loop = c .before .before .before .loop in
+    let pre = c .before .before .before .before .pre in
+    let total-amount = c .total-amount in
+    let next = sum-next [] _ (loop .inv .1) (search needs) (omega (arith, pre .eight)) (total-amount .ensures .0) in
+    (omega (arith, total-amount .ensures .1, loop .inv .0), next)
 
 returns : tie.Need-returns Inv-loop μ-loop
-returns c = held-in-all (c .before .before .before .args .c) (eight (c .before .before .before .args .c) (c .before .before .before .good .0)) (sum-end (c .before .loop .inv .1) (search needs))
+returns c =
+    let args = c .before .before .args in
+    let pre = c .before .before .pre in
+    let loop = c .before .loop in
+    held-in-all (now (args .c)) pre (sum-end (loop .inv .1) (omega arith))
 
 pub total-amount-spec : {M : Type 1} → statement M
 total-amount-spec =
@@ -52,7 +66,7 @@ total-amount-spec =
     μ-loop
     loop-holds
     mul-total-amount
-    array-copy-out-total-amount
+    index-1-total-amount
     total-amount-requires
     add-sum
     add-i

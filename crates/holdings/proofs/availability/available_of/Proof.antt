@@ -1,9 +1,10 @@
-use lib.ListN.{take}
-use Rattle.model.specs.Steps.{available}
-use Rattle.holdings.proofs.Long.{inputs-long}
-use Rattle.transaction.specs.Tokens.{zeroInput}
 use Rattle.loops.proofs.Fours.{keep-by}
+use Rattle.transaction.specs.Tokens.{zeroInput}
+use Rattle.layout.specs.Layout.{ledgerOf}
+use Rattle.holdings.proofs.Long.{inputs-long}
+use Rattle.model.specs.Steps.{available}
 use native.Mathlib.Omega.{arith}
+use denote.Ref.{now}
 use borrow.Author.Needs.{needs}
 use Rattle.holdings.proofs.availability.available_of.Statement.{statement}
 use Rattle.holdings.proofs.availability.available_of.Tie as tie
@@ -37,10 +38,25 @@ push-available-requires-4 c κs = search needs
 
 returns : tie.Need-returns
 returns c =
-    let h = c .before .before .before .before .before .before .before .before .before .before .args .here in (
-      keep-by zeroInput (h .list) (inputs-long h (c .before .before .before .before .before .before .before .before .before .before .good .1 .1 .0)) (available (take (c .before .before .before .before .before .before .before .before .before .before .args .held) (c .before .before .before .before .before .before .before .before .before .before .args .tokens))) (h .count) (c .before .before .before .before .before .before .before .before .no-inputs .ensures .0)
-          (c .before .before .before .before .before .before .push-available .ensures .0) (c .before .before .before .before .push-available2 .ensures .0) (c .before .before .push-available3 .ensures .0) (c .push-available4 .ensures .0),
-      omega (arith, c .before .before .before .before .before .before .before .before .no-inputs .ensures .1, c .before .before .before .before .before .before .push-available .ensures .1, c .before .before .before .before .push-available2 .ensures .1, c .before .before .push-available3 .ensures .1, c .push-available4 .ensures .1),
+    let args = c .before .before .before .before .before .before .before .before .before .before .args in
+    let good = c .before .before .before .before .before .before .before .before .before .before .good in
+    let no-inputs = c .before .before .before .before .before .before .before .before .no-inputs in
+    let push-available = c .before .before .before .before .before .before .push-available in
+    let push-available2 = c .before .before .before .before .push-available2 in
+    let push-available3 = c .before .before .push-available3 in
+    let push-available4 = c .push-available4 in
+    let here = args .here in
+    let long = inputs-long here (good .1 .0) in
+    let kept = keep-by zeroInput (here .list) long (available (ledgerOf (now (args .s)) .tokens)) (here .count) (no-inputs .ensures .0) in (
+      kept (push-available .ensures .0) (push-available2 .ensures .0) (push-available3 .ensures .0) (push-available4 .ensures .0),
+      omega (
+        arith,
+        no-inputs .ensures .1,
+        push-available .ensures .1,
+        push-available2 .ensures .1,
+        push-available3 .ensures .1,
+        push-available4 .ensures .1,
+      ),
     )
 
 pub available-of-spec : {M : Type 1} → statement M

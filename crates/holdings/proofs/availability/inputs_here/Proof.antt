@@ -36,11 +36,17 @@ push-if-requires-4 c κs = search needs
 returns : tie.Need-returns
 unfolding inputsHere
 returns c =
-    let t = c .before .before .before .before .before .before .before .before .before .before .before .before .before .before .args .t in (
-      keep-by zeroInput (t .inputs) (long-of t (c .before .before .before .before .before .before .before .before .before .before .before .before .before .before .good .1 .0) .inputs) (inputHere (c .before .before .before .before .before .before .before .before .before .before .before .before .before .before .args .me)) (t .«input_count») (c .before .before .before .before .before .before .before .before .no-inputs .ensures .0)
-          (c .before .before .before .before .before .before .push-if .ensures .0) (c .before .before .before .before .push-if2 .ensures .0) (c .before .before .push-if3 .ensures .0) (c .push-if4 .ensures .0),
-      search needs,
-    )
+    let args = c .before .before .before .before .before .before .before .before .before .before .before .before .before .before .args in
+    let good = c .before .before .before .before .before .before .before .before .before .before .before .before .before .before .good in
+    let no-inputs = c .before .before .before .before .before .before .before .before .no-inputs in
+    let push-if = c .before .before .before .before .before .before .push-if in
+    let push-if2 = c .before .before .before .before .push-if2 in
+    let push-if3 = c .before .before .push-if3 in
+    let push-if4 = c .push-if4 in
+    let t = args .t in
+    let long = long-of t (good .1 .0) .inputs in
+    let kept = keep-by zeroInput (t .inputs) long (inputHere (args .me)) (t .«input_count») in
+    (kept (no-inputs .ensures .0) (push-if .ensures .0) (push-if2 .ensures .0) (push-if3 .ensures .0) (push-if4 .ensures .0), search needs)
 
 pub inputs-here-spec : {M : Type 1} → statement M
 inputs-here-spec =

@@ -1,36 +1,43 @@
-use Rattle.loops.proofs.Loops.{Seeking, seek-start, seek-hit, seek-next, seek-end}
 use Rattle.model.specs.Steps.{freeFor, available}
-use lib.ListN.{length}
+use Rattle.loops.proofs.Loops.{Seeking, seek-start, seek-hit, seek-next, seek-end}
+use Rattle.layout.specs.Layout.{heldPlace, word, tokensOf, view, noToken}
+use Rattle.layout.proofs.Slots.{length-tokens}
 use Prim.Native.Nat.{_-_}
 use native.Mathlib.Omega.{arith}
-use mathlib.Core.Path.{_≡_, sym, _∙_}
+use mathlib.Core.Path.{_≡_, sym, ap, _∙_}
+use denote.Ref.{now}
 use borrow.Author.Needs.{needs}
 use Rattle.holdings.proofs.availability.is_available.Statement.{statement}
 use Rattle.holdings.proofs.availability.is_available.Tie as tie
 
 abbrev Inv-loop : tie.InvT-loop
-Inv-loop held x tokens k₀ k = Seeking (freeFor x) tokens held k
+Inv-loop s x n k₀ k = (n ≡ word s heldPlace) × Seeking (freeFor x) (tokensOf s) (word s heldPlace) k
 
 abbrev μ-loop : tie.MeasureT-loop
-μ-loop held x tokens k₀ k = held - k
+μ-loop s x n k₀ k = n - k
+
+held-requires : tie.Need-held-requires Inv-loop μ-loop
+held-requires c κs = search needs
 
 loop-holds : tie.Need-loop-holds Inv-loop μ-loop
-loop-holds c = seek-start
+loop-holds c = (search needs, seek-start)
 
-mul-token : tie.Need-mul-token Inv-loop μ-loop
-mul-token c = search needs
-
-array-copy-out-token : tie.Need-array-copy-out-token Inv-loop μ-loop
-array-copy-out-token c = search needs
+token-at-requires : tie.Need-token-at-requires Inv-loop μ-loop
+token-at-requires c κs = search needs
 
 is-free-for-requires : tie.Need-is-free-for-requires Inv-loop μ-loop
 is-free-for-requires c κs = search needs
 
 returns : tie.Need-returns Inv-loop μ-loop
-unfolding available
+unfolding view available
 returns c =
-    let long : length (c .before .before .before .before .before .args .t1) ≡ 128 = search needs in
-    sym (seek-hit _ (c .before .before .before .before .loop .inv) (search needs) (omega arith) (sym (c .before .is-free-for .ensures) ∙ c .if1 .taken))
+    let args = c .before .before .before .before .before .before .args in
+    let token-at = c .before .before .token-at in
+    let is-free-for = c .before .is-free-for in
+    let if1 = c .if1 in
+    let loop = c .before .before .before .before .loop in
+    let free = ap (freeFor (args .x)) (sym (token-at .ensures)) ∙ sym (is-free-for .ensures) ∙ if1 .taken in
+    sym (seek-hit noToken (loop .inv .1) (omega arith) (omega (arith, length-tokens (now (args .s)))) free)
 
 add-k : tie.Need-add-k Inv-loop μ-loop
 add-k c = search needs
@@ -40,12 +47,19 @@ loop-less c = search needs
 
 loop-again : tie.Need-loop-again Inv-loop μ-loop
 loop-again c =
-    let long : length (c .before .before .before .before .before .args .t1) ≡ 128 = search needs in
-    seek-next _ (c .before .before .before .before .loop .inv) (search needs) (omega arith) (sym (c .before .is-free-for .ensures) ∙ c .if1 .left)
+    let args = c .before .before .before .before .before .before .args in
+    let token-at = c .before .before .token-at in
+    let is-free-for = c .before .is-free-for in
+    let if1 = c .if1 in
+    let loop = c .before .before .before .before .loop in
+    let free = ap (freeFor (args .x)) (sym (token-at .ensures)) ∙ sym (is-free-for .ensures) ∙ if1 .left in
+    (loop .inv .0, seek-next noToken (loop .inv .1) (omega arith) (omega (arith, length-tokens (now (args .s)))) free)
 
 returns-2 : tie.Need-returns-2 Inv-loop μ-loop
-unfolding available
-returns-2 c = sym (seek-end (c .before .loop .inv) (search needs))
+unfolding view available
+returns-2 c =
+    let loop = c .before .loop in
+    sym (seek-end (loop .inv .1) (omega arith))
 
 pub is-available-spec : {M : Type 1} → statement M
 is-available-spec =
@@ -53,9 +67,9 @@ is-available-spec =
     (tie.spec
     Inv-loop
     μ-loop
+    held-requires
     loop-holds
-    mul-token
-    array-copy-out-token
+    token-at-requires
     is-free-for-requires
     returns
     add-k

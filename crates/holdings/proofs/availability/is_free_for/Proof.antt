@@ -1,3 +1,5 @@
+use mathlib.Core.Path.{refl, sym, _∙_}
+use borrow.Author.Tests.{not-true, not-false}
 use borrow.Author.Needs.{needs}
 use Rattle.holdings.proofs.availability.is_free_for.Statement.{statement}
 use Rattle.holdings.proofs.availability.is_free_for.Tie as tie
@@ -6,7 +8,16 @@ names-token-requires : tie.Need-names-token-requires
 names-token-requires c κs = search needs
 
 returns : tie.Need-returns
-returns c = cc
+returns c =
+    let names-token = c .before .names-token in
+    let if1 = c .if1 in
+    rw (sym (names-token .ensures) ∙ not-true _ (if1 .taken)) refl
+
+returns-2 : tie.Need-returns-2
+returns-2 c =
+    let names-token = c .before .before .before .before .before .before .names-token in
+    let if1 = c .before .before .before .before .before .if1 in
+    rw (sym (names-token .ensures) ∙ not-false _ (if1 .left)) refl
 
 pub is-free-for-spec : {M : Type 1} → statement M
-is-free-for-spec = tie.close (tie.spec names-token-requires returns)
+is-free-for-spec = tie.close (tie.spec names-token-requires returns returns-2)

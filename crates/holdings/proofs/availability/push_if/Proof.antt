@@ -7,8 +7,10 @@ use Rattle.holdings.proofs.availability.push_if.Tie as tie
 
 returns : tie.Need-returns
 returns c =
-    let b = c .before .args .before in
-    (push-none (c .before .args .wanted) (b .list) (b .count) (c .before .args .x) (c .if1 .taken), search needs)
+    let args = c .before .args in
+    let if1 = c .if1 in
+    let b = args .before in
+    (push-none (args .wanted) (b .list) (b .count) (args .x) (if1 .taken), search needs)
 
 mul-list : tie.Need-mul-list
 mul-list c = search needs
@@ -21,9 +23,13 @@ add-t7 c = search needs
 
 returns-2 : tie.Need-returns-2
 returns-2 c =
-    let b = c .before .before .args .before in
-    let long = inputs-long b (c .before .before .good .0) in
-    (push-one (c .before .before .args .wanted) (b .list) (b .count) (c .before .before .args .x) (c .before .if1 .left) (omega (arith, c .before .before .pre, long)), search needs)
+    let args = c .before .before .args in
+    let good = c .before .before .good in
+    let if1 = c .before .if1 in
+    let pre = c .before .before .pre in
+    let b = args .before in
+    let long = inputs-long b (good .0) in
+    (push-one (args .wanted) (b .list) (b .count) (args .x) (if1 .left) (omega (arith, pre, long)), search needs)
 
 pub push-if-spec : {M : Type 1} → statement M
 push-if-spec = tie.close (tie.spec returns mul-list array-set-from-list add-t7 returns-2)

@@ -1,8 +1,6 @@
-use lib.ListN.{length, take, length-append}
-use Rattle.model.specs.Lists.{keep}
-use Rattle.model.specs.Steps.{commit, stays, inputsHere, madeHere}
-use native.Mathlib.Omega.{arith}
-use mathlib.Core.Path.{_≡_, refl, _∙_}
+use Rattle.holdings.proofs.Tokens.{commit-room, committed}
+use Rattle.holdings.specs.Held.{inputsOf}
+use denote.Ref.{now}
 use borrow.Author.Needs.{needs}
 use Rattle.holdings.proofs.committing.commit_here.Statement.{statement}
 use Rattle.holdings.proofs.committing.commit_here.Tie as tie
@@ -14,16 +12,25 @@ destroy-requires : tie.Need-destroy-requires
 destroy-requires c κs = search needs
 
 make-requires : tie.Need-make-requires
-unfolding commit
 make-requires c κs =
-    let e : c .destroy .result .count ≡ length (keep (stays (inputsHere (c .before .before .args .me) (c .before .before .args .t))) (take (c .before .before .args .held) (c .before .before .args .tokens))) = rw (← c .before .inputs-here .ensures .0) (c .destroy .ensures .1) in
-    omega (arith, c .before .before .pre .1, length-append (keep (stays (inputsHere (c .before .before .args .me) (c .before .before .args .t))) (take (c .before .before .args .held) (c .before .before .args .tokens))) (madeHere (c .before .before .args .me) (c .before .before .args .t)))
+    let inputs-here = c .before .before .before .inputs-here in
+    let args = c .before .before .before .before .args in
+    let pre = c .before .before .before .before .pre in
+    let destroy = c .before .destroy in
+    let here = inputsOf (inputs-here .result) in
+    let law = commit-room (args .me) (args .t) here (inputs-here .ensures .0) (now (args .s)) _ (pre .0) (destroy .ensures) in
+    law (pre .1)
 
 returns : tie.Need-returns
-unfolding commit
 returns c =
-    let e : c .before .destroy .result .count ≡ length (keep (stays (inputsHere (c .before .before .before .args .me) (c .before .before .before .args .t))) (take (c .before .before .before .args .held) (c .before .before .before .args .tokens))) = rw (← c .before .before .inputs-here .ensures .0) (c .before .destroy .ensures .1) in
-    (c .make .ensures .0 ∙ rw (c .before .destroy .ensures .0, c .before .before .inputs-here .ensures .0) refl, omega (arith, c .make .ensures .1, length-append (keep (stays (inputsHere (c .before .before .before .args .me) (c .before .before .before .args .t))) (take (c .before .before .before .args .held) (c .before .before .before .args .tokens))) (madeHere (c .before .before .before .args .me) (c .before .before .before .args .t))))
+    let inputs-here = c .before .before .before .before .inputs-here in
+    let args = c .before .before .before .before .before .args in
+    let pre = c .before .before .before .before .before .pre in
+    let destroy = c .before .before .destroy in
+    let make = c .make in
+    let here = inputsOf (inputs-here .result) in
+    let law = committed (args .me) (args .t) here (inputs-here .ensures .0) (now (args .s)) _ (pre .0) (destroy .ensures) in
+    law _ (make .ensures)
 
 pub commit-here-spec : {M : Type 1} → statement M
 commit-here-spec = tie.close (tie.spec inputs-here-requires destroy-requires make-requires returns)

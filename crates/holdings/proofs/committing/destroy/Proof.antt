@@ -1,83 +1,74 @@
-use lib.Seq.{length-take-le}
-use Rattle.loops.proofs.Loops.{Keeping, keep-start, keep-in, keep-out, keep-end}
-use Rattle.holdings.specs.Arrays.{inputsOf}
-use Rattle.model.specs.Steps.{stays}
-use mathlib.Core.Bool.{not}
-use lib.ListN.{length}
-use Prim.Native.Nat.{_-_}
-use native.Mathlib.Omega.{arith}
-use mathlib.Core.Path.{_≡_, sym, ap, _∙_}
+use Rattle.holdings.proofs.Long.{inputs-long}
+use Rattle.holdings.proofs.Tokens.{destroying-in-turn, turn-room, four-turns}
+use denote.Ref.{now}
 use borrow.Author.Needs.{needs}
 use Rattle.holdings.proofs.committing.destroy.Statement.{statement}
 use Rattle.holdings.proofs.committing.destroy.Tie as tie
 
-abbrev Inv-loop : tie.InvT-loop
-Inv-loop held inputs tokens list₀ count₀ k₀ list count k = Keeping (stays (inputsOf inputs)) tokens held 128 list count k
+array-copy-out-destroy-if : tie.Need-array-copy-out-destroy-if
+array-copy-out-destroy-if c = search needs
 
-abbrev μ-loop : tie.MeasureT-loop
-μ-loop held inputs tokens list₀ count₀ k₀ list count k = held - k
+destroy-if-requires : tie.Need-destroy-if-requires
+destroy-if-requires c κs = search needs
 
-loop-holds : tie.Need-loop-holds Inv-loop μ-loop
-loop-holds c = keep-start _ (search needs)
+array-copy-out-destroy-if-2 : tie.Need-array-copy-out-destroy-if-2
+array-copy-out-destroy-if-2 c = search needs
 
-mul-token : tie.Need-mul-token Inv-loop μ-loop
-mul-token c = search needs
+destroy-if-requires-2 : tie.Need-destroy-if-requires-2
+destroy-if-requires-2 c κs =
+    let args = c .before .before .before .before .before .before .args in
+    let pre = c .before .before .before .before .before .before .pre in
+    let destroy-if = c .before .before .destroy-if in
+    turn-room destroying-in-turn (now (args .s)) _ pre (destroy-if .ensures)
 
-array-copy-out-token : tie.Need-array-copy-out-token Inv-loop μ-loop
-array-copy-out-token c = search needs
+array-copy-out-destroy-if-3 : tie.Need-array-copy-out-destroy-if-3
+array-copy-out-destroy-if-3 c = search needs
 
-add-k : tie.Need-add-k Inv-loop μ-loop
-add-k c = search needs
+destroy-if-requires-3 : tie.Need-destroy-if-requires-3
+destroy-if-requires-3 c κs =
+    let args = c .before .before .before .before .before .before .before .before .before .args in
+    let pre = c .before .before .before .before .before .before .before .before .before .pre in
+    let destroy-if = c .before .before .before .before .before .destroy-if in
+    let destroy-if2 = c .before .before .destroy-if2 in
+    let room = turn-room destroying-in-turn (now (args .s)) _ pre (destroy-if .ensures) in
+    turn-room destroying-in-turn _ _ room (destroy-if2 .ensures)
 
-is-named-requires : tie.Need-is-named-requires Inv-loop μ-loop
-is-named-requires c κs = search needs
+array-copy-out-destroy-if-4 : tie.Need-array-copy-out-destroy-if-4
+array-copy-out-destroy-if-4 c = search needs
 
-mul-list : tie.Need-mul-list Inv-loop μ-loop
-mul-list c = search needs
+destroy-if-requires-4 : tie.Need-destroy-if-requires-4
+destroy-if-requires-4 c κs =
+    let args = c .before .before .before .before .before .before .before .before .before .before .before .before .args in
+    let pre = c .before .before .before .before .before .before .before .before .before .before .before .before .pre in
+    let destroy-if = c .before .before .before .before .before .before .before .before .destroy-if in
+    let destroy-if2 = c .before .before .before .before .before .destroy-if2 in
+    let destroy-if3 = c .before .before .destroy-if3 in
+    let room = turn-room destroying-in-turn (now (args .s)) _ pre (destroy-if .ensures) in
+    let room2 = turn-room destroying-in-turn _ _ room (destroy-if2 .ensures) in
+    turn-room destroying-in-turn _ _ room2 (destroy-if3 .ensures)
 
-array-set-from-list : tie.Need-array-set-from-list Inv-loop μ-loop
-array-set-from-list c = search needs
-
-add-count : tie.Need-add-count Inv-loop μ-loop
-add-count c = search needs
-
-loop-less : tie.Need-loop-less Inv-loop μ-loop
-loop-less c = search needs
-
-loop-again : tie.Need-loop-again Inv-loop μ-loop
-loop-again c =
-    let long : length (c .before .before .before .before .before .args .t1) ≡ 128 = search needs in
-    keep-in _ (c .before .before .before .before .loop .inv) (search needs) (omega arith) (omega arith) (ap not (sym (c .before .is-named .ensures)) ∙ c .if1 .taken)
-
-loop-less-2 : tie.Need-loop-less-2 Inv-loop μ-loop
-loop-less-2 c = search needs
-
-loop-again-2 : tie.Need-loop-again-2 Inv-loop μ-loop
-loop-again-2 c =
-    let long : length (c .before .before .before .before .before .args .t1) ≡ 128 = search needs in
-    keep-out _ (c .before .before .before .before .loop .inv) (search needs) (omega arith) (omega arith) (ap not (sym (c .before .is-named .ensures)) ∙ c .if1 .left)
-
-returns : tie.Need-returns Inv-loop μ-loop
+returns : tie.Need-returns
 returns c =
-    let e = keep-end (c .before .loop .inv) (search needs) in
-    (e, sym (length-take-le (c .before .loop .count) (c .before .loop .list) (omega (arith, c .before .loop .inv .behind, c .before .loop .inv .within, c .before .loop .inv .long))) ∙ ap length e)
+    let args = c .before .before .before .before .before .before .before .before .before .before .before .before .before .args in
+    let good = c .before .before .before .before .before .before .before .before .before .before .before .before .before .good in
+    let destroy-if = c .before .before .before .before .before .before .before .before .before .destroy-if in
+    let destroy-if2 = c .before .before .before .before .before .before .destroy-if2 in
+    let destroy-if3 = c .before .before .before .destroy-if3 in
+    let destroy-if4 = c .destroy-if4 in
+    let x = args .inputs in
+    let law = four-turns destroying-in-turn (x .list) (x .count) (inputs-long x (good .1 .0)) (now (args .s)) _ _ _ _ in
+    law (destroy-if .ensures) (destroy-if2 .ensures) (destroy-if3 .ensures) (destroy-if4 .ensures)
 
 pub destroy-spec : {M : Type 1} → statement M
 destroy-spec =
     tie.close
     (tie.spec
-    Inv-loop
-    μ-loop
-    loop-holds
-    mul-token
-    array-copy-out-token
-    add-k
-    is-named-requires
-    mul-list
-    array-set-from-list
-    add-count
-    loop-less
-    loop-again
-    loop-less-2
-    loop-again-2
+    array-copy-out-destroy-if
+    destroy-if-requires
+    array-copy-out-destroy-if-2
+    destroy-if-requires-2
+    array-copy-out-destroy-if-3
+    destroy-if-requires-3
+    array-copy-out-destroy-if-4
+    destroy-if-requires-4
     returns)

@@ -1,35 +1,57 @@
-use lib.ListN.{length}
-use Prim.Native.Nat.{_<_}
-use mathlib.Core.Bool.{_&&_}
+use mathlib.Core.Bool.{Bool, _&&_}
+use Rattle.model.specs.declared.Token.{Token}
 use Rattle.model.specs.Steps.{outputHere, tokenOf}
-use Rattle.holdings.proofs.Long.{holdings-long}
-use Rattle.holdings.proofs.Made.{push-none, push-one, none-more, one-more}
+use Rattle.holdings.proofs.Tokens.{one-made, none-made, one-room}
 use native.Mathlib.Omega.{arith}
+use denote.Ref.{now}
 use borrow.Author.Needs.{needs}
 use Rattle.holdings.proofs.committing.make_one.Statement.{statement}
 use Rattle.holdings.proofs.committing.make_one.Tie as tie
 
+held-requires : tie.Need-held-requires
+held-requires c κs = search needs
+
+put-token-requires : tie.Need-put-token-requires
+put-token-requires c κs =
+    let args = c .before .before .before .before .before .args in
+    let if1 = c .before .before .before .if1 in
+    let wanted = args .used && outputHere (args .me) (args .y) in
+    let one = one-room wanted (tokenOf (args .number) (args .index) (args .y)) (if1 .taken) in
+    (omega (arith, one), search needs)
+
+add-set-held : tie.Need-add-set-held
+add-set-held c = search needs
+
+set-held-requires : tie.Need-set-held-requires
+set-held-requires c κs =
+    let args = c .before .before .before .before .before .before .before .args in
+    let if1 = c .before .before .before .before .before .if1 in
+    let put-token = c .before .put-token in
+    let wanted = args .used && outputHere (args .me) (args .y) in
+    let one = one-room wanted (tokenOf (args .number) (args .index) (args .y)) (if1 .taken) in
+    (omega (arith, one), put-token .ensures .long)
+
 returns : tie.Need-returns
 returns c =
-    let b = c .before .before .args .before in
-    (push-none (c .before .before .args .used && outputHere (c .before .before .args .me) (c .before .before .args .y)) (b .list) (b .count) (tokenOf (c .before .before .args .number) (c .before .before .args .index) (c .before .before .args .y)) (c .if1 .taken), none-more (c .before .before .args .used && outputHere (c .before .before .args .me) (c .before .before .args .y)) (b .list) (b .count) (tokenOf (c .before .before .args .number) (c .before .before .args .index) (c .before .before .args .y)) (c .if1 .taken))
-
-mul-list : tie.Need-mul-list
-mul-list c = search needs
-
-array-set-from-list : tie.Need-array-set-from-list
-array-set-from-list c =
-    let b = c .before .before .before .args .before in
-    omega (arith, c .before .before .before .pre, one-more (c .before .before .before .args .used && outputHere (c .before .before .before .args .me) (c .before .before .before .args .y)) (b .list) (b .count) (tokenOf (c .before .before .before .args .number) (c .before .before .before .args .index) (c .before .before .before .args .y)) (c .before .if1 .left))
-
-add-t13 : tie.Need-add-t13
-add-t13 c = search needs
+    let args = c .before .before .before .before .before .before .before .before .args in
+    let if1 = c .before .before .before .before .before .before .if1 in
+    let held = c .before .before .before .before .held in
+    let put-token = c .before .before .put-token in
+    let set-held = c .set-held in
+    let wanted = args .used && outputHere (args .me) (args .y) in
+    let token = tokenOf (args .number) (args .index) (args .y) in
+    let one = one-room wanted token (if1 .taken) in
+    one-made (now (args .s)) wanted token _ _ _ (if1 .taken) (held .ensures) (omega (arith, one)) (put-token .ensures) (set-held .ensures)
 
 returns-2 : tie.Need-returns-2
 returns-2 c =
-    let b = c .before .before .before .args .before in
-    let room : b .count < length (b .list) = omega (arith, c .before .before .before .pre, one-more (c .before .before .before .args .used && outputHere (c .before .before .before .args .me) (c .before .before .before .args .y)) (b .list) (b .count) (tokenOf (c .before .before .before .args .number) (c .before .before .before .args .index) (c .before .before .before .args .y)) (c .before .if1 .left), holdings-long b (c .before .before .before .good .0)) in
-    (push-one (c .before .before .before .args .used && outputHere (c .before .before .before .args .me) (c .before .before .before .args .y)) (b .list) (b .count) (tokenOf (c .before .before .before .args .number) (c .before .before .before .args .index) (c .before .before .before .args .y)) (c .before .if1 .left) room, one-more (c .before .before .before .args .used && outputHere (c .before .before .before .args .me) (c .before .before .before .args .y)) (b .list) (b .count) (tokenOf (c .before .before .before .args .number) (c .before .before .before .args .index) (c .before .before .before .args .y)) (c .before .if1 .left))
+    let args = c .before .before .args in
+    let if1 = c .if1 in
+    let pre = c .before .before .pre in
+    let wanted = args .used && outputHere (args .me) (args .y) in
+    none-made (now (args .s)) wanted (tokenOf (args .number) (args .index) (args .y)) (if1 .left) (pre .0)
 
 pub make-one-spec : {M : Type 1} → statement M
-make-one-spec = tie.close (tie.spec returns mul-list array-set-from-list add-t13 returns-2)
+make-one-spec =
+    tie.close
+    (tie.spec held-requires put-token-requires add-set-held set-held-requires returns returns-2)

@@ -1,66 +1,76 @@
-use Rattle.loops.proofs.Loops.{Mapping, map-start, map-next, map-end}
-use Rattle.holdings.specs.Arrays.{inputsOf}
-use Rattle.model.specs.Steps.{pledgeIf, pledges}
-use lib.ListN.{length}
-use Prim.Native.Nat.{_-_}
-use native.Mathlib.Omega.{arith}
-use mathlib.Core.Path.{_≡_}
+use Rattle.holdings.proofs.Long.{inputs-long}
+use Rattle.holdings.proofs.Tokens.{pledges-in-turn, turn-room, four-turns}
+use denote.Ref.{now}
 use borrow.Author.Needs.{needs}
 use Rattle.holdings.proofs.pledging.pledge_all.Statement.{statement}
 use Rattle.holdings.proofs.pledging.pledge_all.Tie as tie
 
-abbrev Inv-loop : tie.InvT-loop
-Inv-loop held number inputs tokens after₀ k₀ after k = Mapping (pledgeIf number (inputsOf inputs)) tokens held 128 after k
-
-abbrev μ-loop : tie.MeasureT-loop
-μ-loop held number inputs tokens after₀ k₀ after k = held - k
-
-loop-holds : tie.Need-loop-holds Inv-loop μ-loop
-loop-holds c = map-start _ (search needs)
-
-mul-pledge-if : tie.Need-mul-pledge-if Inv-loop μ-loop
-mul-pledge-if c = search needs
-
-array-copy-out-pledge-if : tie.Need-array-copy-out-pledge-if Inv-loop μ-loop
+array-copy-out-pledge-if : tie.Need-array-copy-out-pledge-if
 array-copy-out-pledge-if c = search needs
 
-pledge-if-requires : tie.Need-pledge-if-requires Inv-loop μ-loop
+pledge-if-requires : tie.Need-pledge-if-requires
 pledge-if-requires c κs = search needs
 
-mul-after : tie.Need-mul-after Inv-loop μ-loop
-mul-after c = search needs
+array-copy-out-pledge-if-2 : tie.Need-array-copy-out-pledge-if-2
+array-copy-out-pledge-if-2 c = search needs
 
-array-set-from-after : tie.Need-array-set-from-after Inv-loop μ-loop
-array-set-from-after c = search needs
+pledge-if-requires-2 : tie.Need-pledge-if-requires-2
+pledge-if-requires-2 c κs =
+    let args = c .before .before .before .before .before .before .args in
+    let pre = c .before .before .before .before .before .before .pre in
+    let pledge-if = c .before .before .pledge-if in
+    turn-room (pledges-in-turn (args .number)) (now (args .s)) _ pre (pledge-if .ensures)
 
-add-k : tie.Need-add-k Inv-loop μ-loop
-add-k c = search needs
+array-copy-out-pledge-if-3 : tie.Need-array-copy-out-pledge-if-3
+array-copy-out-pledge-if-3 c = search needs
 
-loop-less : tie.Need-loop-less Inv-loop μ-loop
-loop-less c = search needs
+pledge-if-requires-3 : tie.Need-pledge-if-requires-3
+pledge-if-requires-3 c κs =
+    let args = c .before .before .before .before .before .before .before .before .before .args in
+    let pre = c .before .before .before .before .before .before .before .before .before .pre in
+    let pledge-if = c .before .before .before .before .before .pledge-if in
+    let pledge-if2 = c .before .before .pledge-if2 in
+    let turn = pledges-in-turn (args .number) in
+    let room = turn-room turn (now (args .s)) _ pre (pledge-if .ensures) in
+    turn-room turn _ _ room (pledge-if2 .ensures)
 
-loop-again : tie.Need-loop-again Inv-loop μ-loop
-loop-again c =
-    let long : length (c .before .before .before .before .args .t1) ≡ 128 = search needs in
-    map-next _ _ (c .before .before .before .loop .inv) (search needs) (omega arith) (omega arith) (c .pledge-if .ensures)
+array-copy-out-pledge-if-4 : tie.Need-array-copy-out-pledge-if-4
+array-copy-out-pledge-if-4 c = search needs
 
-returns : tie.Need-returns Inv-loop μ-loop
-unfolding pledges
-returns c = map-end (c .before .loop .inv) (search needs)
+pledge-if-requires-4 : tie.Need-pledge-if-requires-4
+pledge-if-requires-4 c κs =
+    let args = c .before .before .before .before .before .before .before .before .before .before .before .before .args in
+    let pre = c .before .before .before .before .before .before .before .before .before .before .before .before .pre in
+    let pledge-if = c .before .before .before .before .before .before .before .before .pledge-if in
+    let pledge-if2 = c .before .before .before .before .before .pledge-if2 in
+    let pledge-if3 = c .before .before .pledge-if3 in
+    let turn = pledges-in-turn (args .number) in
+    let room = turn-room turn (now (args .s)) _ pre (pledge-if .ensures) in
+    let room2 = turn-room turn _ _ room (pledge-if2 .ensures) in
+    turn-room turn _ _ room2 (pledge-if3 .ensures)
+
+returns : tie.Need-returns
+returns c =
+    let args = c .before .before .before .before .before .before .before .before .before .before .before .before .before .args in
+    let good = c .before .before .before .before .before .before .before .before .before .before .before .before .before .good in
+    let pledge-if = c .before .before .before .before .before .before .before .before .before .pledge-if in
+    let pledge-if2 = c .before .before .before .before .before .before .pledge-if2 in
+    let pledge-if3 = c .before .before .before .pledge-if3 in
+    let pledge-if4 = c .pledge-if4 in
+    let x = args .inputs in
+    let law = four-turns (pledges-in-turn (args .number)) (x .list) (x .count) (inputs-long x (good .1 .1 .0)) (now (args .s)) _ _ _ _ in
+    law (pledge-if .ensures) (pledge-if2 .ensures) (pledge-if3 .ensures) (pledge-if4 .ensures)
 
 pub pledge-all-spec : {M : Type 1} → statement M
 pledge-all-spec =
     tie.close
     (tie.spec
-    Inv-loop
-    μ-loop
-    loop-holds
-    mul-pledge-if
     array-copy-out-pledge-if
     pledge-if-requires
-    mul-after
-    array-set-from-after
-    add-k
-    loop-less
-    loop-again
+    array-copy-out-pledge-if-2
+    pledge-if-requires-2
+    array-copy-out-pledge-if-3
+    pledge-if-requires-3
+    array-copy-out-pledge-if-4
+    pledge-if-requires-4
     returns)

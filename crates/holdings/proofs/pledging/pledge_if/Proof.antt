@@ -1,16 +1,24 @@
-use mathlib.Core.Path.{refl, sym, _∙_}
+use Rattle.holdings.proofs.Tokens.{pledges-in-turn, turn-none}
+use denote.Ref.{now}
 use borrow.Author.Needs.{needs}
 use Rattle.holdings.proofs.pledging.pledge_if.Statement.{statement}
 use Rattle.holdings.proofs.pledging.pledge_if.Tie as tie
 
-is-named-requires : tie.Need-is-named-requires
-is-named-requires c κs = search needs
+pledge-named-requires : tie.Need-pledge-named-requires
+pledge-named-requires c κs = search needs
 
 returns : tie.Need-returns
-returns c = rw (sym (c .before .is-named .ensures) ∙ c .if1 .taken) refl
+returns c =
+    let if1 = c .before .before .if1 in
+    let pledge-named = c .pledge-named in
+    rw (if1 .taken) (pledge-named .ensures)
 
 returns-2 : tie.Need-returns-2
-returns-2 c = rw (sym (c .before .is-named .ensures) ∙ c .if1 .left) refl
+returns-2 c =
+    let args = c .before .args in
+    let if1 = c .if1 in
+    let pre = c .before .pre in
+    turn-none (pledges-in-turn (args .number)) (now (args .s)) (args .used) (args .x) (if1 .left) (pre)
 
 pub pledge-if-spec : {M : Type 1} → statement M
-pledge-if-spec = tie.close (tie.spec is-named-requires returns returns-2)
+pledge-if-spec = tie.close (tie.spec pledge-named-requires returns returns-2)

@@ -46,7 +46,8 @@ loop-again c =
     let loop = c .before .before .loop in
     let widen = c .widen in
     let pre = c .before .before .before .pre in
-    noting-next (args .b) (args .t3) (now (args .s)) (loop .s) (loop .i) (widen .result) (loop .inv) (search needs) (omega (arith, pre)) (widen .ensures .0) (widen .ensures .1)
+    noting-next (args .b) (args .t3) (now (args .s)) (loop .s) (loop .i) (widen .result) (loop .inv) (search needs) (omega (arith, pre))
+    (widen .ensures .0) (widen .ensures .1)
 
 returns : tie.Need-returns Inv-loop μ-loop
 returns c =

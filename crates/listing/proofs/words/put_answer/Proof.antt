@@ -58,20 +58,54 @@ put-word-requires-4 c κs = search needs
 put-outcome-requires-3 : tie.Need-put-outcome-requires-3
 put-outcome-requires-3 c κs = search needs
 
+same-length : tie.Need-same-length
+same-length c = search needs
+
 returns : tie.Need-returns
-returns c = rw (c .before .before .before .before .before .before .answer .given .1) (two _ _ 13 (omega arith) (c .before .before .put-word .ensures) (c .put-small .ensures))
+returns c =
+    let answer = c .before .before .before .before .before .before .before .before .before .before .answer in
+    let put-word = c .before .before .before .before .before .before .put-word in
+    let put-small = c .before .before .put-small in
+    rw (answer .given .1) (two _ _ 13 (omega arith) (put-word .ensures) (put-small .ensures))
+
+same-length-2 : tie.Need-same-length-2
+same-length-2 c = search needs
 
 returns-2 : tie.Need-returns-2
-returns-2 c = rw (c .before .before .before .enum-told .given .1) (wider 13 (c .put-word2 .ensures) (omega arith))
+returns-2 c =
+    let enum-told = c .before .before .before .before .before .enum-told in
+    let put-word2 = c .before .before .put-word2 in
+    rw (enum-told .given .1) (wider 13 (put-word2 .ensures) (omega arith))
+
+same-length-3 : tie.Need-same-length-3
+same-length-3 c = search needs
 
 returns-3 : tie.Need-returns-3
-returns-3 c = rw (c .before .before .before .before .before .answer2 .given .1) (two _ _ 13 (omega arith) (c .before .before .put-verdict .ensures) (c .put-outcome .ensures))
+returns-3 c =
+    let answer2 = c .before .before .before .before .before .before .before .before .before .answer2 in
+    let put-verdict = c .before .before .before .before .before .before .put-verdict in
+    let put-outcome = c .before .before .put-outcome in
+    rw (answer2 .given .1) (two _ _ 13 (omega arith) (put-verdict .ensures) (put-outcome .ensures))
+
+same-length-4 : tie.Need-same-length-4
+same-length-4 c = search needs
 
 returns-4 : tie.Need-returns-4
-returns-4 c = rw (c .before .before .before .before .before .before .answer3 .given .1) (two _ _ 13 (omega arith) (c .before .before .put-word3 .ensures) (c .put-outcome2 .ensures))
+returns-4 c =
+    let answer3 = c .before .before .before .before .before .before .before .before .before .before .answer3 in
+    let put-word3 = c .before .before .before .before .before .before .put-word3 in
+    let put-outcome2 = c .before .before .put-outcome2 in
+    rw (answer3 .given .1) (two _ _ 13 (omega arith) (put-word3 .ensures) (put-outcome2 .ensures))
+
+same-length-5 : tie.Need-same-length-5
+same-length-5 c = search needs
 
 returns-5 : tie.Need-returns-5
-returns-5 c = rw (c .before .before .before .before .before .before .answer4 .given .1) (two _ _ 13 (omega arith) (c .before .before .put-word4 .ensures) (c .put-outcome3 .ensures))
+returns-5 c =
+    let answer4 = c .before .before .before .before .before .before .before .before .before .before .answer4 in
+    let put-word4 = c .before .before .before .before .before .before .put-word4 in
+    let put-outcome3 = c .before .before .put-outcome3 in
+    rw (answer4 .given .1) (two _ _ 13 (omega arith) (put-word4 .ensures) (put-outcome3 .ensures))
 
 pub put-answer-spec : {M : Type 1} → statement M
 put-answer-spec =
@@ -95,8 +129,13 @@ put-answer-spec =
     slice-aggregate-put-word-4
     put-word-requires-4
     put-outcome-requires-3
+    same-length
     returns
+    same-length-2
     returns-2
+    same-length-3
     returns-3
+    same-length-4
     returns-4
+    same-length-5
     returns-5)

@@ -15,10 +15,21 @@ slice-aggregate-put-text : tie.Need-slice-aggregate-put-text
 slice-aggregate-put-text c = search needs
 
 put-text-requires : tie.Need-put-text-requires
-put-text-requires c κs = omega (arith, few (c .before .before .decimal .result) (c .before .before .before .before .args .n) (search needs) (c .before .before .decimal .ensures .1 .0), c .before .before .decimal .ensures .0 .1)
+put-text-requires c κs =
+    let decimal = c .before .before .decimal in
+    let args = c .before .before .before .before .before .args in
+    omega (arith, few (decimal .result) (args .n) (search needs) (decimal .ensures .1 .0), decimal .ensures .0 .1)
+
+same-length : tie.Need-same-length
+same-length c = search needs
 
 returns : tie.Need-returns
-returns c = spelt (c .before .before .before .before .before .args .n) (c .before .before .before .decimal .result) (c .put-text .ensures) (c .before .before .before .decimal .ensures .1 .1) (c .before .before .before .decimal .ensures .1 .0) (omega (arith, few (c .before .before .before .decimal .result) (c .before .before .before .before .before .args .n) (search needs) (c .before .before .before .decimal .ensures .1 .0), c .before .before .before .decimal .ensures .0 .1))
+returns c =
+    let decimal = c .before .before .before .before .before .decimal in
+    let args = c .before .before .before .before .before .before .before .before .args in
+    let put-text = c .before .before .put-text in
+    let short = few (decimal .result) (args .n) (search needs) (decimal .ensures .1 .0) in
+    spelt (args .n) (decimal .result) (put-text .ensures) (decimal .ensures .1 .1) (decimal .ensures .1 .0) (omega (arith, decimal .ensures .0 .1))
 
 pub put-decimal-spec : {M : Type 1} → statement M
 put-decimal-spec =
@@ -28,4 +39,5 @@ put-decimal-spec =
     array-share-prefix-text
     slice-aggregate-put-text
     put-text-requires
+    same-length
     returns)

@@ -31,14 +31,32 @@ slice-aggregate-put-word-3 c = search needs
 put-word-requires-3 : tie.Need-put-word-requires-3
 put-word-requires-3 c κs = search needs
 
+same-length : tie.Need-same-length
+same-length c = search needs
+
 returns : tie.Need-returns
-returns c = rw (c .before .before .before .enum-told .given .1) (wider 7 (c .put-word .ensures) (omega arith))
+returns c =
+    let enum-told = c .before .before .before .before .before .enum-told in
+    let put-word = c .before .before .put-word in
+    rw (enum-told .given .1) (wider 7 (put-word .ensures) (omega arith))
+
+same-length-2 : tie.Need-same-length-2
+same-length-2 c = search needs
 
 returns-2 : tie.Need-returns-2
-returns-2 c = rw (c .before .before .before .enum-told2 .given .1) (wider 7 (c .put-word2 .ensures) (omega arith))
+returns-2 c =
+    let enum-told2 = c .before .before .before .before .before .enum-told2 in
+    let put-word2 = c .before .before .put-word2 in
+    rw (enum-told2 .given .1) (wider 7 (put-word2 .ensures) (omega arith))
+
+same-length-3 : tie.Need-same-length-3
+same-length-3 c = search needs
 
 returns-3 : tie.Need-returns-3
-returns-3 c = rw (c .before .before .before .enum-told3 .given .1) (wider 7 (c .put-word3 .ensures) (omega arith))
+returns-3 c =
+    let enum-told3 = c .before .before .before .before .before .enum-told3 in
+    let put-word3 = c .before .before .put-word3 in
+    rw (enum-told3 .given .1) (wider 7 (put-word3 .ensures) (omega arith))
 
 pub put-outcome-spec : {M : Type 1} → statement M
 put-outcome-spec =
@@ -53,6 +71,9 @@ put-outcome-spec =
     enum-told-3
     slice-aggregate-put-word-3
     put-word-requires-3
+    same-length
     returns
+    same-length-2
     returns-2
+    same-length-3
     returns-3)

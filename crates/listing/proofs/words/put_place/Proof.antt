@@ -10,16 +10,35 @@ slice-aggregate-put-word c = search needs
 put-word-requires : tie.Need-put-word-requires
 put-word-requires c κs = search needs
 
+same-length : tie.Need-same-length
+same-length c = search needs
+
 returns : tie.Need-returns
-returns c = rw (c .before .before .before .if1 .taken) (wider 4 (c .put-word .ensures) (omega arith))
+returns c =
+    let if1 = c .before .before .before .before .before .if1 in
+    let put-word = c .before .before .put-word in
+    rw (if1 .taken) (wider 4 (put-word .ensures) (omega arith))
 
 put-small-requires : tie.Need-put-small-requires
 put-small-requires c κs = search needs
 
+same-length-2 : tie.Need-same-length-2
+same-length-2 c = search needs
+
 returns-2 : tie.Need-returns-2
-returns-2 c = rw (c .before .before .if1 .left) (c .put-small .ensures)
+returns-2 c =
+    let if1 = c .before .before .before .before .if1 in
+    let put-small = c .before .before .put-small in
+    rw (if1 .left) (put-small .ensures)
 
 pub put-place-spec : {M : Type 1} → statement M
 put-place-spec =
     tie.close
-    (tie.spec slice-aggregate-put-word put-word-requires returns put-small-requires returns-2)
+    (tie.spec
+    slice-aggregate-put-word
+    put-word-requires
+    same-length
+    returns
+    put-small-requires
+    same-length-2
+    returns-2)

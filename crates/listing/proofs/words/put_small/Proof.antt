@@ -6,8 +6,14 @@ use Rattle.listing.proofs.words.put_small.Tie as tie
 put-number-requires : tie.Need-put-number-requires
 put-number-requires c κs = search needs
 
+same-length : tie.Need-same-length
+same-length c = search needs
+
 returns : tie.Need-returns
-returns c = small (c .before .before .args .n) (search needs) (c .put-number .ensures)
+returns c =
+    let args = c .before .before .before .before .before .args in
+    let put-number = c .before .before .put-number in
+    small (args .n) (search needs) (put-number .ensures)
 
 pub put-small-spec : {M : Type 1} → statement M
-put-small-spec = tie.close (tie.spec put-number-requires returns)
+put-small-spec = tie.close (tie.spec put-number-requires same-length returns)

@@ -9,13 +9,13 @@ use Rattle.listing.proofs.words.put_text.Statement.{statement}
 use Rattle.listing.proofs.words.put_text.Tie as tie
 
 abbrev Inv-loop : tie.InvT-loop
-Inv-loop line₀ at text i₀ line i = (i ≤ length text) × (line ≡ sets line₀ at (take i text))
+Inv-loop line₀ at text i₀ line i = (i ≤ length text) × (length line ≡ length line₀) × (line ≡ sets line₀ at (take i text))
 
 abbrev μ-loop : tie.MeasureT-loop
 μ-loop line₀ at text i₀ line i = length text - i
 
 loop-holds : tie.Need-loop-holds Inv-loop μ-loop
-loop-holds c = (search needs, refl)
+loop-holds c = (search needs, refl, refl)
 
 shared-slice-read-line : tie.Need-shared-slice-read-line Inv-loop μ-loop
 shared-slice-read-line c = search needs
@@ -23,8 +23,8 @@ shared-slice-read-line c = search needs
 add-line : tie.Need-add-line Inv-loop μ-loop
 add-line c = search needs
 
-element-write-line : tie.Need-element-write-line Inv-loop μ-loop
-element-write-line c = search needs
+slice-write-line : tie.Need-slice-write-line Inv-loop μ-loop
+slice-write-line c = search needs
 
 add-i : tie.Need-add-i Inv-loop μ-loop
 add-i c = search needs
@@ -33,13 +33,22 @@ loop-less : tie.Need-loop-less Inv-loop μ-loop
 loop-less c = search needs
 
 loop-again : tie.Need-loop-again Inv-loop μ-loop
-loop-again c = (search needs, text-next (now (c .before .before .before .args .line)) (c .before .before .before .args .at) (now (c .before .before .before .args .text)) (c .before .before .loop .i) (search needs) (c .before .before .loop .inv .1))
+loop-again c =
+    let args = c .before .before .before .args in
+    let loop = c .before .before .loop in
+    (search needs, search needs, text-next (now (args .line)) (args .at) (now (args .text)) (loop .i) (search needs) (loop .inv .2))
 
 add-result : tie.Need-add-result Inv-loop μ-loop
 add-result c = search needs
 
+same-length : tie.Need-same-length Inv-loop μ-loop
+same-length c = search needs
+
 returns : tie.Need-returns Inv-loop μ-loop
-returns c = text-end (now (c .before .before .args .line)) (c .before .before .args .at) (now (c .before .before .args .text)) (c .before .loop .inv .0) (search needs) (c .before .loop .inv .1)
+returns c =
+    let args = c .before .before .args in
+    let loop = c .before .loop in
+    text-end (now (args .line)) (args .at) (now (args .text)) (loop .inv .0) (search needs) (loop .inv .2)
 
 pub put-text-spec : {M : Type 1} → statement M
 put-text-spec =
@@ -50,9 +59,10 @@ put-text-spec =
     loop-holds
     shared-slice-read-line
     add-line
-    element-write-line
+    slice-write-line
     add-i
     loop-less
     loop-again
     add-result
+    same-length
     returns)

@@ -10,8 +10,14 @@ slice-aggregate-put-word c = search needs
 put-word-requires : tie.Need-put-word-requires
 put-word-requires c κs = search needs
 
+same-length : tie.Need-same-length
+same-length c = search needs
+
 returns : tie.Need-returns
-returns c = rw (c .before .before .before .if1 .taken) (wider 4 (c .put-word .ensures) (omega arith))
+returns c =
+    let if1 = c .before .before .before .before .before .if1 in
+    let put-word = c .before .before .put-word in
+    rw (if1 .taken) (wider 4 (put-word .ensures) (omega arith))
 
 slice-aggregate-put-word-2 : tie.Need-slice-aggregate-put-word-2
 slice-aggregate-put-word-2 c = search needs
@@ -19,8 +25,14 @@ slice-aggregate-put-word-2 c = search needs
 put-word-requires-2 : tie.Need-put-word-requires-2
 put-word-requires-2 c κs = search needs
 
+same-length-2 : tie.Need-same-length-2
+same-length-2 c = search needs
+
 returns-2 : tie.Need-returns-2
-returns-2 c = rw (c .before .before .before .if1 .left) (wider 4 (c .put-word2 .ensures) (omega arith))
+returns-2 c =
+    let if1 = c .before .before .before .before .before .if1 in
+    let put-word2 = c .before .before .put-word2 in
+    rw (if1 .left) (wider 4 (put-word2 .ensures) (omega arith))
 
 pub put-verdict-spec : {M : Type 1} → statement M
 put-verdict-spec =
@@ -28,7 +40,9 @@ put-verdict-spec =
     (tie.spec
     slice-aggregate-put-word
     put-word-requires
+    same-length
     returns
     slice-aggregate-put-word-2
     put-word-requires-2
+    same-length-2
     returns-2)

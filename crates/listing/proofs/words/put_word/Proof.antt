@@ -1,19 +1,33 @@
-use Rattle.listing.proofs.Stores.{behind-space}
+use Rattle.listing.proofs.Stores.{behind-space, same-room, space-room}
+use denote.Ref.{now}
+use lib.ListN.{length}
 use borrow.Author.Needs.{needs}
 use Rattle.listing.proofs.words.put_word.Statement.{statement}
 use Rattle.listing.proofs.words.put_word.Tie as tie
 
-element-write-line : tie.Need-element-write-line
-element-write-line c = search needs
+slice-write-line : tie.Need-slice-write-line
+slice-write-line c = search needs
 
 add-put-text : tie.Need-add-put-text
 add-put-text c = search needs
 
 put-text-requires : tie.Need-put-text-requires
-put-text-requires c κs = search needs
+put-text-requires c κs =
+    let args = c .before .before .before .args in
+    let pre = c .before .before .before .pre in
+    space-room (now (args .line)) (args .at) (length (now (args .word))) pre
+
+same-length : tie.Need-same-length
+same-length c =
+    let args = c .before .before .before .before .before .before .args in
+    let put-text = c .before .before .put-text in
+    same-room {b = now (args .line)} (behind-space (put-text .ensures))
 
 returns : tie.Need-returns
-returns c = behind-space (c .put-text .ensures)
+returns c =
+    let put-text = c .before .before .put-text in
+    behind-space (put-text .ensures)
 
 pub put-word-spec : {M : Type 1} → statement M
-put-word-spec = tie.close (tie.spec element-write-line add-put-text put-text-requires returns)
+put-word-spec =
+    tie.close (tie.spec slice-write-line add-put-text put-text-requires same-length returns)

@@ -3,14 +3,20 @@ use borrow.Author.Needs.{needs}
 use Rattle.registry.proofs.deciding.has_voted.Statement.{statement}
 use Rattle.registry.proofs.deciding.has_voted.Tie as tie
 
-heard-from-requires : tie.Need-heard-from-requires
-heard-from-requires c κs = search needs
+heard-at-requires : tie.Need-heard-at-requires
+heard-at-requires c κs = search needs
 
 returns : tie.Need-returns
-returns c = rw (c .if1 .taken, ← c .before .heard-from .ensures) refl
+returns c =
+    let if1 = c .if1 in
+    let heard-at = c .before .heard-at in
+    rw (if1 .taken, ← heard-at .ensures) refl
 
 returns-2 : tie.Need-returns-2
-returns-2 c = rw (c .if1 .left, ← c .before .heard-from .ensures) refl
+returns-2 c =
+    let if1 = c .if1 in
+    let heard-at = c .before .heard-at in
+    rw (if1 .left, ← heard-at .ensures) refl
 
 pub has-voted-spec : {M : Type 1} → statement M
-has-voted-spec = tie.close (tie.spec heard-from-requires returns returns-2)
+has-voted-spec = tie.close (tie.spec heard-at-requires returns returns-2)

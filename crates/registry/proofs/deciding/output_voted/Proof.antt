@@ -1,16 +1,30 @@
-use mathlib.Core.Path.{refl}
+use mathlib.Core.Path.{ap, _∙_}
+use mathlib.Core.Bool.{Bool}
+use Rattle.layout.specs.Layout.{slotKnown}
+use Rattle.registry.specs.Voted.{voted}
+use denote.Ref.{now}
 use borrow.Author.Needs.{needs}
 use Rattle.registry.proofs.deciding.output_voted.Statement.{statement}
 use Rattle.registry.proofs.deciding.output_voted.Tie as tie
+
+output-shard-at-requires : tie.Need-output-shard-at-requires
+output-shard-at-requires c κs = search needs
 
 has-voted-requires : tie.Need-has-voted-requires
 has-voted-requires c κs = search needs
 
 returns : tie.Need-returns
-returns c = rw (c .before .if1 .taken) (c .has-voted .ensures)
+returns c =
+    let args = c .before .before .before .args in
+    let if1 = c .before .before .if1 in
+    let has-voted = c .has-voted in
+    let output-shard-at = c .before .output-shard-at in
+    let heard = slotKnown (now (args .s)) (args .k) .heard in
+    rw (if1 .taken) (has-voted .ensures ∙ ap (voted (args .agreed) heard) (output-shard-at .ensures))
 
 returns-2 : tie.Need-returns-2
-returns-2 c = rw (c .if1 .left) refl
+returns-2 c = search needs
 
 pub output-voted-spec : {M : Type 1} → statement M
-output-voted-spec = tie.close (tie.spec has-voted-requires returns returns-2)
+output-voted-spec =
+    tie.close (tie.spec output-shard-at-requires has-voted-requires returns returns-2)

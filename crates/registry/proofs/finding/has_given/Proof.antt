@@ -1,62 +1,67 @@
-use Rattle.loops.proofs.Loops.{Seeking, seek-start, seek-hit, seek-next, seek-end}
-use Rattle.model.specs.Cluster.{hasGiven}
-use lib.ListN.{length}
-use Prim.Native.Nat.{_-_}
+use Rattle.registry.proofs.Finds.{given-none, given-if, given-other}
+use denote.Ref.{now}
 use native.Mathlib.Omega.{arith}
-use mathlib.Core.Path.{_≡_, sym, _∙_}
 use borrow.Author.Needs.{needs}
 use Rattle.registry.proofs.finding.has_given.Statement.{statement}
 use Rattle.registry.proofs.finding.has_given.Tie as tie
 
-abbrev Inv-loop : tie.InvT-loop
-Inv-loop count sender verdict t known i₀ i = Seeking (hasGiven sender verdict t) known count i
+place-of-number-requires : tie.Need-place-of-number-requires
+place-of-number-requires c κs = search needs
 
-abbrev μ-loop : tie.MeasureT-loop
-μ-loop count sender verdict t known i₀ i = count - i
+known-count-requires : tie.Need-known-count-requires
+known-count-requires c κs = search needs
 
-loop-holds : tie.Need-loop-holds Inv-loop μ-loop
-loop-holds c = seek-start
+heard-at-requires : tie.Need-heard-at-requires
+heard-at-requires c κs = search needs
 
-mul-k : tie.Need-mul-k Inv-loop μ-loop
-mul-k c = search needs
+add-noted : tie.Need-add-noted
+add-noted c = search needs
 
-array-copy-out-k : tie.Need-array-copy-out-k Inv-loop μ-loop
-array-copy-out-k c = search needs
+cast-if2 : tie.Need-cast-if2
+cast-if2 c = search needs
 
-is-given-vote-requires : tie.Need-is-given-vote-requires Inv-loop μ-loop
-is-given-vote-requires c κs = search needs
+same-at-requires : tie.Need-same-at-requires
+same-at-requires c κs = search needs
 
-returns : tie.Need-returns Inv-loop μ-loop
+returns : tie.Need-returns
 returns c =
-    let long : length (c .before .before .before .before .before .args .t1) ≡ 32 = search needs in
-    sym (seek-hit _ (c .before .before .before .before .loop .inv) (search needs) (omega arith) (sym (c .before .is-given-vote .ensures) ∙ c .if1 .taken))
+    let args = c .before .before .before .before .before .before .args in
+    let pre = c .before .before .before .before .before .before .pre in
+    let place-of-number = c .before .before .before .before .before .place-of-number in
+    let heard-at = c .before .before .heard-at in
+    let if2 = c .before .if2 in
+    let same-at = c .same-at in
+    given-if (now (args .s)) (pre .0) (pre .1) (args .sender) (args .verdict) (args .t) (place-of-number .ensures .0)
+    (search needs) (heard-at .ensures) (if2 .taken) (same-at .ensures)
 
-add-i : tie.Need-add-i Inv-loop μ-loop
-add-i c = search needs
+returns-2 : tie.Need-returns-2
+returns-2 c =
+    let args = c .before .before .before .before .before .args in
+    let pre = c .before .before .before .before .before .pre in
+    let place-of-number = c .before .before .before .before .place-of-number in
+    let heard-at = c .before .heard-at in
+    let if2 = c .if2 in
+    given-other (now (args .s)) (pre .0) (pre .1) (args .sender) (args .verdict) (args .t) (place-of-number .ensures .0)
+    (search needs) (heard-at .ensures) (if2 .left)
 
-loop-less : tie.Need-loop-less Inv-loop μ-loop
-loop-less c = search needs
-
-loop-again : tie.Need-loop-again Inv-loop μ-loop
-loop-again c =
-    let long : length (c .before .before .before .before .before .args .t1) ≡ 32 = search needs in
-    seek-next _ (c .before .before .before .before .loop .inv) (search needs) (omega arith) (sym (c .before .is-given-vote .ensures) ∙ c .if1 .left)
-
-returns-2 : tie.Need-returns-2 Inv-loop μ-loop
-returns-2 c = sym (seek-end (c .before .loop .inv) (search needs))
+returns-3 : tie.Need-returns-3
+returns-3 c =
+    let args = c .before .before .before .args in
+    let pre = c .before .before .before .pre in
+    let place-of-number = c .before .before .place-of-number in
+    given-none (now (args .s)) (pre .0) (pre .1) (args .sender) (args .verdict) (args .t) (place-of-number .ensures .0)
+    (search needs)
 
 pub has-given-spec : {M : Type 1} → statement M
 has-given-spec =
     tie.close
     (tie.spec
-    Inv-loop
-    μ-loop
-    loop-holds
-    mul-k
-    array-copy-out-k
-    is-given-vote-requires
+    place-of-number-requires
+    known-count-requires
+    heard-at-requires
+    add-noted
+    cast-if2
+    same-at-requires
     returns
-    add-i
-    loop-less
-    loop-again
-    returns-2)
+    returns-2
+    returns-3)

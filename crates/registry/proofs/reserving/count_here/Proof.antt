@@ -31,21 +31,40 @@ one-if-requires-4 c κs = search needs
 
 add-result : tie.Need-add-result
 add-result c =
-    omega (arith, c .before .before .before .before .before .before .one-if .ensures .1, c .before .before .before .before .one-if2 .ensures .1, c .before .before .one-if3 .ensures .1, c .one-if4 .ensures .1)
+    let one-if = c .before .before .before .before .before .before .one-if in
+    let one-if2 = c .before .before .before .before .one-if2 in
+    let one-if3 = c .before .before .one-if3 in
+    let one-if4 = c .one-if4 in
+    omega (arith, one-if .ensures .1, one-if2 .ensures .1, one-if3 .ensures .1, one-if4 .ensures .1)
 
 add-result-2 : tie.Need-add-result-2
 add-result-2 c =
-    omega (arith, c .before .before .before .before .before .before .one-if .ensures .1, c .before .before .before .before .one-if2 .ensures .1, c .before .before .one-if3 .ensures .1, c .one-if4 .ensures .1)
+    let one-if = c .before .before .before .before .before .before .one-if in
+    let one-if2 = c .before .before .before .before .one-if2 in
+    let one-if3 = c .before .before .one-if3 in
+    let one-if4 = c .one-if4 in
+    omega (arith, one-if .ensures .1, one-if2 .ensures .1, one-if3 .ensures .1, one-if4 .ensures .1)
 
 add-result-3 : tie.Need-add-result-3
 add-result-3 c =
-    omega (arith, c .before .before .before .before .before .before .one-if .ensures .1, c .before .before .before .before .one-if2 .ensures .1, c .before .before .one-if3 .ensures .1, c .one-if4 .ensures .1)
+    let one-if = c .before .before .before .before .before .before .one-if in
+    let one-if2 = c .before .before .before .before .one-if2 in
+    let one-if3 = c .before .before .one-if3 in
+    let one-if4 = c .one-if4 in
+    omega (arith, one-if .ensures .1, one-if2 .ensures .1, one-if3 .ensures .1, one-if4 .ensures .1)
 
 returns : tie.Need-returns
 returns c =
-    let t = c .before .before .before .before .before .before .before .before .before .args .t in
-    let long = long-of t (c .before .before .before .before .before .before .before .before .before .good .1 .0) .outputs in
-    (here-count (c .before .before .before .before .before .before .before .before .before .args .me) t long (c .before .before .before .before .before .before .one-if .ensures .0) (c .before .before .before .before .one-if2 .ensures .0) (c .before .before .one-if3 .ensures .0) (c .one-if4 .ensures .0), omega (arith, c .before .before .before .before .before .before .one-if .ensures .1, c .before .before .before .before .one-if2 .ensures .1, c .before .before .one-if3 .ensures .1, c .one-if4 .ensures .1))
+    let args = c .before .before .before .before .before .before .before .before .before .args in
+    let good = c .before .before .before .before .before .before .before .before .before .good in
+    let one-if = c .before .before .before .before .before .before .one-if in
+    let one-if2 = c .before .before .before .before .one-if2 in
+    let one-if3 = c .before .before .one-if3 in
+    let one-if4 = c .one-if4 in
+    let law = here-count (args .me) (args .t) (long-of (args .t) (good .1 .0) .outputs) in (
+      law (one-if .ensures .0) (one-if2 .ensures .0) (one-if3 .ensures .0) (one-if4 .ensures .0),
+      omega (arith, one-if .ensures .1, one-if2 .ensures .1, one-if3 .ensures .1, one-if4 .ensures .1),
+    )
 
 pub count-here-spec : {M : Type 1} → statement M
 count-here-spec =

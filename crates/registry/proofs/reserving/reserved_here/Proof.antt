@@ -1,33 +1,36 @@
 use Rattle.loops.proofs.Loops.{Summing, sum-start, sum-next, sum-end}
 use Rattle.model.specs.Shard.{reservedBy, reserved}
-use lib.ListN.{length}
+use Rattle.layout.specs.Layout.{knownPlace, word, transactionsOf, view, noKnown}
+use Rattle.layout.proofs.Slots.{length-known}
 use Prim.Native.Nat.{_-_, _≤_, _*_}
 use native.Mathlib.Omega.{arith}
 use mathlib.Core.Path.{_≡_, sym}
+use denote.Ref.{now}
 use borrow.Author.Needs.{needs}
 use Rattle.registry.proofs.reserving.reserved_here.Statement.{statement}
 use Rattle.registry.proofs.reserving.reserved_here.Tie as tie
 
 abbrev Inv-loop : tie.InvT-loop
-Inv-loop me count known sum₀ i₀ sum i = (sum ≤ 4 * i) × Summing (reservedBy me) known count sum i
+Inv-loop s me count sum₀ i₀ sum i =
+    (count ≡ word s knownPlace) × ((sum ≤ 4 * i) × Summing (reservedBy me) (transactionsOf s) (word s knownPlace) sum i)
 
 abbrev μ-loop : tie.MeasureT-loop
-μ-loop me count known sum₀ i₀ sum i = count - i
+μ-loop s me count sum₀ i₀ sum i = count - i
+
+known-count-requires : tie.Need-known-count-requires Inv-loop μ-loop
+known-count-requires c κs = search needs
 
 loop-holds : tie.Need-loop-holds Inv-loop μ-loop
-loop-holds c = (search needs, sum-start)
+loop-holds c = (search needs, (omega arith, sum-start))
 
-mul-k : tie.Need-mul-k Inv-loop μ-loop
-mul-k c = search needs
-
-array-copy-out-k : tie.Need-array-copy-out-k Inv-loop μ-loop
-array-copy-out-k c = search needs
-
-reserved-by-requires : tie.Need-reserved-by-requires Inv-loop μ-loop
-reserved-by-requires c κs = search needs
+reserved-at-requires : tie.Need-reserved-at-requires Inv-loop μ-loop
+reserved-at-requires c κs = search needs
 
 add-sum : tie.Need-add-sum Inv-loop μ-loop
-add-sum c = omega (arith, c .reserved-by .ensures .1)
+add-sum c =
+    let reserved-at = c .reserved-at in
+    let loop = c .before .before .loop in
+    omega (arith, reserved-at .ensures .1, loop .inv .1 .0)
 
 add-i : tie.Need-add-i Inv-loop μ-loop
 add-i c = search needs
@@ -37,12 +40,17 @@ loop-less c = search needs
 
 loop-again : tie.Need-loop-again Inv-loop μ-loop
 loop-again c =
-    let long : length (c .before .before .before .before .args .t2) ≡ 32 = search needs in
-    (omega (arith, c .reserved-by .ensures .1), sum-next _ _ (c .before .before .before .loop .inv .1) (search needs) (omega arith) (c .reserved-by .ensures .0))
+    let loop = c .before .before .loop in
+    let args = c .before .before .before .before .args in
+    let reserved-at = c .reserved-at in
+    let next = sum-next noKnown _ (loop .inv .1 .1) (omega arith) (omega (arith, length-known (now (args .s)))) (reserved-at .ensures .0) in
+    (loop .inv .0, (omega (arith, reserved-at .ensures .1, loop .inv .1 .0), next))
 
 returns : tie.Need-returns Inv-loop μ-loop
-unfolding reserved
-returns c = (sym (sum-end (c .before .loop .inv .1) (search needs)), omega (arith, c .before .loop .inv .1 .within))
+unfolding view reserved
+returns c =
+    let loop = c .before .loop in
+    (sym (sum-end (loop .inv .1 .1) (omega arith)), omega (arith, loop .inv .1 .0))
 
 pub reserved-here-spec : {M : Type 1} → statement M
 reserved-here-spec =
@@ -50,10 +58,9 @@ reserved-here-spec =
     (tie.spec
     Inv-loop
     μ-loop
+    known-count-requires
     loop-holds
-    mul-k
-    array-copy-out-k
-    reserved-by-requires
+    reserved-at-requires
     add-sum
     add-i
     loop-less

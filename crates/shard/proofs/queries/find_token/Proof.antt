@@ -1,6 +1,7 @@
 use Rattle.shard.specs.Queries.{tokenAt, tokenOfId}
 use Rattle.shard.specs.View.{view}
 use mathlib.Core.Path.{ap, _∙_}
+use denote.Ref.{now}
 use borrow.Author.Needs.{needs}
 use Rattle.shard.proofs.queries.find_token.Statement.{statement}
 use Rattle.shard.proofs.queries.find_token.Tie as tie
@@ -12,10 +13,12 @@ token-at-requires : tie.Need-token-at-requires
 token-at-requires c κs = search needs
 
 returns : tie.Need-returns
-unfolding view tokenOfId
+unfolding tokenOfId
 returns c =
-    let s = c .before .before .before .args .s in
-    c .token-at .ensures ∙ ap (tokenAt (view s .tokens)) (c .before .place-of-token .ensures)
+    let token-at = c .token-at in
+    let args = c .before .before .args in
+    let place-of-token = c .before .place-of-token in
+    token-at .ensures ∙ ap (tokenAt (view (now (args .s)) .tokens)) (place-of-token .ensures)
 
 pub find-token-spec : {M : Type 1} → statement M
 find-token-spec = tie.close (tie.spec place-of-token-requires token-at-requires returns)

@@ -1,13 +1,19 @@
-use Rattle.shard.proofs.Ledgers.{held-count}
-use Rattle.shard.proofs.Long.{long-of}
-use mathlib.Core.Path.{sym}
+use Rattle.layout.proofs.Ledgers.{held-length}
+use mathlib.Core.Path.{sym, _∙_}
+use denote.Ref.{now}
+use borrow.Author.Needs.{needs}
 use Rattle.shard.proofs.queries.held_count.Statement.{statement}
 use Rattle.shard.proofs.queries.held_count.Tie as tie
 
+held-requires : tie.Need-held-requires
+held-requires c κs = search needs
+
 returns : tie.Need-returns
 returns c =
-    let s = c .args .s in
-    sym (held-count s (long-of s (c .good .0)) (c .pre .held))
+    let held = c .held in
+    let args = c .before .args in
+    let pre = c .before .pre in
+    held .ensures ∙ sym (held-length (now (args .s)) (pre .held))
 
 pub held-count-spec : {M : Type 1} → statement M
-held-count-spec = tie.close (tie.spec returns)
+held-count-spec = tie.close (tie.spec held-requires returns)

@@ -1,28 +1,37 @@
 use Rattle.shard.proofs.Asked.{known-within, known-behind}
-use Rattle.shard.proofs.Long.{long-of}
+use denote.Ref.{now}
 use borrow.Author.Needs.{needs}
 use Rattle.shard.proofs.queries.known_at.Statement.{statement}
 use Rattle.shard.proofs.queries.known_at.Tie as tie
 
-mul-result : tie.Need-mul-result
-mul-result c = search needs
+known-count-requires : tie.Need-known-count-requires
+known-count-requires c κs = search needs
 
-array-copy-out-result : tie.Need-array-copy-out-result
-array-copy-out-result c = search needs
+known-at-requires : tie.Need-known-at-requires
+known-at-requires c κs = search needs
 
 returns : tie.Need-returns
 returns c =
-    let s = c .before .before .before .args .s in
-    known-within s (long-of s (c .before .before .before .good .0)) (c .before .before .before .pre) (c .before .before .before .args .place) _ (c .before .if1 .taken)
+    let args = c .before .before .before .args in
+    let pre = c .before .before .before .pre in
+    let known-count = c .before .before .known-count in
+    let if1 = c .before .if1 in
+    let known-at = c .known-at in
+    known-within (now (args .s)) pre (args .place) (known-count .ensures) (if1 .taken) (known-at .ensures)
 
 blank-known-requires : tie.Need-blank-known-requires
 blank-known-requires c κs = search needs
 
 returns-2 : tie.Need-returns-2
 returns-2 c =
-    let s = c .before .before .before .args .s in
-    known-behind s (long-of s (c .before .before .before .good .0)) (c .before .before .before .pre) (c .before .before .before .args .place) (c .before .if1 .left) (c .blank-known .ensures)
+    let args = c .before .before .before .args in
+    let pre = c .before .before .before .pre in
+    let known-count = c .before .before .known-count in
+    let if1 = c .before .if1 in
+    let blank-known = c .blank-known in
+    known-behind (now (args .s)) pre (args .place) (known-count .ensures) (if1 .left) (blank-known .ensures)
 
 pub known-at-spec : {M : Type 1} → statement M
 known-at-spec =
-    tie.close (tie.spec mul-result array-copy-out-result returns blank-known-requires returns-2)
+    tie.close
+    (tie.spec known-count-requires known-at-requires returns blank-known-requires returns-2)

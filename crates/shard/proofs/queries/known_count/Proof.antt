@@ -1,13 +1,19 @@
-use Rattle.shard.proofs.Ledgers.{known-count}
-use Rattle.shard.proofs.Long.{long-of}
-use mathlib.Core.Path.{sym}
+use Rattle.layout.proofs.Ledgers.{known-length}
+use mathlib.Core.Path.{sym, _∙_}
+use denote.Ref.{now}
+use borrow.Author.Needs.{needs}
 use Rattle.shard.proofs.queries.known_count.Statement.{statement}
 use Rattle.shard.proofs.queries.known_count.Tie as tie
 
+known-count-requires : tie.Need-known-count-requires
+known-count-requires c κs = search needs
+
 returns : tie.Need-returns
 returns c =
-    let s = c .args .s in
-    sym (known-count s (long-of s (c .good .0)) (c .pre .known))
+    let known-count = c .known-count in
+    let args = c .before .args in
+    let pre = c .before .pre in
+    known-count .ensures ∙ sym (known-length (now (args .s)) (pre .known))
 
 pub known-count-spec : {M : Type 1} → statement M
-known-count-spec = tie.close (tie.spec returns)
+known-count-spec = tie.close (tie.spec known-count-requires returns)

@@ -1,35 +1,40 @@
-use Rattle.loops.proofs.Loops.{Finding, find-start, find-hit, find-next, find-end}
 use Rattle.shard.specs.Queries.{hasId}
-use lib.ListN.{length}
+use Rattle.loops.proofs.Loops.{Finding, find-start, find-hit, find-next, find-end}
+use Rattle.layout.specs.Layout.{heldPlace, word, tokensOf, view, noToken}
+use Rattle.layout.proofs.Slots.{length-tokens}
 use Prim.Native.Nat.{_-_}
 use native.Mathlib.Omega.{arith}
-use mathlib.Core.Path.{_≡_, sym, _∙_}
+use mathlib.Core.Path.{_≡_, sym}
+use denote.Ref.{now}
 use borrow.Author.Needs.{needs}
 use Rattle.shard.proofs.queries.place_of_token.Statement.{statement}
 use Rattle.shard.proofs.queries.place_of_token.Tie as tie
 
 abbrev Inv-loop : tie.InvT-loop
-Inv-loop held creator index tokens i₀ i = Finding (hasId creator index) tokens held i
+Inv-loop s creator index n i₀ i = (n ≡ word s heldPlace) × Finding (hasId creator index) (tokensOf s) (word s heldPlace) i
 
 abbrev μ-loop : tie.MeasureT-loop
-μ-loop held creator index tokens i₀ i = held - i
+μ-loop s creator index n i₀ i = n - i
+
+held-requires : tie.Need-held-requires Inv-loop μ-loop
+held-requires c κs = search needs
 
 loop-holds : tie.Need-loop-holds Inv-loop μ-loop
-loop-holds c = find-start
+loop-holds c = (search needs, find-start)
 
-mul-token : tie.Need-mul-token Inv-loop μ-loop
-mul-token c = search needs
-
-array-copy-out-token : tie.Need-array-copy-out-token Inv-loop μ-loop
-array-copy-out-token c = search needs
-
-has-id-requires : tie.Need-has-id-requires Inv-loop μ-loop
-has-id-requires c κs = search needs
+is-token-requires : tie.Need-is-token-requires Inv-loop μ-loop
+is-token-requires c κs = search needs
 
 returns : tie.Need-returns Inv-loop μ-loop
+unfolding view
 returns c =
-    let long : length (c .before .before .before .before .before .args .t1) ≡ 128 = search needs in
-    sym (find-hit _ (c .before .before .before .before .loop .inv) (search needs) (omega arith) (sym (c .before .has-id .ensures) ∙ c .if1 .taken))
+    let args = c .before .before .before .before .before .args in
+    let loop = c .before .before .before .loop in
+    let pre = c .before .before .before .before .before .pre in
+    let is-token = c .before .is-token in
+    let if1 = c .if1 in
+    let long = length-tokens (now (args .s)) in
+    sym (find-hit noToken (loop .inv .1) (omega arith) (omega (arith, pre .held, long)) (rw (← is-token .ensures) (if1 .taken)))
 
 add-i : tie.Need-add-i Inv-loop μ-loop
 add-i c = search needs
@@ -39,11 +44,19 @@ loop-less c = search needs
 
 loop-again : tie.Need-loop-again Inv-loop μ-loop
 loop-again c =
-    let long : length (c .before .before .before .before .before .args .t1) ≡ 128 = search needs in
-    find-next _ (c .before .before .before .before .loop .inv) (search needs) (omega arith) (sym (c .before .has-id .ensures) ∙ c .if1 .left)
+    let args = c .before .before .before .before .before .args in
+    let loop = c .before .before .before .loop in
+    let pre = c .before .before .before .before .before .pre in
+    let is-token = c .before .is-token in
+    let if1 = c .if1 in
+    let long = length-tokens (now (args .s)) in
+    (loop .inv .0, find-next noToken (loop .inv .1) (omega arith) (omega (arith, pre .held, long)) (rw (← is-token .ensures) (if1 .left)))
 
 returns-2 : tie.Need-returns-2 Inv-loop μ-loop
-returns-2 c = sym (find-end (c .before .loop .inv) (search needs))
+unfolding view
+returns-2 c =
+    let loop = c .before .loop in
+    sym (find-end (loop .inv .1) (omega arith))
 
 pub place-of-token-spec : {M : Type 1} → statement M
 place-of-token-spec =
@@ -51,10 +64,9 @@ place-of-token-spec =
     (tie.spec
     Inv-loop
     μ-loop
+    held-requires
     loop-holds
-    mul-token
-    array-copy-out-token
-    has-id-requires
+    is-token-requires
     returns
     add-i
     loop-less

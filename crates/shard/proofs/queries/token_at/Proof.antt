@@ -1,24 +1,31 @@
 use Rattle.shard.proofs.Asked.{token-within, token-behind}
-use Rattle.shard.proofs.Long.{long-of}
+use denote.Ref.{now}
 use borrow.Author.Needs.{needs}
 use Rattle.shard.proofs.queries.token_at.Statement.{statement}
 use Rattle.shard.proofs.queries.token_at.Tie as tie
 
-mul-token : tie.Need-mul-token
-mul-token c = search needs
+held-requires : tie.Need-held-requires
+held-requires c κs = search needs
 
-array-copy-out-token : tie.Need-array-copy-out-token
-array-copy-out-token c = search needs
+token-at-requires : tie.Need-token-at-requires
+token-at-requires c κs = search needs
 
 returns : tie.Need-returns
 returns c =
-    let s = c .before .before .before .args .s in
-    token-within s (long-of s (c .before .before .before .good .0)) (c .before .before .before .pre) (c .before .before .before .args .place) _ (c .before .if1 .taken)
+    let args = c .before .before .before .args in
+    let pre = c .before .before .before .pre in
+    let held = c .before .before .held in
+    let if1 = c .before .if1 in
+    let token-at = c .token-at in
+    token-within (now (args .s)) pre (args .place) (held .ensures) (if1 .taken) (token-at .ensures)
 
 returns-2 : tie.Need-returns-2
 returns-2 c =
-    let s = c .before .before .args .s in
-    token-behind s (long-of s (c .before .before .good .0)) (c .before .before .pre) (c .before .before .args .place) (c .if1 .left)
+    let args = c .before .before .args in
+    let pre = c .before .before .pre in
+    let held = c .before .held in
+    let if1 = c .if1 in
+    token-behind (now (args .s)) pre (args .place) (held .ensures) (if1 .left)
 
 pub token-at-spec : {M : Type 1} → statement M
-token-at-spec = tie.close (tie.spec mul-token array-copy-out-token returns returns-2)
+token-at-spec = tie.close (tie.spec held-requires token-at-requires returns returns-2)

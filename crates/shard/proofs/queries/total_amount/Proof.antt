@@ -1,14 +1,76 @@
-use Rattle.shard.specs.View.{view}
+use Rattle.shard.specs.Queries.{amountOf, totalAmount}
+use Rattle.loops.proofs.Loops.{Summing, sum-start, sum-next, sum-end}
+use Rattle.layout.specs.Layout.{heldPlace, word, tokensOf, view, noToken}
+use Rattle.layout.proofs.Slots.{length-tokens}
+use Prim.Native.Nat.{_-_, _*_, _≤_}
+use native.Mathlib.Omega.{arith}
+use mathlib.Core.Path.{_≡_, sym, _∙_}
+use denote.Ref.{now}
 use borrow.Author.Needs.{needs}
 use Rattle.shard.proofs.queries.total_amount.Statement.{statement}
 use Rattle.shard.proofs.queries.total_amount.Tie as tie
 
-sum-of-requires : tie.Need-sum-of-requires
-sum-of-requires c κs = search needs
+abbrev Inv-loop : tie.InvT-loop
+Inv-loop s n sum₀ i₀ sum i =
+    (n ≡ word s heldPlace) × ((sum ≤ 4294967295 * i) × Summing amountOf (tokensOf s) (word s heldPlace) sum i)
 
-returns : tie.Need-returns
-unfolding view
-returns c = c .sum-of .ensures
+abbrev μ-loop : tie.MeasureT-loop
+μ-loop s n sum₀ i₀ sum i = n - i
+
+held-requires : tie.Need-held-requires Inv-loop μ-loop
+held-requires c κs = search needs
+
+loop-holds : tie.Need-loop-holds Inv-loop μ-loop
+loop-holds c = (search needs, (omega arith, sum-start))
+
+amount-at-requires : tie.Need-amount-at-requires Inv-loop μ-loop
+amount-at-requires c κs = search needs
+
+wide-requires : tie.Need-wide-requires Inv-loop μ-loop
+wide-requires c κs = search needs
+
+add-sum : tie.Need-add-sum Inv-loop μ-loop
+add-sum c =
+    let wide = c .wide in
+    let loop = c .before .before .before .loop in
+    omega (arith, wide .ensures .1, loop .inv .1 .0)
+
+add-i : tie.Need-add-i Inv-loop μ-loop
+add-i c = search needs
+
+loop-less : tie.Need-loop-less Inv-loop μ-loop
+loop-less c = search needs
+
+loop-again : tie.Need-loop-again Inv-loop μ-loop
+loop-again c =
+    let wide = c .wide in
+    let amount-at = c .before .amount-at in
+    let loop = c .before .before .before .loop in
+    let pre = c .before .before .before .before .before .pre in
+    let args = c .before .before .before .before .before .args in
+    let amount = wide .ensures .0 ∙ amount-at .ensures in
+    let next = sum-next noToken _ (loop .inv .1 .1) (omega arith) (omega (arith, pre .held, length-tokens (now (args .s)))) amount in
+    (loop .inv .0, (omega (arith, wide .ensures .1, loop .inv .1 .0), next))
+
+returns : tie.Need-returns Inv-loop μ-loop
+unfolding view totalAmount
+returns c =
+    let loop = c .before .loop in
+    let pre = c .before .before .before .pre in
+    (sym (sum-end (loop .inv .1 .1) (omega arith)), omega (arith, loop .inv .1 .0, loop .inv .1 .1 .within, pre .held))
 
 pub total-amount-spec : {M : Type 1} → statement M
-total-amount-spec = tie.close (tie.spec sum-of-requires returns)
+total-amount-spec =
+    tie.close
+    (tie.spec
+    Inv-loop
+    μ-loop
+    held-requires
+    loop-holds
+    amount-at-requires
+    wide-requires
+    add-sum
+    add-i
+    loop-less
+    loop-again
+    returns)

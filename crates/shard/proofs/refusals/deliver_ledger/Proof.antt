@@ -1,66 +1,78 @@
-use Prim.Native.Nat.{ℕ}
-use Rattle.transaction.specs.Lists.{any}
-use Rattle.model.specs.Shard.{hasNumber, isOther, otherVerdict}
-use Rattle.model.specs.Steps.{entryOf, heardFrom}
-use Rattle.shard.specs.View.{view}
-use Rattle.transaction.proofs.Tables.{row-holds, row-passes}
-use mathlib.Core.List.{[], _∷_}
-use mathlib.Core.Bool.{not}
-use mathlib.Core.Path.{refl, sym, ap, _∙_}
+use Rattle.shard.proofs.Rows.{row-11, vote-7, row-12, vote-free}
+use native.Mathlib.Omega.{arith}
+use denote.Ref.{now}
 use borrow.Author.Needs.{needs}
 use Rattle.shard.proofs.refusals.deliver_ledger.Statement.{statement}
 use Rattle.shard.proofs.refusals.deliver_ledger.Tie as tie
 
-knows-number-requires : tie.Need-knows-number-requires
-knows-number-requires c κs = search needs
+known-count-requires : tie.Need-known-count-requires
+known-count-requires c κs = search needs
 
 returns : tie.Need-returns
-unfolding view
 returns c =
-    let s = c .before .before .before .args .s in
-    row-holds (not (any (hasNumber (c .before .before .before .args .t)) (view s .known))) 11 (((any (isOther (c .before .before .before .args .t)) (view s .known)), 7) ∷ ((otherVerdict (heardFrom (c .before .before .before .args .sender) (entryOf (c .before .before .before .args .t) (view s .known))) (c .before .before .before .args .verdict)), 12) ∷ []) (ap not (sym (c .before .knows-number .ensures)) ∙ c .if1 .taken)
+    let args = c .before .before .args in
+    let pre = c .before .before .pre in
+    let known-count = c .before .known-count in
+    let if1 = c .if1 in
+    row-11 (now (args .s)) (pre .0) (args .sender) (args .verdict) (args .t) (pre .1) (known-count .ensures) (if1 .taken)
 
-knows-other-requires : tie.Need-knows-other-requires
-knows-other-requires c κs = search needs
+same-at-requires : tie.Need-same-at-requires
+same-at-requires c κs = search needs
 
 returns-2 : tie.Need-returns-2
-unfolding view
 returns-2 c =
-    let s = c .before .before .before .before .before .args .s in
-    row-passes (not (any (hasNumber (c .before .before .before .before .before .args .t)) (view s .known))) 11 (((any (isOther (c .before .before .before .before .before .args .t)) (view s .known)), 7) ∷ ((otherVerdict (heardFrom (c .before .before .before .before .before .args .sender) (entryOf (c .before .before .before .before .before .args .t) (view s .known))) (c .before .before .before .before .before .args .verdict)), 12) ∷ []) (ap not (sym (c .before .before .before .knows-number .ensures)) ∙ c .before .before .if1 .left)
-    (row-holds (any (isOther (c .before .before .before .before .before .args .t)) (view s .known)) 7 (((otherVerdict (heardFrom (c .before .before .before .before .before .args .sender) (entryOf (c .before .before .before .before .before .args .t) (view s .known))) (c .before .before .before .before .before .args .verdict)), 12) ∷ []) (sym (c .before .knows-other .ensures) ∙ c .if2 .taken))
+    let args = c .before .before .before .before .args in
+    let pre = c .before .before .before .before .pre in
+    let known-count = c .before .before .before .known-count in
+    let if1 = c .before .before .if1 in
+    let same-at = c .before .same-at in
+    let if2 = c .if2 in
+    vote-7 (now (args .s)) (pre .0) (args .sender) (args .verdict) (args .t) (pre .1) (known-count .ensures) (if1 .left)
+    (same-at .ensures) (if2 .taken)
 
-heard-of-requires : tie.Need-heard-of-requires
-heard-of-requires c κs = search needs
+heard-at-requires : tie.Need-heard-at-requires
+heard-at-requires c κs = search needs
 
 is-other-verdict-requires : tie.Need-is-other-verdict-requires
 is-other-verdict-requires c κs = search needs
 
 returns-3 : tie.Need-returns-3
-unfolding view
 returns-3 c =
-    let s = c .before .before .before .before .before .before .before .before .args .s in
-    row-passes (not (any (hasNumber (c .before .before .before .before .before .before .before .before .args .t)) (view s .known))) 11 (((any (isOther (c .before .before .before .before .before .before .before .before .args .t)) (view s .known)), 7) ∷ ((otherVerdict (heardFrom (c .before .before .before .before .before .before .before .before .args .sender) (entryOf (c .before .before .before .before .before .before .before .before .args .t) (view s .known))) (c .before .before .before .before .before .before .before .before .args .verdict)), 12) ∷ []) (ap not (sym (c .before .before .before .before .before .before .knows-number .ensures)) ∙ c .before .before .before .before .before .if1 .left)
-    (row-passes (any (isOther (c .before .before .before .before .before .before .before .before .args .t)) (view s .known)) 7 (((otherVerdict (heardFrom (c .before .before .before .before .before .before .before .before .args .sender) (entryOf (c .before .before .before .before .before .before .before .before .args .t) (view s .known))) (c .before .before .before .before .before .before .before .before .args .verdict)), 12) ∷ []) (sym (c .before .before .before .before .knows-other .ensures) ∙ c .before .before .before .if2 .left)
-    (row-holds (otherVerdict (heardFrom (c .before .before .before .before .before .before .before .before .args .sender) (entryOf (c .before .before .before .before .before .before .before .before .args .t) (view s .known))) (c .before .before .before .before .before .before .before .before .args .verdict)) 12 [] (ap (λ (h : ℕ). otherVerdict h (c .before .before .before .before .before .before .before .before .args .verdict)) (sym (c .before .before .heard-of .ensures)) ∙ sym (c .before .is-other-verdict .ensures) ∙ c .if3 .taken)))
+    let args = c .before .before .before .before .before .before .before .args in
+    let pre = c .before .before .before .before .before .before .before .pre in
+    let known-count = c .before .before .before .before .before .before .known-count in
+    let if1 = c .before .before .before .before .before .if1 in
+    let same-at = c .before .before .before .before .same-at in
+    let if2 = c .before .before .before .if2 in
+    let heard-at = c .before .before .heard-at in
+    let is-other-verdict = c .before .is-other-verdict in
+    let if3 = c .if3 in
+    row-12 (now (args .s)) (pre .0) (args .sender) (args .verdict) (args .t) (pre .1) (known-count .ensures) (if1 .left)
+    (same-at .ensures) (if2 .left) (heard-at .ensures) (is-other-verdict .ensures) (if3 .taken)
 
 returns-4 : tie.Need-returns-4
-unfolding view
 returns-4 c =
-    let s = c .before .before .before .before .before .before .before .before .args .s in
-    row-passes (not (any (hasNumber (c .before .before .before .before .before .before .before .before .args .t)) (view s .known))) 11 (((any (isOther (c .before .before .before .before .before .before .before .before .args .t)) (view s .known)), 7) ∷ ((otherVerdict (heardFrom (c .before .before .before .before .before .before .before .before .args .sender) (entryOf (c .before .before .before .before .before .before .before .before .args .t) (view s .known))) (c .before .before .before .before .before .before .before .before .args .verdict)), 12) ∷ []) (ap not (sym (c .before .before .before .before .before .before .knows-number .ensures)) ∙ c .before .before .before .before .before .if1 .left)
-    (row-passes (any (isOther (c .before .before .before .before .before .before .before .before .args .t)) (view s .known)) 7 (((otherVerdict (heardFrom (c .before .before .before .before .before .before .before .before .args .sender) (entryOf (c .before .before .before .before .before .before .before .before .args .t) (view s .known))) (c .before .before .before .before .before .before .before .before .args .verdict)), 12) ∷ []) (sym (c .before .before .before .before .knows-other .ensures) ∙ c .before .before .before .if2 .left)
-    (row-passes (otherVerdict (heardFrom (c .before .before .before .before .before .before .before .before .args .sender) (entryOf (c .before .before .before .before .before .before .before .before .args .t) (view s .known))) (c .before .before .before .before .before .before .before .before .args .verdict)) 12 [] (ap (λ (h : ℕ). otherVerdict h (c .before .before .before .before .before .before .before .before .args .verdict)) (sym (c .before .before .heard-of .ensures)) ∙ sym (c .before .is-other-verdict .ensures) ∙ c .if3 .left) refl))
+    let args = c .before .before .before .before .before .before .before .args in
+    let pre = c .before .before .before .before .before .before .before .pre in
+    let known-count = c .before .before .before .before .before .before .known-count in
+    let if1 = c .before .before .before .before .before .if1 in
+    let same-at = c .before .before .before .before .same-at in
+    let if2 = c .before .before .before .if2 in
+    let heard-at = c .before .before .heard-at in
+    let is-other-verdict = c .before .is-other-verdict in
+    let if3 = c .if3 in
+    vote-free (now (args .s)) (pre .0) (args .sender) (args .verdict) (args .t) (pre .1) (known-count .ensures) (if1 .left)
+    (same-at .ensures) (if2 .left) (heard-at .ensures) (is-other-verdict .ensures) (if3 .left)
 
 pub deliver-ledger-spec : {M : Type 1} → statement M
 deliver-ledger-spec =
     tie.close
     (tie.spec
-    knows-number-requires
+    known-count-requires
     returns
-    knows-other-requires
+    same-at-requires
     returns-2
-    heard-of-requires
+    heard-at-requires
     is-other-verdict-requires
     returns-3
     returns-4)

@@ -1,26 +1,26 @@
-use lib.ListN.{getD, length}
-use lib.Dec.{eqb}
-use Rattle.model.specs.Shard.{mintRefusals}
-use Rattle.shard.specs.View.{view}
-use Rattle.shard.proofs.Ledgers.{known-count}
-use Rattle.shard.proofs.Long.{long-of}
+use mathlib.Core.Path.{refl, sym, _∙_}
 use Rattle.transaction.specs.Checks.{mintChecks}
-use Rattle.transaction.proofs.Tables.{row-holds, row-passes, table-stands, table-behind}
-use mathlib.Core.List.{[], _∷_, _++_}
-use mathlib.Core.Bool.{false, not}
-use borrow.Author.Tests.{eq-eqb, ne-eqb}
-use mathlib.Core.Path.{refl, sym, ap, _∙_}
+use Rattle.model.specs.Shard.{mintRefusals}
+use Rattle.shard.specs.View.{number}
+use Rattle.shard.proofs.Rows.{other-shard, check-fits, checks-pass, mintRows, row-13, row-14, mint-free}
+use denote.Ref.{now}
 use borrow.Author.Needs.{needs}
 use Rattle.shard.proofs.refusals.mint_refusal.Statement.{statement}
 use Rattle.shard.proofs.refusals.mint_refusal.Tie as tie
 
+own-number-requires : tie.Need-own-number-requires
+own-number-requires c κs = search needs
+
 returns : tie.Need-returns
 unfolding mintRefusals
 returns c =
-    let a = c .before .before .args in
-    let s = c .before .before .args .s in
-    let long = long-of s (c .before .before .good .0) in
-    row-holds (not (eqb (a .receiver) (s .number))) 3 ((mintChecks 128 (a .receiver) (a .index) (a .owner) (a .amount)) ++ ((not (eqb (length (view s .known)) 0), 13) ∷ (getD (view s .given) (a .index) false, 14) ∷ [])) (ap not (ne-eqb (a .receiver) (s .number) (c .if1 .taken)))
+    let args = c .before .before .args in
+    let pre = c .before .before .pre in
+    let if1 = c .if1 in
+    let own-number = c .before .own-number in
+    let checks = mintChecks 128 (args .receiver) (args .index) (args .owner) (args .amount) in
+    let rest = mintRows (now (args .s)) (args .index) in
+    other-shard (args .receiver) (number (now (args .s))) checks rest (λ e. if1 .taken (e ∙ sym (own-number .ensures)))
 
 mint-cause-requires : tie.Need-mint-cause-requires
 mint-cause-requires c κs = search needs
@@ -28,53 +28,84 @@ mint-cause-requires c κs = search needs
 returns-2 : tie.Need-returns-2
 unfolding mintRefusals
 returns-2 c =
-    let a = c .before .before .before .before .args in
-    let s = c .before .before .before .before .args .s in
-    let long = long-of s (c .before .before .before .before .good .0) in
-    row-passes (not (eqb (a .receiver) (s .number))) 3 ((mintChecks 128 (a .receiver) (a .index) (a .owner) (a .amount)) ++ ((not (eqb (length (view s .known)) 0), 13) ∷ (getD (view s .given) (a .index) false, 14) ∷ [])) (ap not (eq-eqb (a .receiver) (s .number) (c .before .before .if1 .left)))
-    (table-stands (mintChecks 128 (a .receiver) (a .index) (a .owner) (a .amount)) ((not (eqb (length (view s .known)) 0), 13) ∷ (getD (view s .given) (a .index) false, 14) ∷ []) (c .before .mint-cause .ensures) (c .if2 .taken))
+    let args = c .before .before .before .before .args in
+    let pre = c .before .before .before .before .pre in
+    let if1 = c .before .before .if1 in
+    let own-number = c .before .before .before .own-number in
+    let mint-cause = c .before .mint-cause in
+    let if2 = c .if2 in
+    let checks = mintChecks 128 (args .receiver) (args .index) (args .owner) (args .amount) in
+    let rest = mintRows (now (args .s)) (args .index) in
+    check-fits (args .receiver) (number (now (args .s))) checks rest (if1 .left ∙ own-number .ensures) (mint-cause .ensures) (if2 .taken)
+
+known-count-requires : tie.Need-known-count-requires
+known-count-requires c κs = search needs
 
 returns-3 : tie.Need-returns-3
 unfolding mintRefusals
 returns-3 c =
-    let a = c .before .before .before .before .before .before .args in
-    let s = c .before .before .before .before .before .before .args .s in
-    let long = long-of s (c .before .before .before .before .before .before .good .0) in
-    row-passes (not (eqb (a .receiver) (s .number))) 3 ((mintChecks 128 (a .receiver) (a .index) (a .owner) (a .amount)) ++ ((not (eqb (length (view s .known)) 0), 13) ∷ (getD (view s .given) (a .index) false, 14) ∷ [])) (ap not (eq-eqb (a .receiver) (s .number) (c .before .before .before .before .if1 .left)))
-    (table-behind (mintChecks 128 (a .receiver) (a .index) (a .owner) (a .amount)) ((not (eqb (length (view s .known)) 0), 13) ∷ (getD (view s .given) (a .index) false, 14) ∷ []) (c .before .before .before .mint-cause .ensures) refl (c .before .before .if2 .left)
-    (row-holds (not (eqb (length (view s .known)) 0)) 13 ((getD (view s .given) (a .index) false, 14) ∷ []) (ap not (ne-eqb (length (view s .known)) 0 (λ q. c .if3 .taken (sym (known-count s long (c .before .before .before .before .before .before .pre .known)) ∙ q))))))
+    let args = c .before .before .before .before .before .before .args in
+    let pre = c .before .before .before .before .before .before .pre in
+    let if1 = c .before .before .before .before .if1 in
+    let own-number = c .before .before .before .before .before .own-number in
+    let mint-cause = c .before .before .before .mint-cause in
+    let if2 = c .before .before .if2 in
+    let known-count = c .before .known-count in
+    let if3 = c .if3 in
+    let checks = mintChecks 128 (args .receiver) (args .index) (args .owner) (args .amount) in
+    let rest = mintRows (now (args .s)) (args .index) in
+    checks-pass (args .receiver) (number (now (args .s))) checks rest (if1 .left ∙ own-number .ensures) (mint-cause .ensures) refl (if2 .left)
+    (row-13 (now (args .s)) pre (args .index) (known-count .ensures) (if3 .taken))
 
-is-given-requires : tie.Need-is-given-requires
-is-given-requires c κs = search needs
+was-given-requires : tie.Need-was-given-requires
+was-given-requires c κs = search needs
 
 returns-4 : tie.Need-returns-4
-unfolding mintRefusals view
+unfolding mintRefusals
 returns-4 c =
-    let a = c .before .before .before .before .before .before .before .before .before .args in
-    let s = c .before .before .before .before .before .before .before .before .before .args .s in
-    let long = long-of s (c .before .before .before .before .before .before .before .before .before .good .0) in
-    row-passes (not (eqb (a .receiver) (s .number))) 3 ((mintChecks 128 (a .receiver) (a .index) (a .owner) (a .amount)) ++ ((not (eqb (length (view s .known)) 0), 13) ∷ (getD (view s .given) (a .index) false, 14) ∷ [])) (ap not (eq-eqb (a .receiver) (s .number) (c .before .before .before .before .before .before .before .if1 .left)))
-    (table-behind (mintChecks 128 (a .receiver) (a .index) (a .owner) (a .amount)) ((not (eqb (length (view s .known)) 0), 13) ∷ (getD (view s .given) (a .index) false, 14) ∷ []) (c .before .before .before .before .before .before .mint-cause .ensures) refl (c .before .before .before .before .before .if2 .left)
-    (row-passes (not (eqb (length (view s .known)) 0)) 13 ((getD (view s .given) (a .index) false, 14) ∷ []) (ap not (eq-eqb (length (view s .known)) 0 (known-count s long (c .before .before .before .before .before .before .before .before .before .pre .known) ∙ c .before .before .before .if3 .left))) (row-holds (getD (view s .given) (a .index) false) 14 [] (sym (c .before .is-given .ensures) ∙ c .if4 .taken))))
+    let args = c .before .before .before .before .before .before .before .before .args in
+    let pre = c .before .before .before .before .before .before .before .before .pre in
+    let if1 = c .before .before .before .before .before .before .if1 in
+    let own-number = c .before .before .before .before .before .before .before .own-number in
+    let mint-cause = c .before .before .before .before .before .mint-cause in
+    let if2 = c .before .before .before .before .if2 in
+    let known-count = c .before .before .before .known-count in
+    let if3 = c .before .before .if3 in
+    let was-given = c .before .was-given in
+    let if4 = c .if4 in
+    let checks = mintChecks 128 (args .receiver) (args .index) (args .owner) (args .amount) in
+    let rest = mintRows (now (args .s)) (args .index) in
+    checks-pass (args .receiver) (number (now (args .s))) checks rest (if1 .left ∙ own-number .ensures) (mint-cause .ensures) refl (if2 .left)
+    (row-14 (now (args .s)) pre (args .index) (known-count .ensures) (if3 .left) (was-given .ensures) (if4 .taken))
 
 returns-5 : tie.Need-returns-5
-unfolding mintRefusals view
+unfolding mintRefusals
 returns-5 c =
-    let a = c .before .before .before .before .before .before .before .before .before .args in
-    let s = c .before .before .before .before .before .before .before .before .before .args .s in
-    let long = long-of s (c .before .before .before .before .before .before .before .before .before .good .0) in
-    row-passes (not (eqb (a .receiver) (s .number))) 3 ((mintChecks 128 (a .receiver) (a .index) (a .owner) (a .amount)) ++ ((not (eqb (length (view s .known)) 0), 13) ∷ (getD (view s .given) (a .index) false, 14) ∷ [])) (ap not (eq-eqb (a .receiver) (s .number) (c .before .before .before .before .before .before .before .if1 .left)))
-    (table-behind (mintChecks 128 (a .receiver) (a .index) (a .owner) (a .amount)) ((not (eqb (length (view s .known)) 0), 13) ∷ (getD (view s .given) (a .index) false, 14) ∷ []) (c .before .before .before .before .before .before .mint-cause .ensures) refl (c .before .before .before .before .before .if2 .left)
-    (row-passes (not (eqb (length (view s .known)) 0)) 13 ((getD (view s .given) (a .index) false, 14) ∷ []) (ap not (eq-eqb (length (view s .known)) 0 (known-count s long (c .before .before .before .before .before .before .before .before .before .pre .known) ∙ c .before .before .before .if3 .left))) (row-passes (getD (view s .given) (a .index) false) 14 [] (sym (c .before .is-given .ensures) ∙ c .if4 .left) refl)))
+    let args = c .before .before .before .before .before .before .before .before .args in
+    let pre = c .before .before .before .before .before .before .before .before .pre in
+    let if1 = c .before .before .before .before .before .before .if1 in
+    let own-number = c .before .before .before .before .before .before .before .own-number in
+    let mint-cause = c .before .before .before .before .before .mint-cause in
+    let if2 = c .before .before .before .before .if2 in
+    let known-count = c .before .before .before .known-count in
+    let if3 = c .before .before .if3 in
+    let was-given = c .before .was-given in
+    let if4 = c .if4 in
+    let checks = mintChecks 128 (args .receiver) (args .index) (args .owner) (args .amount) in
+    let rest = mintRows (now (args .s)) (args .index) in
+    checks-pass (args .receiver) (number (now (args .s))) checks rest (if1 .left ∙ own-number .ensures) (mint-cause .ensures) refl (if2 .left)
+    (mint-free (now (args .s)) pre (args .index) (known-count .ensures) (if3 .left) (was-given .ensures) (if4 .left))
 
 pub mint-refusal-spec : {M : Type 1} → statement M
 mint-refusal-spec =
     tie.close
     (tie.spec
+    own-number-requires
     returns
     mint-cause-requires
     returns-2
+    known-count-requires
     returns-3
-    is-given-requires
+    was-given-requires
     returns-4
     returns-5)

@@ -1,43 +1,58 @@
-use lib.Dec.{eqb}
-use Rattle.transaction.specs.Tokens.{takesPart}
+use mathlib.Core.Path.{refl}
+use mathlib.Core.List.{[]}
 use Rattle.transaction.specs.Checks.{registerChecks}
-use Rattle.transaction.proofs.Tables.{row-holds, row-passes, table-stands, table-behind}
-use mathlib.Core.List.{[], _∷_, _++_}
-use mathlib.Core.Bool.{not}
-use borrow.Author.Tests.{eq-eqb, ne-eqb}
-use mathlib.Core.Path.{refl, sym, ap, _∙_}
+use Rattle.shard.proofs.Rows.{other-shard, check-fits, checks-pass, partRow, no-part, has-part}
 use borrow.Author.Needs.{needs}
 use Rattle.shard.proofs.refusals.register_form.Statement.{statement}
 use Rattle.shard.proofs.refusals.register_form.Tie as tie
 
 returns : tie.Need-returns
 returns c =
-    let a = c .before .args in
-    row-holds (not (eqb (a .receiver) (a .me))) 3 ((registerChecks 128 (a .receiver) (a .t)) ++ ((not (takesPart (a .receiver) (a .t)), 6) ∷ [])) (ap not (ne-eqb (a .receiver) (a .me) (c .if1 .taken)))
+    let args = c .before .args in
+    let if1 = c .if1 in
+    let rest = partRow (args .receiver) (args .t) [] in
+    other-shard (args .receiver) (args .me) (registerChecks 128 (args .receiver) (args .t)) rest (if1 .taken)
 
 register-cause-requires : tie.Need-register-cause-requires
 register-cause-requires c κs = search needs
 
 returns-2 : tie.Need-returns-2
 returns-2 c =
-    let a = c .before .before .before .args in
-    row-passes (not (eqb (a .receiver) (a .me))) 3 ((registerChecks 128 (a .receiver) (a .t)) ++ ((not (takesPart (a .receiver) (a .t)), 6) ∷ [])) (ap not (eq-eqb (a .receiver) (a .me) (c .before .before .if1 .left)))
-    (table-stands (registerChecks 128 (a .receiver) (a .t)) ((not (takesPart (a .receiver) (a .t)), 6) ∷ []) (c .before .register-cause .ensures) (c .if2 .taken))
+    let args = c .before .before .before .args in
+    let if1 = c .before .before .if1 in
+    let register-cause = c .before .register-cause in
+    let if2 = c .if2 in
+    let rest = partRow (args .receiver) (args .t) [] in
+    check-fits (args .receiver) (args .me) (registerChecks 128 (args .receiver) (args .t)) rest (if1 .left) (register-cause .ensures) (if2 .taken)
 
 takes-part-requires : tie.Need-takes-part-requires
 takes-part-requires c κs = search needs
 
 returns-3 : tie.Need-returns-3
 returns-3 c =
-    let a = c .before .before .before .before .before .args in
-    row-passes (not (eqb (a .receiver) (a .me))) 3 ((registerChecks 128 (a .receiver) (a .t)) ++ ((not (takesPart (a .receiver) (a .t)), 6) ∷ [])) (ap not (eq-eqb (a .receiver) (a .me) (c .before .before .before .before .if1 .left)))
-    (table-behind (registerChecks 128 (a .receiver) (a .t)) ((not (takesPart (a .receiver) (a .t)), 6) ∷ []) (c .before .before .before .register-cause .ensures) refl (c .before .before .if2 .left) (row-holds (not (takesPart (a .receiver) (a .t))) 6 [] (ap not (sym (c .before .takes-part .ensures)) ∙ c .if3 .taken)))
+    let args = c .before .before .before .before .before .args in
+    let if1 = c .before .before .before .before .if1 in
+    let register-cause = c .before .before .before .register-cause in
+    let if2 = c .before .before .if2 in
+    let takes-part = c .before .takes-part in
+    let if3 = c .if3 in
+    let rest = partRow (args .receiver) (args .t) [] in
+    let checks = registerChecks 128 (args .receiver) (args .t) in
+    checks-pass (args .receiver) (args .me) checks rest (if1 .left) (register-cause .ensures) refl (if2 .left)
+    (no-part (args .t) (args .receiver) (takes-part .ensures) [] (if3 .taken))
 
 returns-4 : tie.Need-returns-4
 returns-4 c =
-    let a = c .before .before .before .before .before .args in
-    row-passes (not (eqb (a .receiver) (a .me))) 3 ((registerChecks 128 (a .receiver) (a .t)) ++ ((not (takesPart (a .receiver) (a .t)), 6) ∷ [])) (ap not (eq-eqb (a .receiver) (a .me) (c .before .before .before .before .if1 .left)))
-    (table-behind (registerChecks 128 (a .receiver) (a .t)) ((not (takesPart (a .receiver) (a .t)), 6) ∷ []) (c .before .before .before .register-cause .ensures) refl (c .before .before .if2 .left) (row-passes (not (takesPart (a .receiver) (a .t))) 6 [] (ap not (sym (c .before .takes-part .ensures)) ∙ c .if3 .left) refl))
+    let args = c .before .before .before .before .before .args in
+    let if1 = c .before .before .before .before .if1 in
+    let register-cause = c .before .before .before .register-cause in
+    let if2 = c .before .before .if2 in
+    let takes-part = c .before .takes-part in
+    let if3 = c .if3 in
+    let rest = partRow (args .receiver) (args .t) [] in
+    let checks = registerChecks 128 (args .receiver) (args .t) in
+    checks-pass (args .receiver) (args .me) checks rest (if1 .left) (register-cause .ensures) refl (if2 .left)
+    (has-part (args .t) (args .receiver) (takes-part .ensures) [] (if3 .left) refl)
 
 pub register-form-spec : {M : Type 1} → statement M
 register-form-spec =

@@ -1,29 +1,43 @@
 use Rattle.shard.proofs.Ledgers.{minted}
-use Rattle.shard.proofs.Long.{long-of}
 use mathlib.Core.Path.{refl}
+use native.Mathlib.Omega.{arith}
+use denote.Ref.{now}
 use borrow.Author.Needs.{needs}
 use Rattle.shard.proofs.steps.after_mint.Statement.{statement}
 use Rattle.shard.proofs.steps.after_mint.Tie as tie
 
-mul-tokens : tie.Need-mul-tokens
-mul-tokens c = search needs
+held-requires : tie.Need-held-requires
+held-requires c κs = search needs
 
-array-set-from-tokens : tie.Need-array-set-from-tokens
-array-set-from-tokens c = search needs
+put-token-requires : tie.Need-put-token-requires
+put-token-requires c κs = search needs
 
-array-write-given : tie.Need-array-write-given
-array-write-given c = search needs
+add-set-held : tie.Need-add-set-held
+add-set-held c = search needs
 
-add-t11 : tie.Need-add-t11
-add-t11 c = search needs
+set-held-requires : tie.Need-set-held-requires
+set-held-requires c κs = search needs
+
+give-requires : tie.Need-give-requires
+give-requires c κs = search needs
 
 returns : tie.Need-returns
 returns c =
-    let a = c .before .before .before .args in
-    let s = a .s in
-    let long = long-of s (c .before .before .before .good .0) in
-    (minted s long _ (a .index) (a .owner) (a .amount) (c .before .before .before .pre .0) refl refl refl refl refl, (refl, (search needs, refl)))
+    let args = c .before .before .before .before .before .before .before .before .args in
+    let held = c .before .before .before .before .before .before .held in
+    let put-token = c .before .before .before .before .put-token in
+    let set-held = c .before .before .set-held in
+    let give = c .give in
+    let law = minted (now (args .s)) _ _ _ (args .index) (args .owner) (args .amount) (held .ensures) refl (search needs) in
+    law (put-token .ensures) (set-held .ensures) (give .ensures)
 
 pub after-mint-spec : {M : Type 1} → statement M
 after-mint-spec =
-    tie.close (tie.spec mul-tokens array-set-from-tokens array-write-given add-t11 returns)
+    tie.close
+    (tie.spec
+    held-requires
+    put-token-requires
+    add-set-held
+    set-held-requires
+    give-requires
+    returns)

@@ -1,4 +1,0 @@
-pub mod Reaching
-pub mod Running
-pub mod Ahead
-pub mod Buffered

@@ -1,0 +1,53 @@
+use borrow.Author.Needs.{needs}
+use Rattle.calls.proofs.call.Statement.{statement}
+use Rattle.calls.proofs.call.Tie as tie
+
+enum-known-fields : tie.Need-enum-known-fields
+enum-known-fields c = search needs
+
+register-transaction-requires : tie.Need-register-transaction-requires
+register-transaction-requires c κs = search needs
+
+enum-known-fields-2 : tie.Need-enum-known-fields-2
+enum-known-fields-2 c = search needs
+
+deliver-vote-requires : tie.Need-deliver-vote-requires
+deliver-vote-requires c κs = search needs
+
+enum-known-fields-3 : tie.Need-enum-known-fields-3
+enum-known-fields-3 c = search needs
+
+mint-token-requires : tie.Need-mint-token-requires
+mint-token-requires c κs = search needs
+
+returns : tie.Need-returns
+returns c =
+    let fields = c .before .before .before .fields in
+    let register-transaction = c .register-transaction in
+    rw (fields .given .1) (register-transaction .ensures)
+
+returns-2 : tie.Need-returns-2
+returns-2 c =
+    let fields2 = c .before .before .before .fields2 in
+    let deliver-vote = c .deliver-vote in
+    rw (fields2 .given .1) (deliver-vote .ensures)
+
+returns-3 : tie.Need-returns-3
+returns-3 c =
+    let fields3 = c .before .before .before .fields3 in
+    let mint-token = c .mint-token in
+    rw (fields3 .given .1) (mint-token .ensures)
+
+pub call-spec : {M : Type 1} → statement M
+call-spec =
+    tie.close
+    (tie.spec
+    enum-known-fields
+    register-transaction-requires
+    enum-known-fields-2
+    deliver-vote-requires
+    enum-known-fields-3
+    mint-token-requires
+    returns
+    returns-2
+    returns-3)

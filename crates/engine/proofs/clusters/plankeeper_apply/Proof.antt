@@ -1,0 +1,54 @@
+use Rattle.engine.proofs.Promises.{cluster-does, does-read, does-refused}
+use denote.Ref.{now}
+use borrow.Author.Needs.{needs}
+use Rattle.engine.proofs.clusters.plankeeper_apply.Statement.{statement}
+use Rattle.engine.proofs.clusters.plankeeper_apply.Tie as tie
+
+read-requires : tie.Need-read-requires
+read-requires c κs = search needs
+
+enum-known-answer : tie.Need-enum-known-answer
+enum-known-answer c = search needs
+
+call-requires : tie.Need-call-requires
+call-requires c κs = search needs
+
+answer-code-requires : tie.Need-answer-code-requires
+answer-code-requires c κs = search needs
+
+enum-known-answer-2 : tie.Need-enum-known-answer-2
+enum-known-answer-2 c = search needs
+
+wide-requires : tie.Need-wide-requires
+wide-requires c κs = search needs
+
+returns : tie.Need-returns
+returns c =
+    let args = c .before .before .before .before .before .before .before .before .before .args in
+    let read = c .before .before .before .before .before .before .before .read in
+    let answer = c .before .before .before .before .answer in
+    let answer-code = c .answer-code in
+    let call = c .before .call in
+    does-read (now (args .c)) (read .ensures) (answer .given .1) (cluster-does (answer-code .ensures) (call .ensures))
+
+returns-2 : tie.Need-returns-2
+returns-2 c =
+    let args = c .before .before .before .before .before .before .before .args in
+    let read = c .before .before .before .before .before .read in
+    let pre = c .before .before .before .before .before .before .before .pre in
+    let answer2 = c .before .before .answer2 in
+    let wide = c .wide in
+    does-refused (now (args .c)) (read .ensures) pre (answer2 .given .1) (wide .ensures .0)
+
+pub plankeeper-apply-spec : {M : Type 1} → statement M
+plankeeper-apply-spec =
+    tie.close
+    (tie.spec
+    read-requires
+    enum-known-answer
+    call-requires
+    answer-code-requires
+    enum-known-answer-2
+    wide-requires
+    returns
+    returns-2)

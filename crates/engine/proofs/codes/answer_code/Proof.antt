@@ -1,0 +1,80 @@
+use Prim.Native.Nat.{ℕ, _+_}
+use Rattle.engine.specs.Codes.{answerCode}
+use mathlib.Core.Path.{refl, ap}
+use borrow.Author.Needs.{needs}
+use Rattle.engine.proofs.codes.answer_code.Statement.{statement}
+use Rattle.engine.proofs.codes.answer_code.Tie as tie
+
+enum-known-answer : tie.Need-enum-known-answer
+enum-known-answer c = search needs
+
+wide-requires : tie.Need-wide-requires
+wide-requires c κs = search needs
+
+enum-told : tie.Need-enum-told
+enum-told c = search needs
+
+enum-known-answer-2 : tie.Need-enum-known-answer-2
+enum-known-answer-2 c = search needs
+
+registered-code-requires : tie.Need-registered-code-requires
+registered-code-requires c κs = search needs
+
+enum-known-answer-3 : tie.Need-enum-known-answer-3
+enum-known-answer-3 c = search needs
+
+outcome-code-requires : tie.Need-outcome-code-requires
+outcome-code-requires c κs = search needs
+
+add-result : tie.Need-add-result
+add-result c = search needs
+
+enum-known-answer-4 : tie.Need-enum-known-answer-4
+enum-known-answer-4 c = search needs
+
+outcome-code-requires-2 : tie.Need-outcome-code-requires-2
+outcome-code-requires-2 c κs = search needs
+
+add-result-2 : tie.Need-add-result-2
+add-result-2 c = search needs
+
+returns : tie.Need-returns
+unfolding answerCode
+returns c = rw (c .before .before .answer .given .1) (c .wide .ensures .0)
+
+returns-2 : tie.Need-returns-2
+unfolding answerCode
+returns-2 c = rw (c .enum-told .given .1) refl
+
+returns-3 : tie.Need-returns-3
+unfolding answerCode
+returns-3 c = rw (c .before .before .answer2 .given .1) (c .registered-code .ensures)
+
+returns-4 : tie.Need-returns-4
+unfolding answerCode
+returns-4 c = rw (c .before .before .answer3 .given .1) (ap (λ (n : ℕ). 300 + n) (c .outcome-code .ensures .0))
+
+returns-5 : tie.Need-returns-5
+unfolding answerCode
+returns-5 c = rw (c .before .before .answer4 .given .1) (ap (λ (n : ℕ). 400 + n) (c .outcome-code2 .ensures .0))
+
+pub answer-code-spec : {M : Type 1} → statement M
+answer-code-spec =
+    tie.close
+    (tie.spec
+    enum-known-answer
+    wide-requires
+    enum-told
+    enum-known-answer-2
+    registered-code-requires
+    enum-known-answer-3
+    outcome-code-requires
+    add-result
+    enum-known-answer-4
+    outcome-code-requires-2
+    add-result-2
+    returns
+    returns-2
+    returns-3
+    returns-4
+    returns-5)

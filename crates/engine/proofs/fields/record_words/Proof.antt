@@ -1,0 +1,62 @@
+use Rattle.engine.specs.Fields.{recordWords}
+use borrow.Author.Needs.{needs}
+use Rattle.engine.proofs.fields.record_words.Statement.{statement}
+use Rattle.engine.proofs.fields.record_words.Tie as tie
+
+enum-known-fields : tie.Need-enum-known-fields
+enum-known-fields c = search needs
+
+wide-requires : tie.Need-wide-requires
+wide-requires c κs = search needs
+
+enum-known-fields-2 : tie.Need-enum-known-fields-2
+enum-known-fields-2 c = search needs
+
+wide-requires-2 : tie.Need-wide-requires-2
+wide-requires-2 c κs = search needs
+
+wide-requires-3 : tie.Need-wide-requires-3
+wide-requires-3 c κs = search needs
+
+wide-requires-4 : tie.Need-wide-requires-4
+wide-requires-4 c κs = search needs
+
+enum-known-fields-3 : tie.Need-enum-known-fields-3
+enum-known-fields-3 c = search needs
+
+wide-requires-5 : tie.Need-wide-requires-5
+wide-requires-5 c κs = search needs
+
+wide-requires-6 : tie.Need-wide-requires-6
+wide-requires-6 c κs = search needs
+
+returns : tie.Need-returns
+unfolding recordWords
+returns c = rw (c .before .before .fields .given .1, c .wide .ensures .0)
+
+returns-2 : tie.Need-returns-2
+unfolding recordWords
+returns-2 c =
+    let sent = c .before .before in
+    rw (sent .before .before .fields2 .given .1, sent .wide2 .ensures .0, c .before .wide3 .ensures .0, c .wide4 .ensures .0)
+
+returns-3 : tie.Need-returns-3
+unfolding recordWords
+returns-3 c = rw (c .before .before .before .fields3 .given .1, c .before .wide5 .ensures .0, c .wide6 .ensures .0)
+
+pub record-words-spec : {M : Type 1} → statement M
+record-words-spec =
+    tie.close
+    (tie.spec
+    enum-known-fields
+    wide-requires
+    enum-known-fields-2
+    wide-requires-2
+    wide-requires-3
+    wide-requires-4
+    enum-known-fields-3
+    wide-requires-5
+    wide-requires-6
+    returns
+    returns-2
+    returns-3)

@@ -1,0 +1,20 @@
+use Rattle.engine.proofs.Promises.{fills}
+use borrow.Author.Needs.{needs}
+use Rattle.engine.proofs.records.plankeeper_read.Statement.{statement}
+use Rattle.engine.proofs.records.plankeeper_read.Tie as tie
+
+read-requires : tie.Need-read-requires
+read-requires c κs = search needs
+
+fields-of-requires : tie.Need-fields-of-requires
+fields-of-requires c κs = search needs
+
+number-of-requires : tie.Need-number-of-requires
+number-of-requires c κs = search needs
+
+returns : tie.Need-returns
+returns c = fills (c .before .before .read .ensures) (c .number-of .ensures) (c .before .fields-of .ensures)
+
+pub plankeeper-read-spec : {M : Type 1} → statement M
+plankeeper-read-spec =
+    tie.close (tie.spec read-requires fields-of-requires number-of-requires returns)

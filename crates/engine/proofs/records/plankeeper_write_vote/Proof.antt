@@ -1,0 +1,46 @@
+use Rattle.engine.proofs.Promises.{encodes}
+use borrow.Author.Needs.{needs}
+use Rattle.engine.proofs.records.plankeeper_write_vote.Statement.{statement}
+use Rattle.engine.proofs.records.plankeeper_write_vote.Tie as tie
+
+narrow-requires : tie.Need-narrow-requires
+narrow-requires c κs = search needs
+
+narrow-requires-2 : tie.Need-narrow-requires-2
+narrow-requires-2 c κs = search needs
+
+narrow-requires-3 : tie.Need-narrow-requires-3
+narrow-requires-3 c κs = search needs
+
+transaction-from-requires : tie.Need-transaction-from-requires
+transaction-from-requires c κs = search needs
+
+write-vote-requires : tie.Need-write-vote-requires
+write-vote-requires c κs = search needs
+
+code-requires : tie.Need-code-requires
+code-requires c κs = search needs
+
+same-length : tie.Need-same-length
+same-length c = search needs
+
+returns : tie.Need-returns
+returns c =
+    let wrote = c .before .before .before in
+    let told = wrote .before .before in
+    let said = told .before in
+    rw (← said .before .before .narrow .ensures, ← said .before .narrow2 .ensures, ← said .narrow3 .ensures, ← told .transaction-from .ensures)
+    (encodes (wrote .write-vote .ensures) (c .code .ensures))
+
+pub plankeeper-write-vote-spec : {M : Type 1} → statement M
+plankeeper-write-vote-spec =
+    tie.close
+    (tie.spec
+    narrow-requires
+    narrow-requires-2
+    narrow-requires-3
+    transaction-from-requires
+    write-vote-requires
+    code-requires
+    same-length
+    returns)

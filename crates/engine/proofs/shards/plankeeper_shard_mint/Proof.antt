@@ -1,0 +1,29 @@
+use Rattle.engine.proofs.Promises.{shard-does}
+use borrow.Author.Needs.{needs}
+use Rattle.engine.proofs.shards.plankeeper_shard_mint.Statement.{statement}
+use Rattle.engine.proofs.shards.plankeeper_shard_mint.Tie as tie
+
+narrow-requires : tie.Need-narrow-requires
+narrow-requires c κs = search needs
+
+narrow-requires-2 : tie.Need-narrow-requires-2
+narrow-requires-2 c κs = search needs
+
+mint-token-requires : tie.Need-mint-token-requires
+mint-token-requires c κs = search needs
+
+answer-code-requires : tie.Need-answer-code-requires
+answer-code-requires c κs = search needs
+
+returns : tie.Need-returns
+returns c =
+    let narrow = c .before .before .before .before .narrow in
+    let narrow2 = c .before .before .before .narrow2 in
+    let answer-code = c .answer-code in
+    let mint-token = c .before .mint-token in
+    rw (← narrow .ensures, ← narrow2 .ensures) (shard-does (answer-code .ensures) (mint-token .ensures))
+
+pub plankeeper-shard-mint-spec : {M : Type 1} → statement M
+plankeeper-shard-mint-spec =
+    tie.close
+    (tie.spec narrow-requires narrow-requires-2 mint-token-requires answer-code-requires returns)

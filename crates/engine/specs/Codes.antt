@@ -1,0 +1,26 @@
+-- An answer as one number.
+use Prim.Native.Nat.{ℕ, _+_, _*_}
+use mathlib.Core.Bool.{Bool, cond}
+use Rattle.model.specs.declared.Outcome.{Outcome}
+use Rattle.model.specs.declared.Outcome.the-variants.{Wait, Commit, Abort}
+use Rattle.model.specs.declared.Answer.{Answer}
+use Rattle.model.specs.declared.Answer.the-variants.{Refused, Minted, Registered, Heard, Again}
+
+-- 1 for yes, 0 for no
+abbrev pub yes : Bool → ℕ
+yes b = cond b 1 0
+
+-- what is decided here so far
+unfoldable pub outcomeCode : Outcome → ℕ
+outcomeCode Wait = 0
+outcomeCode Commit = 1
+outcomeCode Abort = 2
+
+-- A refusal's own number (all of document 01's are below 100); a genesis token given (an opening); a registration with the shard's own
+-- verdict; a fresh vote; a repeat.
+unfoldable pub answerCode : Answer → ℕ
+answerCode (Refused number) = number
+answerCode Minted = 100
+answerCode (Registered verdict outcome) = 200 + 10 * yes verdict + outcomeCode outcome
+answerCode (Heard outcome) = 300 + outcomeCode outcome
+answerCode (Again outcome) = 400 + outcomeCode outcome

@@ -1,0 +1,5 @@
+pub mod Words
+pub mod Codes
+pub mod Fields
+pub mod Writing
+pub mod Calls

@@ -1,0 +1,37 @@
+// The engine as a library for planners: target/staticlib/libengine.a, to be linked into a program in C, in Rust or in any
+// other language that calls functions of C. Rattle, which it is written in, is a language like Rust where a function has a
+// contract beside it: `requires` is what its caller sees to, `ensures` what it promises. It is compiled only if a machine
+// has checked a proof that it keeps the contract for every input. The exported functions are those marked `#[no_mangle]`.
+//
+// What crosses the boundary are numbers and the caller's own memory; nothing is allocated, and nothing is kept between calls.
+// - A word is a u32. A `&[u32; 35]` is one pointer, to 35 words; a `&[u8]` is a pointer and then the number of bytes (usize).
+//   Behind a `&mut` the engine writes, and its contract says what stands in that memory afterwards. A pointer is not null and
+//   is aligned for what it points to; what is written to is no part of what another argument points to.
+// - A cluster (`&mut Cluster`, `&Cluster`) is one pointer, to plankeeper_words() words. plankeeper_new makes a cluster of them,
+//   whatever they were. From then on nobody but the engine writes there: that is what `requires` asks for (`Sound`), and each
+//   call ensures it for the next. There is no pointer in the words, so that a copy of all of them is a cluster, too. Any number
+//   of clusters may be in use, each in memory of its own. Nothing is to be given back at the end but the memory.
+// - A lone shard (`&mut Words`, `&Words`) is likewise one pointer, to plankeeper_shard_words() words, and plankeeper_shard_new
+//   makes it. It is one of the eight without the other seven; which votes it hears is up to the caller.
+// - A transaction is 35 words: number, input count, output count, four inputs of five words (shard, creator, index, owner, amount),
+//   four outputs of three words (shard, owner, amount). Slots beyond the counts must be zero, or the transaction is refused.
+// - A word above 255 where a field is a byte stands for 255, which no field allows, so that it is refused (with 3). The same holds
+//   for a receiver, a sender, a verdict and an index that is an argument. A function takes any words and any bytes.
+//
+// A call's answer is one number; specs/Codes.antt has the definition:
+//   below 100                       refused, with that number of document 01's table; nothing is changed
+//   100                             the genesis token is given
+//   200 + 10 * verdict + outcome    registered; the shard's own verdict is 1 for yes, 0 for no
+//   300 + outcome                   a vote heard for the first time
+//   400 + outcome                   a vote that was heard before; nothing is changed
+// The outcome is what the receiving shard has decided on the transaction: 0 nothing yet, 1 commit, 2 abort.
+//
+// Refusals have the numbers of document 01's table. That document calls a shard a pantry, a cluster a round, a transaction a swap,
+// an owner a household, an amount portions, a genesis token an opening, and a token's creator and index its making swap and its position.
+
+pub mod words; // a transaction as 35 words, both ways
+pub mod codes; // an answer as a number
+pub mod fields; // what was read of a record, as 42 words
+pub mod records; // records read and written: plankeeper_read, _taken, _write_register, _write_vote, _write_mint
+pub mod clusters; // a cluster: plankeeper_words, _new, _total, _apply, _mint, _register, _deliver
+pub mod shards; // a lone shard: plankeeper_shard_words, _shard_new, _shard_total, _shard_mint, _shard_register, _shard_hear

@@ -1,0 +1,25 @@
+use mathlib.Core.Path.{refl}
+use Rattle.holdings.proofs.Tokens.{destroying-in-turn, turn-none}
+use denote.Ref.{now}
+use borrow.Author.Needs.{needs}
+use Rattle.holdings.proofs.committing.destroy_if.Statement.{statement}
+use Rattle.holdings.proofs.committing.destroy_if.Tie as tie
+
+destroy-named-requires : tie.Need-destroy-named-requires
+destroy-named-requires c κs = search needs
+
+returns : tie.Need-returns
+returns c =
+    let if1 = c .before .before .if1 in
+    let destroy-named = c .destroy-named in
+    rw (if1 .taken) (destroy-named .ensures)
+
+returns-2 : tie.Need-returns-2
+returns-2 c =
+    let args = c .before .args in
+    let if1 = c .if1 in
+    let pre = c .before .pre in
+    turn-none destroying-in-turn (now (args .s)) (args .used) (args .x) (if1 .left) (pre)
+
+pub destroy-if-spec : {M : Type 1} → statement M
+destroy-if-spec = tie.close (tie.spec destroy-named-requires returns returns-2)

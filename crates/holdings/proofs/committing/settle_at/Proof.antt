@@ -1,0 +1,46 @@
+use Rattle.holdings.specs.Held.{Settling}
+use Rattle.holdings.proofs.Tokens.{holds-same}
+use denote.Ref.{now}
+use borrow.Author.Needs.{needs}
+use Rattle.holdings.proofs.committing.settle_at.Statement.{statement}
+use Rattle.holdings.proofs.committing.settle_at.Tie as tie
+
+enum-told : tie.Need-enum-told
+enum-told c = search needs
+
+commit-at-requires : tie.Need-commit-at-requires
+commit-at-requires c κs =
+    let enum-told = c .before .enum-told in
+    let pre = c .before .before .before .pre in
+    rw (enum-told .given .1) at pre
+
+enum-told-2 : tie.Need-enum-told-2
+enum-told-2 c = search needs
+
+enum-told-3 : tie.Need-enum-told-3
+enum-told-3 c = search needs
+
+returns : tie.Need-returns
+returns c =
+    let enum-told = c .before .before .enum-told in
+    let commit-at = c .commit-at in
+    rw (enum-told .given .1) (commit-at .ensures)
+
+returns-2 : tie.Need-returns-2
+returns-2 c =
+    let enum-told2 = c .enum-told2 in
+    let args = c .before .before .args in
+    let pre = c .before .before .pre in
+    rw (enum-told2 .given .1) (holds-same (now (args .s)) (pre .room))
+
+returns-3 : tie.Need-returns-3
+returns-3 c =
+    let enum-told3 = c .enum-told3 in
+    let args = c .before .before .args in
+    let pre = c .before .before .pre in
+    rw (enum-told3 .given .1) (holds-same (now (args .s)) (pre .room))
+
+pub settle-at-spec : {M : Type 1} → statement M
+settle-at-spec =
+    tie.close
+    (tie.spec enum-told commit-at-requires enum-told-2 enum-told-3 returns returns-2 returns-3)

@@ -1,3 +1,0 @@
-pub mod Compact
-pub mod Calls
-pub mod Games

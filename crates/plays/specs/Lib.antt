@@ -1,4 +1,0 @@
-pub mod Calls
-pub mod States
-pub mod Games
-pub mod Plays

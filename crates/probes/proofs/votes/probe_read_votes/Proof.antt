@@ -1,0 +1,80 @@
+use Rattle.probes.proofs.Sums.{Left, start, within, turn, done}
+use denote.Ref.{now}
+use borrow.Author.Needs.{needs}
+use Rattle.probes.proofs.votes.probe_read_votes.Statement.{statement}
+use Rattle.probes.proofs.votes.probe_read_votes.Tie as tie
+use Rattle.std.proofs.num.wrapping_add_u64.Reads as wrapping-add-u64-reads
+
+abbrev Inv-loop : tie.InvT-loop
+Inv-loop bytes records sum₀ at₀ left₀ sum at left = Left bytes records sum at left
+
+abbrev μ-loop : tie.MeasureT-loop
+μ-loop bytes records sum₀ at₀ left₀ sum at left = left
+
+loop-holds : tie.Need-loop-holds Inv-loop μ-loop
+loop-holds c = start (now (c .before .args .bytes)) (c .before .args .records)
+
+sub-part : tie.Need-sub-part Inv-loop μ-loop
+sub-part c = search needs
+
+part-part-start : tie.Need-part-part-start Inv-loop μ-loop
+part-part-start c = search needs
+
+part-part-end : tie.Need-part-part-end Inv-loop μ-loop
+part-part-end c = search needs
+
+read-requires : tie.Need-read-requires Inv-loop μ-loop
+read-requires c κs = search needs
+
+worth-requires : tie.Need-worth-requires Inv-loop μ-loop
+worth-requires c κs = search needs
+
+wrapping-add-u64-requires : tie.Need-wrapping-add-u64-requires Inv-loop μ-loop
+wrapping-add-u64-requires c κs = search needs
+
+next-place-requires : tie.Need-next-place-requires Inv-loop μ-loop
+next-place-requires c κs =
+    let read = c .before .before .before in
+    let turned = read .before .before .before in
+    within (now (turned .before .before .args .bytes)) (turned .loop .at) (turned .loop .inv .place) (read .read .ensures)
+
+sub-left : tie.Need-sub-left Inv-loop μ-loop
+sub-left c = search needs
+
+loop-less : tie.Need-loop-less Inv-loop μ-loop
+loop-less c = search needs
+
+loop-again : tie.Need-loop-again Inv-loop μ-loop
+loop-again c =
+    let read = c .before .before .before .before in
+    let test = read .before .before in
+    let turned = test .before in
+    let entry = turned .before .before in
+    turn (now (entry .args .bytes)) (entry .args .records) (turned .loop .sum) (turned .loop .at) (turned .loop .left) (turned .loop .inv)
+    (test .loop-test .taken) (read .read .ensures) (c .before .before .worth .ensures) (c .before .wrapping-add-u64 .ensures)
+    (c .next-place .ensures)
+
+returns : tie.Need-returns Inv-loop μ-loop
+returns c =
+    let end = c .before in
+    let entry = end .before .before in
+    done (now (entry .args .bytes)) (entry .args .records) (end .loop .sum) (end .loop .at) (end .loop .left) (end .loop .inv) (c .loop-test .left)
+
+pub probe-read-votes-spec : {M : Type 1} → statement M
+probe-read-votes-spec =
+    tie.close
+    (tie.spec
+    Inv-loop
+    μ-loop
+    loop-holds
+    sub-part
+    part-part-start
+    part-part-end
+    read-requires
+    worth-requires
+    wrapping-add-u64-requires
+    next-place-requires
+    sub-left
+    loop-less
+    loop-again
+    returns)

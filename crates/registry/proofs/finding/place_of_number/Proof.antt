@@ -1,0 +1,73 @@
+use Rattle.registry.specs.Numbers.{isNumbered}
+use Rattle.loops.proofs.Loops.{Finding, find-start, find-hit, find-next, find-end}
+use Rattle.layout.specs.Layout.{knownPlace, word, transactionsOf, view, noKnown}
+use Rattle.layout.proofs.Slots.{length-known}
+use borrow.Author.Tests.{eq-eqb, ne-eqb}
+use Prim.Native.Nat.{_-_}
+use native.Mathlib.Omega.{arith}
+use mathlib.Core.Path.{_≡_, sym, _∙_}
+use denote.Ref.{now}
+use borrow.Author.Needs.{needs}
+use Rattle.registry.proofs.finding.place_of_number.Statement.{statement}
+use Rattle.registry.proofs.finding.place_of_number.Tie as tie
+
+abbrev Inv-loop : tie.InvT-loop
+Inv-loop s number n i₀ i = (n ≡ word s knownPlace) × Finding (isNumbered number) (transactionsOf s) (word s knownPlace) i
+
+abbrev μ-loop : tie.MeasureT-loop
+μ-loop s number n i₀ i = n - i
+
+known-count-requires : tie.Need-known-count-requires Inv-loop μ-loop
+known-count-requires c κs = search needs
+
+loop-holds : tie.Need-loop-holds Inv-loop μ-loop
+loop-holds c = (search needs, find-start)
+
+number-at-requires : tie.Need-number-at-requires Inv-loop μ-loop
+number-at-requires c κs = search needs
+
+returns : tie.Need-returns Inv-loop μ-loop
+unfolding view
+returns c =
+    let number-at = c .before .number-at in
+    let if1 = c .if1 in
+    let loop = c .before .before .before .loop in
+    let args = c .before .before .before .before .before .args in
+    let hit = eq-eqb _ (args .number) (sym (number-at .ensures) ∙ if1 .taken) in
+    (sym (find-hit noKnown (loop .inv .1) (omega arith) (omega (arith, length-known (now (args .s)))) hit), omega arith)
+
+add-i : tie.Need-add-i Inv-loop μ-loop
+add-i c = search needs
+
+loop-less : tie.Need-loop-less Inv-loop μ-loop
+loop-less c = search needs
+
+loop-again : tie.Need-loop-again Inv-loop μ-loop
+loop-again c =
+    let number-at = c .before .number-at in
+    let if1 = c .if1 in
+    let loop = c .before .before .before .loop in
+    let args = c .before .before .before .before .before .args in
+    let miss = ne-eqb _ (args .number) (λ e. if1 .left (number-at .ensures ∙ e)) in
+    (loop .inv .0, find-next noKnown (loop .inv .1) (omega arith) (omega (arith, length-known (now (args .s)))) miss)
+
+returns-2 : tie.Need-returns-2 Inv-loop μ-loop
+unfolding view
+returns-2 c =
+    let loop = c .before .loop in
+    (sym (find-end (loop .inv .1) (omega arith)), omega arith)
+
+pub place-of-number-spec : {M : Type 1} → statement M
+place-of-number-spec =
+    tie.close
+    (tie.spec
+    Inv-loop
+    μ-loop
+    known-count-requires
+    loop-holds
+    number-at-requires
+    returns
+    add-i
+    loop-less
+    loop-again
+    returns-2)

@@ -1,0 +1,23 @@
+use mathlib.Core.Path.{refl, _∙_}
+use native.Mathlib.Omega.{arith}
+use borrow.Author.Needs.{needs}
+use Rattle.registry.proofs.reserving.one_at.Statement.{statement}
+use Rattle.registry.proofs.reserving.one_at.Tie as tie
+
+output-shard-at-requires : tie.Need-output-shard-at-requires
+output-shard-at-requires c κs = search needs
+
+returns : tie.Need-returns
+returns c =
+    let output-shard-at = c .before .output-shard-at in
+    let if1 = c .if1 in
+    (rw (← output-shard-at .ensures, if1 .taken) refl, omega arith)
+
+returns-2 : tie.Need-returns-2
+returns-2 c =
+    let output-shard-at = c .before .output-shard-at in
+    let if1 = c .if1 in
+    (rw (← output-shard-at .ensures, if1 .left) refl, omega arith)
+
+pub one-at-spec : {M : Type 1} → statement M
+one-at-spec = tie.close (tie.spec output-shard-at-requires returns returns-2)

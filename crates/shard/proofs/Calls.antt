@@ -1,0 +1,338 @@
+-- Calls: what the model's step is where a call is refused and where it passes, and the promise of the whole call.
+use Prim.Native.Nat.{ℕ, _+_, _≤_, _<_}
+use mathlib.Core.Path.{_≡_, refl, sym, ap, _∙_, subst}
+use mathlib.Core.Bool.{Bool, true}
+use mathlib.Core.List.{List, [], _∷_, _++_}
+use native.Mathlib.Omega.{arith}
+use borrow.Author.Tests.{ne-eqb}
+use lib.Dec.{eqb}
+use lib.ListN.{length, getD, length-append}
+use Rattle.transaction.specs.declared.Transaction.{Transaction}
+use Rattle.transaction.specs.Lists.{firstOf}
+use Rattle.transaction.proofs.Tables.{first-stands, first-behind}
+use Rattle.model.specs.declared.Token.{Token}
+use Rattle.model.specs.declared.Known.{Known}
+use Rattle.model.specs.declared.Outcome.{Outcome}
+use Rattle.model.specs.declared.Answer.{Answer}
+use Rattle.model.specs.declared.Answer.the-variants.{Refused, Minted, Registered, Heard, Again}
+use Rattle.model.specs.Lists.{find}
+use Rattle.model.specs.Steps.{
+  house,
+  Ledger,
+  genesisToken,
+  afterMint,
+  availableHere,
+  pledges,
+  vote,
+  newlyKnown,
+  outcomeOf,
+  settle,
+  afterRegister,
+  isFor,
+  placeOf,
+  entryOf,
+  nothingKnown,
+  heardFrom,
+  hearing,
+  afterVote,
+}
+use Rattle.model.specs.Shard.{Call, mint, register, deliver, mintRefusals, registerRefusals, deliverForm, deliverRefusals, hear, shardStep}
+use Rattle.model.proofs.Basics.{eqb-eq, not-no, passed}
+use Rattle.model.proofs.Capacity.{Fit, fit-step, find-below}
+use Rattle.model.proofs.Tables.{unless-refused, unless-done}
+use Rattle.model.proofs.Entries.{whole-known}
+use Rattle.model.proofs.Refusals.{shard-below, mint-passes, RegisterPasses, register-passes, DeliverPasses, deliver-passes}
+use Rattle.layout.specs.Layout.{tokenSlots, knownSlots, genesisSlots, shardOf, slotKnown}
+use Rattle.layout.proofs.Ledgers.{held-length, known-length, known-entry}
+use Rattle.holdings.specs.Held.{Changes}
+use Rattle.holdings.proofs.Tokens.{turn-room, pledges-in-turn}
+use Rattle.registry.specs.Numbers.{isNumbered}
+use Rattle.registry.proofs.Finds.{asks-for, found-there, passes-there}
+use Rattle.shard.specs.View.{number, view, Sound, Steps}
+use Rattle.shard.specs.Parts.{Leaves, entryFor, enteredLedger, Entering, Entered, heardLedger, FreshVote, FreshDone}
+use Rattle.shard.specs.Tables.{deliverLedger}
+use Rattle.shard.proofs.Ledgers.{leaves-then, holds-leaves}
+use Rattle.shard.proofs.Once.{once-step}
+
+-- what a call leaves
+module _ (ws : List ℕ) (sound : Sound ws) (call : Call) where
+  abbrev stepped : Ledger × Answer
+  stepped = shardStep house (number ws) (view ws) call
+
+  still-fit : Fit house (number ws) (stepped .0)
+  still-fit = fit-step house (omega arith) (number ws) (view ws) (sound .fit) call
+
+  -- a call that changes nothing
+  pub stays-put : {answer : Answer} → stepped ≡ (view ws, answer) → Steps ws call answer ws
+  stays-put e = record {
+    answered = sym (ap (λ (x : Ledger × Answer). x .1) e);
+    ledger = sym (ap (λ (x : Ledger × Answer). x .0) e);
+    numbered = refl;
+    sound = sound;
+  }
+
+  -- a call that leaves another ledger
+  module _ {answer : Answer} {ledger : Ledger} (e : stepped ≡ (ledger, answer)) where
+    left : stepped .0 ≡ ledger
+    left = ap (λ (x : Ledger × Answer). x .0) e
+
+    fit-left : Fit house (number ws) ledger
+    fit-left = subst (Fit house (number ws)) left still-fit
+
+    pub room-left : length (ledger .tokens) ≤ tokenSlots
+    room-left = omega (arith, fit-left .token-room)
+
+    pub goes-on : {count : ℕ} (vs : List ℕ) → count ≤ knownSlots → Leaves ws ledger count vs → Steps ws call answer vs
+    goes-on vs k l = record {
+      answered = sym (ap (λ (x : Ledger × Answer). x .1) e);
+      ledger = l .seen ∙ sym left;
+      numbered = l .numbered;
+      sound = record {
+        long = l .long;
+        held = rw (l .holds) room-left;
+        known = rw (l .knows) k;
+        fit = subst (λ (m : ℕ). Fit house m (view vs)) (sym (l .numbered)) (subst (Fit house (number ws)) (sym (l .seen)) fit-left);
+        once = rw (l .seen ∙ sym left) (once-step house (number ws) (view ws) (sound .once) call);
+      };
+    }
+
+-- ---- Refused
+
+module _ (ws : List ℕ) (sound : Sound ws) {cause : ℕ} (n : cause ≡ 0 → ⊥) where
+  pub mint-refused : (receiver index owner amount : ℕ) → cause ≡ firstOf (mintRefusals house (number ws) (view ws) receiver index owner amount)
+      → Steps ws (mint receiver index owner amount) (Refused cause) ws
+  unfolding shardStep
+  mint-refused receiver index owner amount e =
+      stays-put ws sound (mint receiver index owner amount)
+      (rw (← e) (unless-refused cause (view ws) (afterMint (view ws) index owner amount, Minted) n))
+
+  pub register-refused : (receiver : ℕ) (t : Transaction) → cause ≡ firstOf (registerRefusals house (number ws) (view ws) receiver t)
+      → Steps ws (register receiver t) (Refused cause) ws
+  unfolding shardStep
+  register-refused receiver t e =
+      let me = number ws in
+      let tokens = view ws .tokens in
+      stays-put ws sound (register receiver t)
+      (rw (← e) (unless-refused cause (view ws)
+      (afterRegister me (view ws) t, Registered (vote me tokens t) (outcomeOf (newlyKnown me tokens t))) n))
+
+  pub deliver-refused : (receiver sender verdict : ℕ) (t : Transaction)
+      → cause ≡ firstOf (deliverRefusals house (number ws) (view ws) receiver sender verdict t)
+      → Steps ws (deliver receiver sender verdict t) (Refused cause) ws
+  unfolding shardStep
+  deliver-refused receiver sender verdict t e =
+      stays-put ws sound (deliver receiver sender verdict t)
+      (rw (← e) (unless-refused cause (view ws) (hear (number ws) (view ws) sender verdict t) n))
+
+-- ---- A genesis token that passes
+
+module _ (ws : List ℕ) (sound : Sound ws) (receiver index owner amount : ℕ)
+    (pass : firstOf (mintRefusals house (number ws) (view ws) receiver index owner amount) ≡ 0) where
+  mint-step : shardStep house (number ws) (view ws) (mint receiver index owner amount) ≡ (afterMint (view ws) index owner amount, Minted)
+  unfolding shardStep
+  mint-step =
+      unless-done (firstOf (mintRefusals house (number ws) (view ws) receiver index owner amount)) (view ws)
+      (afterMint (view ws) index owner amount, Minted) pass
+
+  pub mint-room : shardOf ws .held < tokenSlots
+  unfolding afterMint
+  mint-room =
+      omega (
+        arith,
+        room-left ws sound (mint receiver index owner amount) mint-step,
+        length-append (view ws .tokens) (genesisToken index owner amount ∷ []),
+        held-length ws (sound .held),
+      )
+
+  pub mint-index : index < genesisSlots
+  mint-index = mint-passes house (number ws) (view ws) receiver index owner amount pass .index-fits
+
+  pub mint-carried : (vs : List ℕ) → Leaves ws (afterMint (view ws) index owner amount) (shardOf ws .known) vs
+      → Steps ws (mint receiver index owner amount) Minted vs
+  mint-carried vs l = goes-on ws sound (mint receiver index owner amount) mint-step vs (sound .known) l
+
+-- ---- A registration that passes
+
+module _ (ws : List ℕ) (sound : Sound ws) (t : Transaction)
+    (pass : firstOf (registerRefusals house (number ws) (view ws) (number ws) t) ≡ 0) where
+  abbrev me : ℕ
+  me = number ws
+
+  abbrev tokens : List Token
+  tokens = view ws .tokens
+
+  register-step : shardStep house me (view ws) (register me t)
+      ≡ (afterRegister me (view ws) t, Registered (vote me tokens t) (outcomeOf (newlyKnown me tokens t)))
+  unfolding shardStep
+  register-step =
+      unless-done (firstOf (registerRefusals house me (view ws) me t)) (view ws)
+      (afterRegister me (view ws) t, Registered (vote me tokens t) (outcomeOf (newlyKnown me tokens t))) pass
+
+  passes : RegisterPasses house me (view ws) me t
+  passes = register-passes house me (view ws) me t pass
+
+  known-free : shardOf ws .known < knownSlots
+  known-free = omega (arith, passes .known-room, known-length ws (sound .known))
+
+  abbrev pledged : List Token
+  pledged = pledges (t .number) (availableHere me tokens t) tokens
+
+  -- after the pledges
+  module _ (vs : List ℕ) (p : Changes (pledges (t .number) (availableHere me tokens t)) ws vs) {verdict : Bool} (ev : verdict ≡ vote me tokens t) where
+    same : Leaves ws (record { tokens = pledged; given = view ws .given; known = view ws .known }) (shardOf ws .known) vs
+    same = holds-leaves ws vs p
+
+    entered-is : enteredLedger verdict t vs ≡ afterRegister me (view ws) t
+    unfolding afterRegister newlyKnown
+    entered-is = rw (same .seen, same .numbered, ev) refl
+
+    pub entering : Entering verdict t vs
+    entering = record {
+      room = turn-room (pledges-in-turn (t .number)) ws vs (record { long = sound .long; held = sound .held }) p;
+      me = rw (same .numbered) (shard-below me (passes .form .receiver-fits));
+      free = rw (same .knows) known-free;
+      fits =
+          subst (λ (l : Ledger). length (l .tokens) ≤ tokenSlots) (sym entered-is) (room-left ws sound (register me t) register-step);
+    }
+
+    entry-is : entryFor verdict t vs ≡ newlyKnown me tokens t
+    unfolding newlyKnown
+    entry-is = rw (same .numbered, ev) refl
+
+    pub register-carried : (us : List ℕ) {decided : Outcome} → Entered verdict t vs decided us → Steps ws (register me t) (Registered verdict decided) us
+    register-carried us {decided} e =
+        let d : decided ≡ outcomeOf (newlyKnown me tokens t) = e .decides ∙ ap outcomeOf entry-is in
+        let answer : Registered (vote me tokens t) (outcomeOf (newlyKnown me tokens t)) ≡ Registered verdict decided = rw (ev, d) refl in
+        let l = leaves-then same (e .leaves) entered-is in
+        goes-on ws sound (register me t) (register-step ∙ ap (λ (a : Answer). (afterRegister me (view ws) t, a)) answer) us
+        (omega (arith, same .knows, known-free)) l
+
+-- ---- A vote that passes, on the transaction whose number stands at a place
+
+module _ (ws : List ℕ) (sound : Sound ws) (sender verdict : ℕ) (t : Transaction)
+    (pass : firstOf (deliverRefusals house (number ws) (view ws) (number ws) sender verdict t) ≡ 0)
+    {place : ℕ} (found : place ≡ find (isNumbered (t .number)) (view ws .known)) where
+  abbrev here : ℕ
+  here = number ws
+
+  vote-passes : DeliverPasses house here (view ws) here sender verdict t
+  vote-passes = deliver-passes house here (view ws) here sender verdict t pass
+
+  pub vote-below : place < shardOf ws .known
+  vote-below = omega (arith, found, known-length ws (sound .known), find-below (isNumbered (t .number)) (view ws .known) (vote-passes .number-known))
+
+  pub vote-slot : place < knownSlots
+  vote-slot = omega (arith, vote-below, sound .known)
+
+  within : place < length (view ws .known)
+  within = omega (arith, vote-below, known-length ws (sound .known))
+
+  is-for : isFor t (getD (view ws .known) place nothingKnown) ≡ true
+  is-for =
+      sym (passes-there (view ws .known) (sound .once) (t .number) found within (isFor t) (asks-for t))
+      ∙ whole-known t (view ws .known) (vote-passes .number-known) (vote-passes .no-other)
+
+  -- it is the place of the transaction
+  place-is : placeOf t (view ws .known) ≡ place
+  unfolding placeOf
+  place-is = found-there (view ws .known) (sound .once) (t .number) found within (isFor t) (asks-for t) is-for
+
+  entry-at : slotKnown ws place ≡ entryOf t (view ws .known)
+  unfolding entryOf
+  entry-at = known-entry ws place vote-below (sound .known) nothingKnown ∙ rw place-is refl
+
+  hear-step : shardStep house here (view ws) (deliver here sender verdict t) ≡ hear here (view ws) sender verdict t
+  unfolding shardStep
+  hear-step = unless-done (firstOf (deliverRefusals house here (view ws) here sender verdict t)) (view ws) (hear here (view ws) sender verdict t) pass
+
+  module _ {heard : ℕ} (eh : heard ≡ getD (slotKnown ws place .heard) sender 0) where
+    heard-is : heard ≡ heardFrom sender (entryOf t (view ws .known))
+    heard-is = eh ∙ ap (λ (k : Known). getD (k .heard) sender 0) entry-at
+
+    -- the sender was not heard before
+    module _ (z : heard ≡ 0) where
+      after-is : heardLedger place sender verdict ws ≡ afterVote here (view ws) sender verdict t
+      unfolding afterVote
+      after-is = rw (entry-at, place-is) refl
+
+      fresh-step : shardStep house here (view ws) (deliver here sender verdict t)
+          ≡ (afterVote here (view ws) sender verdict t, Heard (outcomeOf (hearing sender verdict (entryOf t (view ws .known)))))
+      unfolding hear
+      fresh-step = hear-step ∙ rw (sym heard-is ∙ z) refl
+
+      pub fresh-ready : FreshVote place sender verdict ws
+      fresh-ready = record {
+        room = record { long = sound .long; held = sound .held };
+        known = sound .known;
+        entry = vote-below;
+        from = shard-below sender (vote-passes .sender-fits);
+        says = vote-passes .verdict-fits;
+        fits =
+            subst (λ (l : Ledger). length (l .tokens) ≤ tokenSlots) (sym after-is)
+            (room-left ws sound (deliver here sender verdict t) fresh-step);
+      }
+
+      pub fresh-carried : (vs : List ℕ) {answer : Answer} → FreshDone place sender verdict ws answer vs → Steps ws (deliver here sender verdict t) answer vs
+      fresh-carried vs {answer} d =
+          let a : Heard (outcomeOf (hearing sender verdict (entryOf t (view ws .known)))) ≡ answer =
+          ap (λ (k : Known). Heard (outcomeOf (hearing sender verdict k))) (sym entry-at) ∙ sym (d .answered) in
+          let e = fresh-step ∙ ap (λ (x : Answer). (afterVote here (view ws) sender verdict t, x)) a in
+          goes-on ws sound (deliver here sender verdict t) (e ∙ ap (λ (l : Ledger). (l, answer)) (sym after-is)) vs (sound .known) (d .leaves)
+
+    -- the same vote was heard before
+    pub again-carried : {decided : Outcome} → (heard ≡ 0 → ⊥) → decided ≡ outcomeOf (slotKnown ws place)
+        → Steps ws (deliver here sender verdict t) (Again decided) ws
+    unfolding hear
+    again-carried n ed =
+        let z = ne-eqb (heardFrom sender (entryOf t (view ws .known))) 0 (λ q. n (heard-is ∙ q)) in
+        stays-put ws sound (deliver here sender verdict t) (hear-step ∙ rw (z, ed, entry-at) refl)
+
+-- ---- A call that passes is addressed to this shard
+
+module _ (ws : List ℕ) (receiver : ℕ) (t : Transaction) (pass : firstOf (registerRefusals house (number ws) (view ws) receiver t) ≡ 0) where
+  register-addressed : receiver ≡ number ws
+  register-addressed = register-passes house (number ws) (view ws) receiver t pass .form .addressed
+
+  pub register-own : firstOf (registerRefusals house (number ws) (view ws) (number ws) t) ≡ 0
+  register-own = subst (λ (r : ℕ). firstOf (registerRefusals house (number ws) (view ws) r t) ≡ 0) register-addressed pass
+
+  pub register-back : {answer : Answer} {vs : List ℕ} → Steps ws (register (number ws) t) answer vs → Steps ws (register receiver t) answer vs
+  register-back {answer} {vs} h = subst (λ (p : ℕ). Steps ws (register p t) answer vs) (sym register-addressed) h
+
+-- a vote: 3 to 6 first, then what the ledger says
+module _ (ws : List ℕ) (sound : Sound ws) (receiver sender verdict : ℕ) (t : Transaction) {me cause : ℕ} (em : me ≡ number ws)
+    (form : cause ≡ firstOf (deliverForm house me receiver sender verdict t)) where
+  own-form : cause ≡ firstOf (deliverForm house (number ws) receiver sender verdict t)
+  own-form = form ∙ rw em refl
+
+  pub form-refused : (cause ≡ 0 → ⊥) → Steps ws (deliver receiver sender verdict t) (Refused cause) ws
+  unfolding deliverRefusals
+  form-refused n =
+      deliver-refused ws sound n receiver sender verdict t
+      (own-form ∙ sym (first-stands (deliverForm house (number ws) receiver sender verdict t) (deliverLedger (view ws) sender verdict t)
+      (λ z. n (own-form ∙ z))))
+
+  addressed : cause ≡ 0 → receiver ≡ number ws
+  unfolding deliverForm
+  addressed z =
+      eqb-eq receiver (number ws)
+      (not-no (eqb receiver (number ws)) (passed (deliverForm house (number ws) receiver sender verdict t) refl (sym own-form ∙ z) .0))
+
+  pub form-own : cause ≡ 0 → firstOf (deliverForm house (number ws) (number ws) sender verdict t) ≡ 0
+  form-own z = subst (λ (r : ℕ). firstOf (deliverForm house (number ws) r sender verdict t) ≡ 0) (addressed z) (sym own-form ∙ z)
+
+  pub form-back : cause ≡ 0 → {answer : Answer} {vs : List ℕ} → Steps ws (deliver (number ws) sender verdict t) answer vs
+      → Steps ws (deliver receiver sender verdict t) answer vs
+  form-back z {answer} {vs} h = subst (λ (p : ℕ). Steps ws (deliver p sender verdict t) answer vs) (sym (addressed z)) h
+
+module _ (ws : List ℕ) (sound : Sound ws) (sender verdict : ℕ) (t : Transaction) {cause : ℕ}
+    (form : firstOf (deliverForm house (number ws) (number ws) sender verdict t) ≡ 0) (found : cause ≡ firstOf (deliverLedger (view ws) sender verdict t)) where
+  whole-cause : cause ≡ firstOf (deliverRefusals house (number ws) (view ws) (number ws) sender verdict t)
+  unfolding deliverRefusals deliverForm
+  whole-cause = found ∙ sym (first-behind (deliverForm house (number ws) (number ws) sender verdict t) (deliverLedger (view ws) sender verdict t) refl form)
+
+  pub ledger-refused : (cause ≡ 0 → ⊥) → Steps ws (deliver (number ws) sender verdict t) (Refused cause) ws
+  ledger-refused n = deliver-refused ws sound n (number ws) sender verdict t whole-cause
+
+  pub ledger-passes : cause ≡ 0 → firstOf (deliverRefusals house (number ws) (view ws) (number ws) sender verdict t) ≡ 0
+  ledger-passes z = sym whole-cause ∙ z

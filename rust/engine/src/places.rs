@@ -1,0 +1,89 @@
+//! Where everything stands in the engine's memory and in a transaction's
+//! words: the one table that the Rust side has of it, in numbers of its own.
+
+use std::ops::Range;
+
+/// Words of a lone shard's memory.
+pub const SHARD_WORDS: usize = 2147;
+/// Words of a cluster's memory: eight shards, one behind the other.
+pub const CLUSTER_WORDS: usize = 17_176;
+/// Words of a transaction.
+pub const TRANSACTION_WORDS: usize = 35;
+/// Words of a reading.
+pub const READING_WORDS: usize = 42;
+
+/// A lone shard's memory.
+pub type ShardWords = [u32; SHARD_WORDS];
+/// A cluster's memory.
+pub type ClusterWords = [u32; CLUSTER_WORDS];
+/// Number and counts, then the inputs (shard, creator, index, owner, amount),
+/// then the outputs (shard, owner, amount).
+pub type TransactionWords = [u32; TRANSACTION_WORDS];
+/// Kind, receiver, sender, verdict, index, owner and amount, then the
+/// transaction.
+pub type ReadingWords = [u32; READING_WORDS];
+
+/// A shard's number.
+pub(crate) const NUMBER: usize = 0;
+/// How many tokens a shard holds.
+pub(crate) const HELD: usize = 1;
+/// How many transactions a shard knows.
+pub(crate) const KNOWN: usize = 2;
+/// A flag for each genesis index, not 0 where it was given.
+pub(crate) const FLAGS: Range<usize> = 3..131;
+/// The places for tokens.
+pub(crate) const TOKENS: Range<usize> = 131..771;
+/// Words of a token: creator, index, owner, amount and pledge.
+pub(crate) const TOKEN_WORDS: usize = 5;
+/// The places for known transactions.
+pub(crate) const TRANSACTIONS: Range<usize> = 771..2147;
+/// Words of a known transaction: those of the transaction, then the verdict
+/// heard from each sender.
+pub(crate) const KNOWN_WORDS: usize = 43;
+
+/// A transaction's inputs.
+pub(crate) const INPUTS: Range<usize> = 3..23;
+/// Words of an input.
+pub(crate) const INPUT_WORDS: usize = 5;
+/// A transaction's outputs.
+pub(crate) const OUTPUTS: Range<usize> = 23..35;
+/// Words of an output.
+pub(crate) const OUTPUT_WORDS: usize = 3;
+
+/// Whether the field at this place of a transaction is a byte: the counts, the
+/// shards and the inputs' indices.
+pub fn is_byte(place: usize) -> bool {
+    match place {
+        1 | 2 => true,
+        3..23 => matches!((place - INPUTS.start) % INPUT_WORDS, 0 | 2),
+        23..35 => (place - OUTPUTS.start).is_multiple_of(OUTPUT_WORDS),
+        _ => false,
+    }
+}
+
+/// What the word at this place of a shard's memory is.
+pub fn name(place: usize) -> String {
+    const TOKEN: [&str; TOKEN_WORDS] = ["creator", "index", "owner", "amount", "pledge"];
+    match place {
+        NUMBER => "number".into(),
+        HELD => "tokens held".into(),
+        KNOWN => "transactions known".into(),
+        3..131 => format!("flag {}", place - FLAGS.start),
+        131..771 => {
+            let word = place - TOKENS.start;
+            format!(
+                "token {}, {}",
+                word / TOKEN_WORDS,
+                TOKEN[word % TOKEN_WORDS]
+            )
+        }
+        _ => {
+            let word = place - TRANSACTIONS.start;
+            let (known, part) = (word / KNOWN_WORDS, word % KNOWN_WORDS);
+            match part.checked_sub(TRANSACTION_WORDS) {
+                Some(sender) => format!("transaction {known}, verdict of shard {sender}"),
+                None => format!("transaction {known}, word {part}"),
+            }
+        }
+    }
+}
