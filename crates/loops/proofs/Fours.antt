@@ -1,10 +1,10 @@
 -- Four slots and a count, slot by slot: keep and all, beside the laws of the transaction crate's proofs/Slots.
 use Prim.Native.Nat.{ℕ, zero, suc, _+_, _<_, _≤_}
 use mathlib.Core.Path.{_≡_, refl, sym, ap, _∙_}
-use mathlib.Core.Bool.{Bool, true, false, cond, not, _&&_, and-assoc, and-true}
+use mathlib.Core.Bool.{Bool, true, false, cond, _&&_, and-assoc, and-true}
 use mathlib.Core.List.{List, [], _∷_, _++_, append-assoc, append-nil}
 use native.Mathlib.Omega.{arith}
-use borrow.Author.Tests.{lt-ltb, ne-eqb, not-true, not-false}
+use borrow.Author.Tests.{lt-ltb, ne-eqb}
 use lib.Dec.{eqb, ltb, eqb·suc-suc}
 use lib.ListN.{length, getD, take, drop}
 use lib.Seq.{take-nil}
@@ -104,19 +104,3 @@ all-kept f (a ∷ l) = go (f a) (all-kept f l)
 pub all-append : {A : Type 0} (f : A → Bool) (x y : List A) → all f (x ++ y) ≡ all f x && all f y
 all-append f [] y = refl
 all-append f (a ∷ x) y = ap (λ (b : Bool). f a && b) (all-append f x y) ∙ sym (and-assoc (f a) (all f x) (all f y))
-
--- the used slots asked one behind the other, until one fails
-module _ {A : Type 0} (d : A) (x : List A) (long : length x ≡ 4) (f : A → Bool) (n : ℕ) {p : Bool} (ep : p ≡ cond (ltb 0 n) (f (getD x 0 d)) true) where
-  pub all-0 : not p ≡ true → false ≡ all f (take n x)
-  all-0 np = all-by d x long f n (sym (not-true p np) ∙ ep) refl refl refl
-
-  module _ (yp : not p ≡ false) {q : Bool} (eq : q ≡ cond (ltb 1 n) (f (getD x 1 d)) true) where
-    pub all-1 : not q ≡ true → false ≡ all f (take n x)
-    all-1 nq = all-by d x long f n (sym (not-false p yp) ∙ ep) (sym (not-true q nq) ∙ eq) refl refl
-
-    module _ (yq : not q ≡ false) {r : Bool} (er : r ≡ cond (ltb 2 n) (f (getD x 2 d)) true) where
-      pub all-2 : not r ≡ true → false ≡ all f (take n x)
-      all-2 nr = all-by d x long f n (sym (not-false p yp) ∙ ep) (sym (not-false q yq) ∙ eq) (sym (not-true r nr) ∙ er) refl
-
-      pub all-3 : not r ≡ false → {s : Bool} → s ≡ cond (ltb 3 n) (f (getD x 3 d)) true → s ≡ all f (take n x)
-      all-3 yr es = all-by d x long f n (sym (not-false p yp) ∙ ep) (sym (not-false q yq) ∙ eq) (sym (not-false r yr) ∙ er) es

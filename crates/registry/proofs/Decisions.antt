@@ -39,13 +39,6 @@ all-voted agreed heard t ei eo =
     (rw (← all-map (voted agreed heard) inputShard (usedInputs t), ← all-map (voted agreed heard) outputShard (usedOutputs t))
     (sym (all-append (voted agreed heard) (map inputShard (usedInputs t)) (map outputShard (usedOutputs t)))))
 
-module _ (agreed : Bool) (heard : List ℕ) (t : Transaction) {i : Bool} (ei : i ≡ all (inputVoted agreed heard) (usedInputs t)) where
-  pub inputs-miss : not i ≡ true → false ≡ all (voted agreed heard) (shardsOf t)
-  inputs-miss n = rw (not-true i n) at (all-voted agreed heard t ei refl)
-
-  pub outputs-too : not i ≡ false → {o : Bool} → o ≡ all (outputVoted agreed heard) (usedOutputs t) → o ≡ all (voted agreed heard) (shardsOf t)
-  outputs-too y eo = rw (not-false i y) at (all-voted agreed heard t ei eo)
-
 -- the three outcomes
 module _ (t : Transaction) (heard : List ℕ) where
   pub decide-wait : {h : Bool} → h ≡ all (voted false heard) (shardsOf t) → not h ≡ true → Wait ≡ decide t heard

@@ -17,7 +17,7 @@ use layout::entries::output_count_at;
 use layout::entries::output_shard_at;
 use model::Outcome;
 
-// Is the shard heard, or has it said yes. The questions end at the first no: most transactions that are asked for wait for somebody.
+// Is the shard heard, or has it said yes. All slots are asked: to stop at the first no took longer.
 fn has_voted(s: &Words, k: usize, agreed: bool, shard: u8) -> bool
     requires { ⌜ k < knownSlots ⌝ }
     ensures { λ r. ⌜ r ≡ voted agreed (slotKnown (now (s .entry)) k .heard) shard ⌝ }
@@ -58,16 +58,10 @@ fn inputs_voted(s: &Words, k: usize, agreed: bool) -> bool
         (usedInputs (slotKnown (now (s .entry)) k .transaction)) ⌝ }
 {
     let n = input_count_at(s, k);
-    if !input_voted(s, k, agreed, 0 < n, 0) {
-        return false;
-    }
-    if !input_voted(s, k, agreed, 1 < n, 1) {
-        return false;
-    }
-    if !input_voted(s, k, agreed, 2 < n, 2) {
-        return false;
-    }
-    input_voted(s, k, agreed, 3 < n, 3)
+    input_voted(s, k, agreed, 0 < n, 0)
+        & input_voted(s, k, agreed, 1 < n, 1)
+        & input_voted(s, k, agreed, 2 < n, 2)
+        & input_voted(s, k, agreed, 3 < n, 3)
 }
 
 fn outputs_voted(s: &Words, k: usize, agreed: bool) -> bool
@@ -76,16 +70,10 @@ fn outputs_voted(s: &Words, k: usize, agreed: bool) -> bool
         (usedOutputs (slotKnown (now (s .entry)) k .transaction)) ⌝ }
 {
     let n = output_count_at(s, k);
-    if !output_voted(s, k, agreed, 0 < n, 0) {
-        return false;
-    }
-    if !output_voted(s, k, agreed, 1 < n, 1) {
-        return false;
-    }
-    if !output_voted(s, k, agreed, 2 < n, 2) {
-        return false;
-    }
-    output_voted(s, k, agreed, 3 < n, 3)
+    output_voted(s, k, agreed, 0 < n, 0)
+        & output_voted(s, k, agreed, 1 < n, 1)
+        & output_voted(s, k, agreed, 2 < n, 2)
+        & output_voted(s, k, agreed, 3 < n, 3)
 }
 
 // All its shards are heard, or all have said yes.
@@ -93,10 +81,7 @@ pub fn all_voted(s: &Words, k: usize, agreed: bool) -> bool
     requires { ⌜ k < knownSlots ⌝ }
     ensures { λ r. ⌜ r ≡ all (voted agreed (slotKnown (now (s .entry)) k .heard)) (shardsOf (slotKnown (now (s .entry)) k .transaction)) ⌝ }
 {
-    if !inputs_voted(s, k, agreed) {
-        return false;
-    }
-    outputs_voted(s, k, agreed)
+    inputs_voted(s, k, agreed) & outputs_voted(s, k, agreed)
 }
 
 // The outcome of the known transaction in a slot.

@@ -105,11 +105,13 @@ impl Ledger for Shard {
     }
 
     fn call(&mut self, call: &Call) -> u32 {
-        shard_call(&mut self.words, call)
+        // SAFETY: the engine made the words, and nobody else writes to them.
+        unsafe { shard_call(&mut self.words, call) }
     }
 
     fn total(&self) -> u64 {
-        raw::plankeeper_shard_total(&self.words)
+        // SAFETY: as above.
+        unsafe { raw::plankeeper_shard_total(&self.words) }
     }
 
     fn shards(&self) -> &[ShardWords] {
@@ -135,7 +137,8 @@ impl Cluster {
     /// Reads the record at the front of the bytes, carries it out and gives
     /// the answer's code.
     pub fn apply(&mut self, bytes: &[u8]) -> u32 {
-        cluster_apply(&mut self.words, bytes)
+        // SAFETY: the engine made the words, and nobody else writes to them.
+        unsafe { cluster_apply(&mut self.words, bytes) }
     }
 
     /// Its memory.
@@ -156,11 +159,13 @@ impl Ledger for Cluster {
     }
 
     fn call(&mut self, call: &Call) -> u32 {
-        cluster_call(&mut self.words, call)
+        // SAFETY: the engine made the words, and nobody else writes to them.
+        unsafe { cluster_call(&mut self.words, call) }
     }
 
     fn total(&self) -> u64 {
-        raw::plankeeper_total(&self.words)
+        // SAFETY: as above.
+        unsafe { raw::plankeeper_total(&self.words) }
     }
 
     fn shards(&self) -> &[ShardWords] {
@@ -169,53 +174,73 @@ impl Ledger for Cluster {
 }
 
 /// The call on these words.
-pub(crate) fn shard_call(shard: &mut ShardWords, call: &Call) -> u32 {
-    match *call {
-        Call::Mint {
-            receiver,
-            index,
-            owner,
-            amount,
-        } => raw::plankeeper_shard_mint(shard, receiver, index, owner, amount),
-        Call::Register {
-            receiver,
-            ref transaction,
-        } => raw::plankeeper_shard_register(shard, receiver, transaction),
-        Call::Vote {
-            receiver,
-            sender,
-            verdict,
-            ref transaction,
-        } => raw::plankeeper_shard_hear(shard, receiver, sender, verdict, transaction),
+///
+/// # Safety
+///
+/// The engine made a shard of the words, and nobody else has written to them
+/// since.
+pub(crate) unsafe fn shard_call(shard: &mut ShardWords, call: &Call) -> u32 {
+    // SAFETY: the caller's.
+    unsafe {
+        match *call {
+            Call::Mint {
+                receiver,
+                index,
+                owner,
+                amount,
+            } => raw::plankeeper_shard_mint(shard, receiver, index, owner, amount),
+            Call::Register {
+                receiver,
+                ref transaction,
+            } => raw::plankeeper_shard_register(shard, receiver, transaction),
+            Call::Vote {
+                receiver,
+                sender,
+                verdict,
+                ref transaction,
+            } => raw::plankeeper_shard_hear(shard, receiver, sender, verdict, transaction),
+        }
     }
 }
 
 /// The call on these words.
-pub(crate) fn cluster_call(cluster: &mut ClusterWords, call: &Call) -> u32 {
-    match *call {
-        Call::Mint {
-            receiver,
-            index,
-            owner,
-            amount,
-        } => raw::plankeeper_mint(cluster, receiver, index, owner, amount),
-        Call::Register {
-            receiver,
-            ref transaction,
-        } => raw::plankeeper_register(cluster, receiver, transaction),
-        Call::Vote {
-            receiver,
-            sender,
-            verdict,
-            ref transaction,
-        } => raw::plankeeper_deliver(cluster, receiver, sender, verdict, transaction),
+///
+/// # Safety
+///
+/// The engine made a cluster of the words, and nobody else has written to them
+/// since.
+pub(crate) unsafe fn cluster_call(cluster: &mut ClusterWords, call: &Call) -> u32 {
+    // SAFETY: the caller's.
+    unsafe {
+        match *call {
+            Call::Mint {
+                receiver,
+                index,
+                owner,
+                amount,
+            } => raw::plankeeper_mint(cluster, receiver, index, owner, amount),
+            Call::Register {
+                receiver,
+                ref transaction,
+            } => raw::plankeeper_register(cluster, receiver, transaction),
+            Call::Vote {
+                receiver,
+                sender,
+                verdict,
+                ref transaction,
+            } => raw::plankeeper_deliver(cluster, receiver, sender, verdict, transaction),
+        }
     }
 }
 
 /// Reads the record at the front of the bytes and carries it out on these
 /// words.
-pub(crate) fn cluster_apply(cluster: &mut ClusterWords, bytes: &[u8]) -> u32 {
-    // SAFETY: pointer and length are those of a live slice.
+///
+/// # Safety
+///
+/// As [`cluster_call`].
+pub(crate) unsafe fn cluster_apply(cluster: &mut ClusterWords, bytes: &[u8]) -> u32 {
+    // SAFETY: the caller's, and pointer and length are those of a live slice.
     unsafe { raw::plankeeper_apply(cluster, bytes.as_ptr(), bytes.len()) }
 }
 

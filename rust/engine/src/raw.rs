@@ -4,9 +4,11 @@
 //!
 //! What these declarations say of the functions is trusted: a function touches
 //! no more than the words and bytes handed to it, changes only what is handed
-//! in as `&mut` or `*mut`, and keeps nothing after the call. So those that are
-//! handed words alone are safe; where bytes are handed in, the pointer must be
-//! valid for the length, and a `*mut` one not aliased.
+//! in as `&mut` or `*mut`, and keeps nothing after the call. Those that take
+//! any words are safe. A call on a shard or a cluster is proved for memory
+//! that the engine made one of and that nobody else has written to since (its
+//! contract's `requires`), and for no other; where bytes are handed in, the
+//! pointer must be valid for the length, and a `*mut` one not aliased.
 
 use crate::places::{ClusterWords, ReadingWords, ShardWords, TransactionWords};
 
@@ -16,13 +18,13 @@ unsafe extern "C" {
 
     pub safe fn plankeeper_new(cluster: &mut ClusterWords);
 
-    pub safe fn plankeeper_total(cluster: &ClusterWords) -> u64;
+    pub fn plankeeper_total(cluster: &ClusterWords) -> u64;
 
     pub fn plankeeper_apply(cluster: &mut ClusterWords, bytes: *const u8, length: usize) -> u32;
 
     pub fn plankeeper_taken(bytes: *const u8, length: usize) -> usize;
 
-    pub safe fn plankeeper_mint(
+    pub fn plankeeper_mint(
         cluster: &mut ClusterWords,
         receiver: u32,
         index: u32,
@@ -30,13 +32,13 @@ unsafe extern "C" {
         amount: u32,
     ) -> u32;
 
-    pub safe fn plankeeper_register(
+    pub fn plankeeper_register(
         cluster: &mut ClusterWords,
         receiver: u32,
         transaction: &TransactionWords,
     ) -> u32;
 
-    pub safe fn plankeeper_deliver(
+    pub fn plankeeper_deliver(
         cluster: &mut ClusterWords,
         receiver: u32,
         sender: u32,
@@ -48,9 +50,9 @@ unsafe extern "C" {
 
     pub safe fn plankeeper_shard_new(shard: &mut ShardWords, number: u32);
 
-    pub safe fn plankeeper_shard_total(shard: &ShardWords) -> u64;
+    pub fn plankeeper_shard_total(shard: &ShardWords) -> u64;
 
-    pub safe fn plankeeper_shard_mint(
+    pub fn plankeeper_shard_mint(
         shard: &mut ShardWords,
         receiver: u32,
         index: u32,
@@ -58,13 +60,13 @@ unsafe extern "C" {
         amount: u32,
     ) -> u32;
 
-    pub safe fn plankeeper_shard_register(
+    pub fn plankeeper_shard_register(
         shard: &mut ShardWords,
         receiver: u32,
         transaction: &TransactionWords,
     ) -> u32;
 
-    pub safe fn plankeeper_shard_hear(
+    pub fn plankeeper_shard_hear(
         shard: &mut ShardWords,
         receiver: u32,
         sender: u32,

@@ -164,13 +164,14 @@ fn nothing_around_a_cluster_is_touched() {
     for (record, _) in cluster_story() {
         let mut bytes = Vec::new();
         encode(&record, &mut bytes);
-        cluster_apply(guarded.words(), &bytes);
+        // SAFETY: the engine made a cluster of the words; so below.
+        unsafe { cluster_apply(guarded.words(), &bytes) };
         guarded.check("a record");
     }
     raw::plankeeper_new(guarded.words());
-    let call = |words: &mut ClusterWords, call: &Call| cluster_call(words, call);
+    let call = |words: &mut ClusterWords, call: &Call| unsafe { cluster_call(words, call) };
     check_calls(&mut guarded, &cluster_story(), call);
-    raw::plankeeper_total(guarded.words());
+    unsafe { raw::plankeeper_total(guarded.words()) };
     guarded.check("the total");
 }
 
@@ -180,9 +181,10 @@ fn nothing_around_a_shard_is_touched() {
         let mut guarded = Guarded::<SHARD_WORDS>::new();
         raw::plankeeper_shard_new(guarded.words(), number.into());
         guarded.check("new");
-        let call = |words: &mut ShardWords, call: &Call| shard_call(words, call);
+        // SAFETY: the engine made a shard of the words; so below.
+        let call = |words: &mut ShardWords, call: &Call| unsafe { shard_call(words, call) };
         check_calls(&mut guarded, &story, call);
-        raw::plankeeper_shard_total(guarded.words());
+        unsafe { raw::plankeeper_shard_total(guarded.words()) };
         guarded.check("the total");
     }
 }
