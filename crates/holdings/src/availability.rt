@@ -18,7 +18,7 @@ use transaction::TokenId;
 use transaction::Transaction;
 
 // The input names this token of its shard.
-pub fn names_token(x: Input, token: Token) -> bool
+pub(crate) fn names_token(x: Input, token: Token) -> bool
     ensures { λ r. ⌜ r ≡ names x token ⌝ }
 {
     let id = x.token;
@@ -36,7 +36,7 @@ fn is_free_for(x: Input, token: Token) -> bool
 }
 
 // The shard holds such a token.
-pub fn is_available(s: &Words, x: Input) -> bool
+fn is_available(s: &Words, x: Input) -> bool
     requires { ⌜ shardOf (now s) .held ≤ tokenSlots ⌝ }
     ensures { λ r. ⌜ r ≡ available (ledgerOf (now (s .entry)) .tokens) x ⌝ }
 {

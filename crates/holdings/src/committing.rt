@@ -52,7 +52,7 @@ fn destroy_if(s: &mut Words, used: bool, x: Input)
 }
 
 // The tokens that the inputs name are destroyed.
-pub fn destroy(s: &mut Words, inputs: Inputs)
+fn destroy(s: &mut Words, inputs: Inputs)
     requires { ⌜ Room (now s) ⌝ }
     ensures { λ _. ⌜ Changes (destroying (inputsOf inputs)) (now (s .entry)) (now (s .exit)) ⌝ }
 {
@@ -84,7 +84,7 @@ fn make_one(s: &mut Words, me: u8, number: u32, used: bool, index: u8, y: Output
 }
 
 // The outputs here are made.
-pub fn make(s: &mut Words, me: u8, t: Transaction)
+fn make(s: &mut Words, me: u8, t: Transaction)
     requires { ⌜ Room (now s) × (shardOf (now s) .held + length (madeHere me t) ≤ tokenSlots) ⌝ }
     ensures { λ _. ⌜ Changes (adding (madeHere me t)) (now (s .entry)) (now (s .exit)) ⌝ }
 {
@@ -96,7 +96,7 @@ pub fn make(s: &mut Words, me: u8, t: Transaction)
     make_one(s, me, t.number, 3 < n, 3, y[3]);
 }
 
-pub fn commit_here(s: &mut Words, me: u8, t: Transaction)
+fn commit_here(s: &mut Words, me: u8, t: Transaction)
     requires { ⌜ Room (now s) × (length (commit me t (ledgerOf (now s) .tokens)) ≤ tokenSlots) ⌝ }
     ensures { λ _. ⌜ Changes (commit me t) (now (s .entry)) (now (s .exit)) ⌝ }
 {

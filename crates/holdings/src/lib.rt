@@ -1,4 +1,5 @@
 // The tokens that a shard holds, and what a registration and a commit do to them, in place: document 01, 'The steps'.
+// Internal: the crate `shard` calls it.
 use transaction::Input;
 
 pub mod availability; // the inputs at a shard, and the available ones among them

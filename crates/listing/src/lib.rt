@@ -74,9 +74,9 @@ fn is_unplaced(answer: Answer) -> bool
     }
 }
 
-// The record at the front of the bytes: its call, made on the lent cluster, and its line, stored from a place on. Internal: whoever calls it sees to the
+// The record at the front of the bytes: its call, made on the lent cluster, and its line, stored from a place on. Whoever calls it sees to the
 // room for a line, as `list_records` does.
-pub fn step(c: &mut Cluster, number: u64, bytes: &[u8], out: &mut [u8], at: usize) -> Listed
+pub(crate) fn step(c: &mut Cluster, number: u64, bytes: &[u8], out: &mut [u8], at: usize) -> Listed
     requires { ⌜ Sound (now c) × (at + 64 ≤ length (now out)) ⌝ }
     ensures { λ r. ⌜ Lists (now (c .entry)) number (now (bytes .entry)) (now (out .entry)) at r (now (c .exit)) (now (out .exit)) ⌝ }
 {

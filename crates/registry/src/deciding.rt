@@ -77,7 +77,7 @@ fn outputs_voted(s: &Words, k: usize, agreed: bool) -> bool
 }
 
 // All its shards are heard, or all have said yes.
-pub fn all_voted(s: &Words, k: usize, agreed: bool) -> bool
+pub(crate) fn all_voted(s: &Words, k: usize, agreed: bool) -> bool
     requires { ⌜ k < knownSlots ⌝ }
     ensures { λ r. ⌜ r ≡ all (voted agreed (slotKnown (now (s .entry)) k .heard)) (shardsOf (slotKnown (now (s .entry)) k .transaction)) ⌝ }
 {

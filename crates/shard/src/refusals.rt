@@ -29,7 +29,7 @@ use transaction::checks::vote_cause;
 use transaction::parts::takes_part;
 
 // The genesis index was given.
-pub fn was_given(s: &Words, index: u8) -> bool
+pub(crate) fn was_given(s: &Words, index: u8) -> bool
     ensures { λ r. ⌜ r ≡ getD (view (now (s .entry)) .given) index false ⌝ }
 {
     let at = index as usize;
@@ -39,7 +39,7 @@ pub fn was_given(s: &Words, index: u8) -> bool
     false
 }
 
-pub fn mint_refusal(s: &Words, receiver: u8, index: u8, owner: u32, amount: u32) -> u8
+pub(crate) fn mint_refusal(s: &Words, receiver: u8, index: u8, owner: u32, amount: u32) -> u8
     requires { ⌜ Sound (now s) ⌝ }
     ensures { λ r. ⌜ r ≡ firstOf (mintRefusals house (number (now (s .entry))) (view (now (s .entry))) receiver index owner amount) ⌝ }
 {
@@ -114,7 +114,7 @@ fn register_ledger(s: &Words, t: Transaction) -> u8
     0
 }
 
-pub fn register_refusal(s: &Words, receiver: u8, t: Transaction) -> u8
+pub(crate) fn register_refusal(s: &Words, receiver: u8, t: Transaction) -> u8
     requires { ⌜ Sound (now s) ⌝ }
     ensures { λ r. ⌜ r ≡ firstOf (registerRefusals house (number (now (s .entry))) (view (now (s .entry))) receiver t) ⌝ }
 {
@@ -125,7 +125,7 @@ pub fn register_refusal(s: &Words, receiver: u8, t: Transaction) -> u8
     register_ledger(s, t)
 }
 
-// 3 to 6 of a vote.
+// 3 to 6 of a vote. Internal: public because a cluster asks for them before 16.
 pub fn deliver_form(me: u8, receiver: u8, sender: u8, verdict: u8, t: Transaction) -> u8
     ensures { λ r. ⌜ r ≡ firstOf (deliverForm house me receiver sender verdict t) ⌝ }
 {
@@ -153,7 +153,7 @@ fn is_other_verdict(heard: u8, verdict: u8) -> bool
 }
 
 // 11, 7 and 12, from the place of the transaction's number.
-pub fn deliver_ledger(s: &Words, place: usize, sender: u8, verdict: u8, t: Transaction) -> u8
+pub(crate) fn deliver_ledger(s: &Words, place: usize, sender: u8, verdict: u8, t: Transaction) -> u8
     requires { ⌜ Sound (now s) × (place ≡ find (isNumbered (t .number)) (view (now s) .known)) ⌝ }
     ensures { λ r. ⌜ r ≡ firstOf (deliverLedger (view (now (s .entry))) sender verdict t) ⌝ }
 {

@@ -36,7 +36,7 @@ use registry::deciding::outcome_at;
 use transaction::Transaction;
 
 // The genesis token, and its index given.
-pub fn after_mint(s: &mut Words, index: u8, owner: u32, amount: u32)
+pub(crate) fn after_mint(s: &mut Words, index: u8, owner: u32, amount: u32)
     requires { ⌜ (length (now s) ≡ shardWords) × ((shardOf (now s) .held < tokenSlots) × (index < genesisSlots)) ⌝ }
     ensures { λ _. ⌜ Minted (now (s .entry)) index owner amount (now (s .exit)) ⌝ }
 {
@@ -128,7 +128,7 @@ fn enter(s: &mut Words, verdict: bool, t: Transaction) -> Outcome
     decide_at(s, place)
 }
 
-pub fn carry_registration(s: &mut Words, t: Transaction) -> Answer
+pub(crate) fn carry_registration(s: &mut Words, t: Transaction) -> Answer
     requires { ⌜ Sound (now s) × (firstOf (registerRefusals house (number (now s)) (view (now s)) (number (now s)) t) ≡ 0) ⌝ }
     ensures { λ r. ⌜ Steps (now (s .entry)) (register (number (now (s .entry))) t) r (now (s .exit)) ⌝ }
 {
@@ -149,7 +149,13 @@ fn fresh_vote(s: &mut Words, place: usize, sender: u8, verdict: u8) -> Answer
 }
 
 // A vote that passes, on the transaction whose number stands at a place.
-pub fn carry_vote(s: &mut Words, place: usize, sender: u8, verdict: u8, t: Transaction) -> Answer
+pub(crate) fn carry_vote(
+    s: &mut Words,
+    place: usize,
+    sender: u8,
+    verdict: u8,
+    t: Transaction,
+) -> Answer
     requires { ⌜ Sound (now s) × ((place ≡ find (isNumbered (t .number)) (view (now s) .known))
         × (firstOf (deliverRefusals house (number (now s)) (view (now s)) (number (now s)) sender verdict t) ≡ 0)) ⌝ }
     ensures { λ r. ⌜ Steps (now (s .entry)) (deliver (number (now (s .entry))) sender verdict t) r (now (s .exit)) ⌝ }

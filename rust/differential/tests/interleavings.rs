@@ -4,7 +4,7 @@
 use std::collections::BTreeMap;
 use std::{array, thread};
 
-use differential::{Player, share_out};
+use differential::{ANSWERS, Player, share_out};
 use engine::Cluster;
 use reference::Done;
 use weeks::{Clauses, Scenario, Tally, View, label, scenarios};
@@ -91,21 +91,8 @@ fn every_order_of_every_scenario() {
         orders += scenario.orders;
         all.join(&scenario.tally);
     }
-    let labels = [
-        "REFUSED 7",
-        "REFUSED 11",
-        "REFUSED 16",
-        "YES WAIT",
-        "YES COMMIT",
-        "NO WAIT",
-        "NO ABORT",
-        "HEARD WAIT",
-        "HEARD COMMIT",
-        "HEARD ABORT",
-        "AGAIN WAIT",
-        "AGAIN COMMIT",
-        "AGAIN ABORT",
-    ];
+    let refusals = ["REFUSED 7", "REFUSED 11", "REFUSED 16"];
+    let labels = [&refusals[..], &ANSWERS].concat();
     all.report(&format!("all scenarios, {orders} orders"), &labels, 1000);
     assert_eq!(orders, 497_649, "orders");
 }
