@@ -7,9 +7,10 @@ use lib.ListN.{length, take, List·getD-eq-default, length-map}
 use lib.Seq.{take-all}
 use Rattle.transaction.specs.Lists.{total}
 use Rattle.model.specs.Steps.{house, emptyLedger}
+use Rattle.model.specs.Cluster.{ledgerAt}
 use Rattle.shard.specs.View as shard
 use Rattle.cluster.specs.View.{view, shardAt, Sound}
-use Rattle.cluster.specs.Queries.{Seen, heldIn, totalHeld}
+use Rattle.cluster.specs.Queries.{heldIn, totalHeld}
 use Rattle.cluster.proofs.Shards.{ledger-of}
 
 total-map : {A B : Type 0} (f : B → ℕ) (g : A → B) (x : List A) → total f (map g x) ≡ total (λ (a : A). f (g a)) x
@@ -26,17 +27,10 @@ module _ (c : List (List ℕ)) (sound : Sound c) where
   held-in-all e = sym e ∙ ap (total heldBy) (take-all 8 c (omega (arith, sound .eight))) ∙ sym (total-map heldIn shard.view c)
 
   module _ (number : ℕ) where
-    pub seen-none : 8 ≤ number → {s : List ℕ} → shard.Fresh number s → Seen c number s
-    unfolding view
-    seen-none h f = record {
-      ledger = f .empty ∙ sym (List·getD-eq-default (map shard.view c) (emptyLedger house) {n = number} (rw (length-map c shard.view, sound .eight) h));
-      numbered = f .numbered;
-      sound = f .sound;
-    }
+    -- the ledger of a shard, and above 7 the empty one
+    pub ledger-there : number < 8 → shard.view (shardAt c number) ≡ ledgerAt house (view c) number
+    ledger-there h = sym (ledger-of c sound number h)
 
-    pub seen-there : number < 8 → Seen c number (shardAt c number)
-    seen-there h = record {
-      ledger = sym (ledger-of c sound number h);
-      numbered = sound .each number h .numbered;
-      sound = sound .each number h .sound;
-    }
+    pub ledger-none : 8 ≤ number → ledgerAt house (view c) number ≡ emptyLedger house
+    unfolding view
+    ledger-none h = List·getD-eq-default (map shard.view c) (emptyLedger house) {n = number} (rw (length-map c shard.view, sound .eight) h)

@@ -8,15 +8,22 @@ use lib.ListN.{length, List·getD-eq-default}
 use Rattle.model.specs.declared.Token.{Token}
 use Rattle.model.specs.declared.Known.{Known}
 use Rattle.model.specs.declared.Outcome.{Outcome}
-use Rattle.model.specs.Lists.{find}
 use Rattle.model.specs.Steps.{genesisToken, outcomeOf}
 use Rattle.layout.specs.Layout.{shardOf, slotToken, slotKnown}
 use Rattle.layout.proofs.Ledgers.{held-length, known-length, held-entry, known-entry}
-use Rattle.registry.specs.Numbers.{isNumbered}
 use Rattle.shard.specs.declared.queries.HeldToken.the-variants.{Held, NotHeld}
 use Rattle.shard.specs.declared.queries.KnownOutcome.the-variants as outcome
 use Rattle.shard.specs.View.{view, Sound}
-use Rattle.shard.specs.Queries.{tokenAt, blankKnown, knownAt, outcomeAt, outcomeOfNumber}
+use Rattle.shard.specs.Queries.{tokenAt, blankKnown, knownAt, outcomeAt}
+
+-- behind the last of a ledger's tokens, and of its known transactions
+pub none-held : (tokens : List Token) (place : ℕ) → length tokens ≤ place → NotHeld ≡ tokenAt tokens place
+unfolding tokenAt
+none-held tokens place h = sym (rw (le-ltb place (length tokens) h) refl)
+
+pub none-known : (known : List Known) (place : ℕ) → length known ≤ place → outcome.Unknown ≡ outcomeAt known place
+unfolding outcomeAt
+none-known known place h = sym (rw (le-ltb place (length known) h) refl)
 
 module _ (ws : List ℕ) (sound : Sound ws) (place : ℕ) {n : ℕ} where
   -- the tokens held
@@ -31,8 +38,7 @@ module _ (ws : List ℕ) (sound : Sound ws) (place : ℕ) {n : ℕ} where
         ∙ sym (rw (lt-ltb place (length (view ws .tokens)) (omega (arith, held-all))) refl)
 
     pub token-behind : n ≤ place → NotHeld ≡ tokenAt (view ws .tokens) place
-    unfolding tokenAt
-    token-behind h = sym (rw (le-ltb place (length (view ws .tokens)) (omega (arith, held-all))) refl)
+    token-behind h = none-held (view ws .tokens) place (omega (arith, held-all))
 
   -- the known transactions
   module _ (count : n ≡ shardOf ws .known) where
@@ -45,14 +51,12 @@ module _ (ws : List ℕ) (sound : Sound ws) (place : ℕ) {n : ℕ} where
     pub known-behind : {k : Known} → n ≤ place → k ≡ blankKnown → k ≡ knownAt (view ws .known) place
     known-behind h e = e ∙ sym (List·getD-eq-default (view ws .known) blankKnown {n = place} (omega (arith, known-all)))
 
-    -- the outcome of the one of a number
-    module _ (number : ℕ) (found : place ≡ find (isNumbered number) (view ws .known)) where
-      pub outcome-within : {o : Outcome} → place < n → o ≡ outcomeOf (slotKnown ws place) → outcome.Known o ≡ outcomeOfNumber (view ws .known) number
-      unfolding outcomeAt outcomeOfNumber
-      outcome-within h e =
-          ap outcome.Known (e ∙ ap outcomeOf (known-within h refl))
-          ∙ sym (rw (← found, lt-ltb place (length (view ws .known)) (omega (arith, known-all))) refl)
+    -- and their outcomes
+    pub outcome-within : {o : Outcome} → place < n → o ≡ outcomeOf (slotKnown ws place) → outcome.Known o ≡ outcomeAt (view ws .known) place
+    unfolding outcomeAt
+    outcome-within h e =
+        ap outcome.Known (e ∙ ap outcomeOf (known-within h refl))
+        ∙ sym (rw (lt-ltb place (length (view ws .known)) (omega (arith, known-all))) refl)
 
-      pub outcome-behind : n ≤ place → outcome.Unknown ≡ outcomeOfNumber (view ws .known) number
-      unfolding outcomeAt outcomeOfNumber
-      outcome-behind h = sym (rw (← found, le-ltb place (length (view ws .known)) (omega (arith, known-all))) refl)
+    pub outcome-behind : n ≤ place → outcome.Unknown ≡ outcomeAt (view ws .known) place
+    outcome-behind h = none-known (view ws .known) place (omega (arith, known-all))

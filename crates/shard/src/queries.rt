@@ -5,7 +5,7 @@ ghost use Prim.Native.Nat.{_≤_, _<_};
 ghost use lib.ListN.{getD, length};
 ghost use Rattle.model.specs.Lists.{find};
 ghost use Rattle.shard.specs.View.{view, Sound};
-ghost use Rattle.shard.specs.Queries.{tokenAt, hasId, tokenOfId, blankKnown, knownAt, outcomeOfNumber, totalAmount};
+ghost use Rattle.shard.specs.Queries.{tokenAt, hasId, tokenOfId, blankKnown, knownAt, outcomeAt, outcomeOfNumber, totalAmount};
 use layout::Words;
 use layout::counts;
 use layout::entries;
@@ -13,7 +13,7 @@ use layout::tokens;
 use model::Known;
 use model::Outcome;
 use model::Token;
-use registry::deciding::outcome_at;
+use registry::deciding;
 use registry::finding::place_of_number;
 
 pub enum HeldToken {
@@ -78,7 +78,8 @@ pub fn find_token(s: &Words, creator: u32, index: u8) -> HeldToken
     token_at(s, place)
 }
 
-fn blank_known() -> Known
+// No known transaction: what stands behind the last one.
+pub fn blank_known() -> Known
     ensures { λ r. ⌜ r ≡ blankKnown ⌝ }
 {
     Known {
@@ -98,16 +99,24 @@ pub fn known_at(s: &Words, place: usize) -> Known
     blank_known()
 }
 
+// The outcome of the known transaction at a place.
+pub fn outcome_at(s: &Words, place: usize) -> KnownOutcome
+    requires { ⌜ Sound (now s) ⌝ }
+    ensures { λ r. ⌜ r ≡ outcomeAt (view (now (s .entry)) .known) place ⌝ }
+{
+    if place < counts::known_count(s) {
+        return KnownOutcome::Known(deciding::outcome_at(s, place));
+    }
+    KnownOutcome::Unknown
+}
+
 // The outcome of the known transaction of that number.
 pub fn outcome_of(s: &Words, number: u32) -> KnownOutcome
     requires { ⌜ Sound (now s) ⌝ }
     ensures { λ r. ⌜ r ≡ outcomeOfNumber (view (now (s .entry)) .known) number ⌝ }
 {
     let place = place_of_number(s, number);
-    if place < counts::known_count(s) {
-        return KnownOutcome::Known(outcome_at(s, place));
-    }
-    KnownOutcome::Unknown
+    outcome_at(s, place)
 }
 
 // The genesis index was given.

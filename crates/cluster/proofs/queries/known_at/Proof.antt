@@ -1,0 +1,47 @@
+use Rattle.cluster.proofs.Asked.{ledger-there, ledger-none}
+use mathlib.Core.Path.{refl}
+use denote.Ref.{now}
+use borrow.Author.Needs.{needs}
+use Rattle.cluster.proofs.queries.known_at.Statement.{statement}
+use Rattle.cluster.proofs.queries.known_at.Tie as tie
+
+blank-known-requires : tie.Need-blank-known-requires
+blank-known-requires c κs = search needs
+
+returns : tie.Need-returns
+returns c =
+    let args = c .before .before .args in
+    let pre = c .before .before .pre in
+    let if1 = c .before .if1 in
+    let blank-known = c .blank-known in
+    rw (ledger-none (now (args .c)) pre (args .number) (if1 .taken)) (blank-known .ensures)
+
+mul-known-at : tie.Need-mul-known-at
+mul-known-at c = search needs
+
+index-1-known-at : tie.Need-index-1-known-at
+index-1-known-at c = search needs
+
+known-at-requires : tie.Need-known-at-requires
+known-at-requires c κs =
+    let pre = c .before .before .pre in
+    let args = c .before .before .args in
+    pre .each (args .number) (search needs) .sound
+
+returns-2 : tie.Need-returns-2
+returns-2 c =
+    let args = c .before .before .before .args in
+    let pre = c .before .before .before .pre in
+    let known-at = c .known-at in
+    rw (← ledger-there (now (args .c)) pre (args .number) (search needs)) (known-at .ensures)
+
+pub known-at-spec : {M : Type 1} → statement M
+known-at-spec =
+    tie.close
+    (tie.spec
+    blank-known-requires
+    returns
+    mul-known-at
+    index-1-known-at
+    known-at-requires
+    returns-2)

@@ -1,0 +1,38 @@
+use Rattle.cluster.proofs.Asked.{ledger-there, ledger-none}
+use Rattle.shard.proofs.Asked.{none-known}
+use mathlib.Core.List.{[]}
+use native.Mathlib.Omega.{arith}
+use denote.Ref.{now}
+use borrow.Author.Needs.{needs}
+use Rattle.cluster.proofs.queries.outcome_at.Statement.{statement}
+use Rattle.cluster.proofs.queries.outcome_at.Tie as tie
+
+returns : tie.Need-returns
+returns c =
+    let args = c .before .args in
+    let pre = c .before .pre in
+    let if1 = c .if1 in
+    rw (ledger-none (now (args .c)) pre (args .number) (if1 .taken)) (none-known [] (args .place) (omega arith))
+
+mul-outcome-at : tie.Need-mul-outcome-at
+mul-outcome-at c = search needs
+
+index-1-outcome-at : tie.Need-index-1-outcome-at
+index-1-outcome-at c = search needs
+
+outcome-at-requires : tie.Need-outcome-at-requires
+outcome-at-requires c κs =
+    let pre = c .before .before .pre in
+    let args = c .before .before .args in
+    pre .each (args .number) (search needs) .sound
+
+returns-2 : tie.Need-returns-2
+returns-2 c =
+    let args = c .before .before .before .args in
+    let pre = c .before .before .before .pre in
+    let outcome-at = c .outcome-at in
+    rw (← ledger-there (now (args .c)) pre (args .number) (search needs)) (outcome-at .ensures)
+
+pub outcome-at-spec : {M : Type 1} → statement M
+outcome-at-spec =
+    tie.close (tie.spec returns mul-outcome-at index-1-outcome-at outcome-at-requires returns-2)
