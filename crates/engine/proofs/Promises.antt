@@ -11,14 +11,20 @@ use Rattle.reader.specs.Reading.{numberOf, takenOf, restOf, Reads}
 use Rattle.reader.proofs.Cases.{taken-within}
 use Rattle.writer.specs.declared.Written.{Written}
 use Rattle.writer.specs.Writing.{Writes}
+use Rattle.model.specs.declared.Token.{Token}
+use Rattle.model.specs.declared.Known.{Known}
 use Rattle.model.specs.declared.Answer.{Answer}
 use Rattle.model.specs.Shard.{Call}
+use Rattle.shard.specs.declared.queries.HeldToken.{HeldToken}
+use Rattle.shard.specs.declared.queries.KnownOutcome.{KnownOutcome}
 use Rattle.shard.specs.View as shard
+use Rattle.shard.specs.Queries.{tokenAt, knownAt, outcomeAt}
 use Rattle.cluster.specs.View as cluster
 use Rattle.calls.specs.Calls.{callOf}
 use Rattle.engine.specs.Codes.{answerCode}
 use Rattle.engine.specs.Fields.{readingWords, Fills}
 use Rattle.engine.specs.Writing.{codeOf, Encodes}
+use Rattle.engine.specs.Queries.{heldCode, tokenWords, knownCode, knownWords, TellsToken, TellsKnown}
 use Rattle.engine.specs.Calls.{clusterCalled, shardCalled, appliedAs, applied, ClusterDoes, ShardDoes}
 
 pub fills : {bytes : List ℕ} {r : Reading} {number : ℕ} {after : List ℕ} → Reads bytes r → number ≡ numberOf (r .answer)
@@ -33,6 +39,17 @@ encodes writes e = record { answered = e ∙ ap codeOf (writes .answered); lent 
 pub rest-length : (l : List ℕ) {rest : List ℕ} → rest ≡ restOf l → takenOf l + length rest ≡ length l
 unfolding restOf
 rest-length l e = omega (arith, ap length e, length-drop (takenOf l) l, taken-within l)
+
+-- ---- Queries
+
+pub tells-token : {tokens : List Token} {place : ℕ} {held : HeldToken} {answer : ℕ} {after : List ℕ} → held ≡ tokenAt tokens place
+    → answer ≡ heldCode held → after ≡ tokenWords held → TellsToken tokens place answer after
+tells-token e ea ef = record { answered = ea ∙ ap heldCode e; filled = ef ∙ ap tokenWords e }
+
+pub tells-known : {known : List Known} {place : ℕ} {found : Known} {outcome : KnownOutcome} {answer : ℕ} {after : List ℕ}
+    → found ≡ knownAt known place → outcome ≡ outcomeAt known place → answer ≡ knownCode outcome → after ≡ knownWords found
+    → TellsKnown known place answer after
+tells-known e eo ea ef = record { answered = ea ∙ ap knownCode eo; filled = ef ∙ ap knownWords e }
 
 -- ---- Calls
 

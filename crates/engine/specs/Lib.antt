@@ -3,3 +3,4 @@ pub mod Codes
 pub mod Fields
 pub mod Writing
 pub mod Calls
+pub mod Queries

@@ -3,8 +3,7 @@ ghost use mathlib.Core.Path.{_≡_};
 ghost use Prim.Native.Nat.{_*_};
 ghost use Rattle.model.specs.Shard.{mint, register, deliver};
 ghost use Rattle.layout.specs.Layout.{shardWords};
-ghost use Rattle.cluster.specs.View.{view, Sound, Fresh};
-ghost use Rattle.cluster.specs.Queries.{totalHeld};
+ghost use Rattle.cluster.specs.View.{Sound, Fresh};
 ghost use Rattle.engine.specs.Words.{byteOf, transactionFrom};
 ghost use Rattle.engine.specs.Calls.{clusterCalled, applied, ClusterDoes};
 use crate::codes::answer_code;
@@ -30,15 +29,6 @@ pub extern "C" fn plankeeper_new(c: &mut Cluster)
     ensures { λ _. ⌜ Fresh (now (c .exit)) ⌝ }
 {
     cluster::new(c);
-}
-
-// The sum of the amounts held in all shards (document 01: the portions held in all pantries).
-#[no_mangle]
-pub extern "C" fn plankeeper_total(c: &Cluster) -> u64
-    requires { ⌜ Sound (now c) ⌝ }
-    ensures { λ r. ⌜ r ≡ totalHeld (view (now (c .entry))) ⌝ }
-{
-    cluster::queries::total_amount(c)
 }
 
 // The record at the front of the bytes, read and carried out; where it is refused with 1 to 5, nothing is changed.

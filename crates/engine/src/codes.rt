@@ -6,7 +6,7 @@ use crate::words::wide;
 use model::Answer;
 use model::Outcome;
 
-fn outcome_code(o: Outcome) -> u32
+pub(crate) fn outcome_code(o: Outcome) -> u32
     ensures { λ r. ⌜ (r ≡ outcomeCode o) × (r ≤ 2) ⌝ }
 {
     match o {

@@ -32,6 +32,9 @@
 pub mod words; // a transaction as 35 words, both ways
 pub mod codes; // an answer as a number
 pub mod fields; // what was read of a record, as 42 words
+pub mod ledgers; // a held token as 5 words, a known transaction as 43
 pub mod records; // records read and written: plankeeper_read, _taken, _write_register, _write_vote, _write_mint
-pub mod clusters; // a cluster: plankeeper_words, _new, _total, _apply, _mint, _register, _deliver
-pub mod shards; // a lone shard: plankeeper_shard_words, _shard_new, _shard_total, _shard_mint, _shard_register, _shard_hear
+pub mod clusters; // a cluster: plankeeper_words, _new, _apply, _mint, _register, _deliver
+pub mod cluster_queries; // plankeeper_held_count, _token_at, _known_count, _known_at, _outcome_of, _total_at, _total
+pub mod shards; // a lone shard: plankeeper_shard_words, _shard_new, _shard_mint, _shard_register, _shard_hear
+pub mod shard_queries; // plankeeper_shard_held_count, _shard_token_at, _shard_known_count, _shard_known_at, _shard_outcome_of, _shard_total

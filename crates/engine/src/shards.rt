@@ -2,8 +2,7 @@
 ghost use mathlib.Core.Path.{_≡_};
 ghost use Rattle.model.specs.Shard.{mint, register, deliver};
 ghost use Rattle.layout.specs.Layout.{shardWords};
-ghost use Rattle.shard.specs.View.{number, view, Sound, Fresh};
-ghost use Rattle.shard.specs.Queries.{totalAmount};
+ghost use Rattle.shard.specs.View.{number, Sound, Fresh};
 ghost use Rattle.engine.specs.Words.{byteOf, transactionFrom};
 ghost use Rattle.engine.specs.Calls.{shardCalled, ShardDoes};
 use crate::codes::answer_code;
@@ -26,15 +25,6 @@ pub extern "C" fn plankeeper_shard_new(s: &mut Words, number: u32)
     ensures { λ _. ⌜ Fresh (byteOf number) (now (s .exit)) ⌝ }
 {
     shard::new(s, narrow(number));
-}
-
-// The sum of the amounts held (document 01: of the portions).
-#[no_mangle]
-pub extern "C" fn plankeeper_shard_total(s: &Words) -> u64
-    requires { ⌜ Sound (now s) ⌝ }
-    ensures { λ r. ⌜ r ≡ totalAmount (view (now (s .entry)) .tokens) ⌝ }
-{
-    shard::queries::total_amount(s)
 }
 
 // An opening: the shard is given a genesis token.

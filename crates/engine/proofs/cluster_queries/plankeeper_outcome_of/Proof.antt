@@ -1,0 +1,25 @@
+use Rattle.engine.specs.Queries.{knownCode}
+use mathlib.Core.Path.{ap, _∙_}
+use borrow.Author.Needs.{needs}
+use Rattle.engine.proofs.cluster_queries.plankeeper_outcome_of.Statement.{statement}
+use Rattle.engine.proofs.cluster_queries.plankeeper_outcome_of.Tie as tie
+
+narrow-requires : tie.Need-narrow-requires
+narrow-requires c κs = search needs
+
+outcome-of-requires : tie.Need-outcome-of-requires
+outcome-of-requires c κs = search needs
+
+known-code-requires : tie.Need-known-code-requires
+known-code-requires c κs = search needs
+
+returns : tie.Need-returns
+returns c =
+    let narrow = c .before .before .narrow in
+    let known-code = c .known-code in
+    let outcome-of = c .before .outcome-of in
+    rw (← narrow .ensures) (known-code .ensures ∙ ap knownCode (outcome-of .ensures))
+
+pub plankeeper-outcome-of-spec : {M : Type 1} → statement M
+plankeeper-outcome-of-spec =
+    tie.close (tie.spec narrow-requires outcome-of-requires known-code-requires returns)

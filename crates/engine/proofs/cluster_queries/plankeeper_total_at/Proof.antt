@@ -1,0 +1,18 @@
+use borrow.Author.Needs.{needs}
+use Rattle.engine.proofs.cluster_queries.plankeeper_total_at.Statement.{statement}
+use Rattle.engine.proofs.cluster_queries.plankeeper_total_at.Tie as tie
+
+narrow-requires : tie.Need-narrow-requires
+narrow-requires c κs = search needs
+
+amount-at-requires : tie.Need-amount-at-requires
+amount-at-requires c κs = search needs
+
+returns : tie.Need-returns
+returns c =
+    let narrow = c .before .narrow in
+    let amount-at = c .amount-at in
+    rw (← narrow .ensures) (amount-at .ensures)
+
+pub plankeeper-total-at-spec : {M : Type 1} → statement M
+plankeeper-total-at-spec = tie.close (tie.spec narrow-requires amount-at-requires returns)

@@ -1,0 +1,34 @@
+use Rattle.engine.proofs.Promises.{tells-known}
+use borrow.Author.Needs.{needs}
+use Rattle.engine.proofs.shard_queries.plankeeper_shard_known_at.Statement.{statement}
+use Rattle.engine.proofs.shard_queries.plankeeper_shard_known_at.Tie as tie
+
+known-at-requires : tie.Need-known-at-requires
+known-at-requires c κs = search needs
+
+known-words-requires : tie.Need-known-words-requires
+known-words-requires c κs = search needs
+
+outcome-at-requires : tie.Need-outcome-at-requires
+outcome-at-requires c κs = search needs
+
+known-code-requires : tie.Need-known-code-requires
+known-code-requires c κs = search needs
+
+returns : tie.Need-returns
+returns c =
+    let known-at = c .before .before .before .known-at in
+    let outcome-at = c .before .outcome-at in
+    let known-code = c .known-code in
+    let known-words = c .before .before .known-words in
+    tells-known (known-at .ensures) (outcome-at .ensures) (known-code .ensures) (known-words .ensures)
+
+pub plankeeper-shard-known-at-spec : {M : Type 1} → statement M
+plankeeper-shard-known-at-spec =
+    tie.close
+    (tie.spec
+    known-at-requires
+    known-words-requires
+    outcome-at-requires
+    known-code-requires
+    returns)

@@ -1,0 +1,69 @@
+// What can be asked of a lone shard: exported functions. Nothing is changed but the words lent for the answer.
+ghost use mathlib.Core.Path.{_≡_};
+ghost use lib.ListN.{length};
+ghost use Rattle.shard.specs.View.{view, Sound};
+ghost use Rattle.shard.specs.Queries.{outcomeOfNumber, totalAmount};
+ghost use Rattle.engine.specs.Queries.{knownCode, TellsToken, TellsKnown};
+use crate::ledgers::held_code;
+use crate::ledgers::known_code;
+use crate::ledgers::known_words;
+use crate::ledgers::token_words;
+use layout::Words;
+use shard::queries;
+
+// How many tokens it holds.
+#[no_mangle]
+pub extern "C" fn plankeeper_shard_held_count(s: &Words) -> usize
+    requires { ⌜ Sound (now s) ⌝ }
+    ensures { λ r. ⌜ r ≡ length (view (now (s .entry)) .tokens) ⌝ }
+{
+    queries::held_count(s)
+}
+
+// The token at a place of those that it holds: 1 and the token's words, or 0 and zeros.
+#[no_mangle]
+pub extern "C" fn plankeeper_shard_token_at(s: &Words, place: usize, token: &mut [u32; 5]) -> u32
+    requires { ⌜ Sound (now s) ⌝ }
+    ensures { λ r. ⌜ TellsToken (view (now (s .entry)) .tokens) place r (now (token .exit)) ⌝ }
+{
+    let held = queries::token_at(s, place);
+    *token = token_words(held);
+    held_code(held)
+}
+
+// How many transactions it knows.
+#[no_mangle]
+pub extern "C" fn plankeeper_shard_known_count(s: &Words) -> usize
+    requires { ⌜ Sound (now s) ⌝ }
+    ensures { λ r. ⌜ r ≡ length (view (now (s .entry)) .known) ⌝ }
+{
+    queries::known_count(s)
+}
+
+// The transaction at a place of those that it knows: its outcome here, its words and the verdicts heard; or 3 and zeros.
+#[no_mangle]
+pub extern "C" fn plankeeper_shard_known_at(s: &Words, place: usize, known: &mut [u32; 43]) -> u32
+    requires { ⌜ Sound (now s) ⌝ }
+    ensures { λ r. ⌜ TellsKnown (view (now (s .entry)) .known) place r (now (known .exit)) ⌝ }
+{
+    *known = known_words(queries::known_at(s, place));
+    known_code(queries::outcome_at(s, place))
+}
+
+// The outcome here of the transaction that it knows by that number; 3 for none.
+#[no_mangle]
+pub extern "C" fn plankeeper_shard_outcome_of(s: &Words, number: u32) -> u32
+    requires { ⌜ Sound (now s) ⌝ }
+    ensures { λ r. ⌜ r ≡ knownCode (outcomeOfNumber (view (now (s .entry)) .known) number) ⌝ }
+{
+    known_code(queries::outcome_of(s, number))
+}
+
+// The sum of the amounts that it holds (document 01: of the portions).
+#[no_mangle]
+pub extern "C" fn plankeeper_shard_total(s: &Words) -> u64
+    requires { ⌜ Sound (now s) ⌝ }
+    ensures { λ r. ⌜ r ≡ totalAmount (view (now (s .entry)) .tokens) ⌝ }
+{
+    queries::total_amount(s)
+}
