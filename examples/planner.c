@@ -106,10 +106,10 @@ static void play(plankeeper *cluster, const uint8_t *bytes, size_t length)
     }
 }
 
-static void print_token(const plankeeper *cluster, uint32_t shard, size_t k)
+static void print_token(const plankeeper *cluster, uint32_t shard, size_t place)
 {
     uint32_t token[PLANKEEPER_TOKEN_WORDS];
-    plankeeper_token_at(cluster, shard, k, token);
+    plankeeper_token_at(cluster, shard, place, token);
     printf("  token %" PRIu32 "/%" PRIu32 "/%" PRIu32 ": household %" PRIu32 ", portions %" PRIu32,
            shard, token[PLANKEEPER_TOKEN_CREATOR], token[PLANKEEPER_TOKEN_INDEX],
            token[PLANKEEPER_TOKEN_OWNER], token[PLANKEEPER_TOKEN_AMOUNT]);
@@ -118,10 +118,10 @@ static void print_token(const plankeeper *cluster, uint32_t shard, size_t k)
     putchar('\n');
 }
 
-static void print_known(const plankeeper *cluster, uint32_t shard, size_t k)
+static void print_known(const plankeeper *cluster, uint32_t shard, size_t place)
 {
     uint32_t known[PLANKEEPER_KNOWN_WORDS];
-    uint32_t outcome = plankeeper_known_at(cluster, shard, k, known);
+    uint32_t outcome = plankeeper_known_at(cluster, shard, place, known);
     printf("  swap %" PRIu32 ": %s, heard", known[PLANKEEPER_NUMBER], OUTCOMES[outcome]);
     for (uint32_t sender = 0; sender < PLANKEEPER_SHARDS; sender++) {
         uint32_t verdict = known[PLANKEEPER_KNOWN_VERDICT(sender)];
@@ -137,10 +137,10 @@ static void print_shard(const plankeeper *cluster, uint32_t shard)
     size_t known = plankeeper_known_count(cluster, shard);
     printf("pantry %" PRIu32 ": tokens %zu, portions %" PRIu64 ", swaps %zu\n", shard, held,
            plankeeper_total_at(cluster, shard), known);
-    for (size_t k = 0; k < held; k++)
-        print_token(cluster, shard, k);
-    for (size_t k = 0; k < known; k++)
-        print_known(cluster, shard, k);
+    for (size_t place = 0; place < held; place++)
+        print_token(cluster, shard, place);
+    for (size_t place = 0; place < known; place++)
+        print_known(cluster, shard, place);
 }
 
 static void plan(const uint8_t *bytes, size_t length)

@@ -311,18 +311,19 @@ uint64_t plankeeper_total_at(const plankeeper *cluster, uint32_t shard);
 /* How many tokens the shard holds, 0 to PLANKEEPER_MAX_TOKENS. */
 size_t plankeeper_held_count(const plankeeper *cluster, uint32_t shard);
 
-/* Fills in the k-th token held at the shard, from 0, in the order of the shard's memory, which a
- * call may change. Returns 1; or 0 where there is none, and then the words are all 0. */
-uint32_t plankeeper_token_at(const plankeeper *cluster, uint32_t shard, size_t k,
+/* Fills in the token at that place, from 0, among those held at the shard. Their order is that of
+ * the shard's memory, and a call may change it. Returns 1; or 0 where there is none, and then the
+ * words are all 0. */
+uint32_t plankeeper_token_at(const plankeeper *cluster, uint32_t shard, size_t place,
                              uint32_t token[PLANKEEPER_TOKEN_WORDS]);
 
 /* How many transactions the shard knows, 0 to PLANKEEPER_MAX_KNOWN. */
 size_t plankeeper_known_count(const plankeeper *cluster, uint32_t shard);
 
-/* Fills in the k-th transaction known at the shard, from 0, in the order of registration, with the
- * verdicts heard there. Returns its outcome there; or PLANKEEPER_UNKNOWN where there is none, and
- * then the words are all 0. */
-uint32_t plankeeper_known_at(const plankeeper *cluster, uint32_t shard, size_t k,
+/* Fills in the transaction at that place, from 0, among those known at the shard, in the order of
+ * registration, and the verdicts heard there. Returns its outcome there; or PLANKEEPER_UNKNOWN
+ * where there is none, and then the words are all 0. */
+uint32_t plankeeper_known_at(const plankeeper *cluster, uint32_t shard, size_t place,
                              uint32_t known[PLANKEEPER_KNOWN_WORDS]);
 
 /* The outcome at the shard of the transaction that it knows by that number; PLANKEEPER_UNKNOWN
@@ -360,10 +361,10 @@ uint64_t plankeeper_shard_total(const plankeeper_shard *shard);
 /* As plankeeper_held_count, plankeeper_token_at, plankeeper_known_count, plankeeper_known_at and
  * plankeeper_outcome_of. */
 size_t plankeeper_shard_held_count(const plankeeper_shard *shard);
-uint32_t plankeeper_shard_token_at(const plankeeper_shard *shard, size_t k,
+uint32_t plankeeper_shard_token_at(const plankeeper_shard *shard, size_t place,
                                    uint32_t token[PLANKEEPER_TOKEN_WORDS]);
 size_t plankeeper_shard_known_count(const plankeeper_shard *shard);
-uint32_t plankeeper_shard_known_at(const plankeeper_shard *shard, size_t k,
+uint32_t plankeeper_shard_known_at(const plankeeper_shard *shard, size_t place,
                                    uint32_t known[PLANKEEPER_KNOWN_WORDS]);
 uint32_t plankeeper_shard_outcome_of(const plankeeper_shard *shard, uint32_t number);
 
