@@ -8,12 +8,14 @@
 mod inputs;
 mod process;
 mod tally;
+mod weeks;
 
 pub use inputs::{DAMAGES, Input, encode_all, input};
 pub use process::{
     CHUNKS, PATIENCE, list, list_split, program, root, spawn, wait, wait_until_asleep, write_parts,
 };
 pub use tally::Tally;
+pub use weeks::{Week, week_files, weeks};
 
 use weektext::text;
 
