@@ -18,9 +18,7 @@ static const char USAGE[] =
     "usage: planner [FILE]\n"
     "\n"
     "Plays a week's records, from FILE or from standard input where none is named,\n"
-    "and prints the answer to each record, what each pantry then holds and knows,\n"
-    "and the total.\n"
-    "\n"
+    "and prints each answer, what each pantry then holds and knows, and the total.\n"
     "Exit status: 0; 1 if something cannot be read or written; 2 bad usage.\n";
 
 /* The causes of refusal in document 01's words; there is no number 0. */

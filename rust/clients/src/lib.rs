@@ -17,4 +17,4 @@ pub use causes::{CAUSES, GIVERS};
 pub use expected::planner_text;
 pub use header::{Cause, Header};
 pub use prototype::{Parameter, Prototype};
-pub use tools::{Language, compile, library, link, run, rust_example, scratch, symbols};
+pub use tools::{Language, compile, library, link, run, rust_example, scratch, symbols, well};

@@ -62,7 +62,7 @@ pub fn scratch(tests: &str, name: &str) -> PathBuf {
 pub fn compile(language: Language, source: &Path, object: &Path) {
     let mut compiler = language.compiler();
     compiler.arg(source).arg("-c").arg("-o").arg(object);
-    quietly(&mut compiler);
+    well(&mut compiler);
 }
 
 /// Compiles the source and links it with the static library.
@@ -70,7 +70,7 @@ pub fn link(language: Language, source: &Path, binary: &Path) {
     let mut compiler = language.compiler();
     compiler.arg(source).args(["-x", "none"]).arg(library());
     compiler.arg("-o").arg(binary);
-    quietly(&mut compiler);
+    well(&mut compiler);
 }
 
 /// The example of this name in the Rust crate `plankeeper`, built by cargo into
@@ -83,15 +83,14 @@ pub fn rust_example(tests: &str, name: &str) -> PathBuf {
     cargo.current_dir(root().join("rust"));
     cargo.args(["build", "--release", "--quiet", "--offline"]);
     cargo.args(["-p", "plankeeper", "--example", name, "--target-dir"]);
-    quietly(cargo.arg(target));
+    well(cargo.arg(target));
     target.join("release/examples").join(name)
 }
 
 /// The functions that the static library defines, in order.
 pub fn symbols() -> Vec<String> {
-    let listed = run(Command::new("nm").arg(library()));
-    assert!(listed.status.success(), "nm ended with {}", listed.status);
-    let listed = String::from_utf8(listed.stdout).expect("names are ASCII");
+    let listed = well(Command::new("nm").arg(library()));
+    let listed = String::from_utf8(listed).expect("names are ASCII");
     let mut names: Vec<String> = listed
         .lines()
         .filter_map(|line| line.split_once(" T "))
@@ -110,16 +109,19 @@ pub fn run(command: &mut Command) -> Output {
     })
 }
 
-/// Runs a command that has to end well and without a word.
-fn quietly(command: &mut Command) {
+/// Runs a command that has to end well and without a message; gives what it
+/// prints.
+pub fn well(command: &mut Command) -> Vec<u8> {
     let Output {
         status,
         stdout,
         stderr,
     } = run(command);
-    let said = String::from_utf8_lossy(&stdout) + String::from_utf8_lossy(&stderr);
     assert!(
-        status.success() && said.is_empty(),
-        "{command:?} ended with {status}:\n{said}"
+        status.success() && stderr.is_empty(),
+        "{command:?} ended with {status}:\n{}{}",
+        String::from_utf8_lossy(&stdout),
+        String::from_utf8_lossy(&stderr)
     );
+    stdout
 }

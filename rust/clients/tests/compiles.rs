@@ -4,7 +4,7 @@
 use std::fs;
 use std::process::Command;
 
-use clients::{Language, compile, link, run, scratch};
+use clients::{Language, compile, link, scratch, well};
 use program::root;
 
 const TESTS: &str = env!("CARGO_TARGET_TMPDIR");
@@ -22,13 +22,7 @@ fn check_program(language: Language) {
     let source = root().join("rust/clients/tests/header.c");
     let binary = scratch(TESTS, &format!("header-{language:?}"));
     link(language, &source, &binary);
-    let output = run(&mut Command::new(binary));
-    let said = String::from_utf8_lossy(&output.stdout);
-    assert!(
-        output.status.success() && said.is_empty(),
-        "as {language:?} it ended with {}:\n{said}",
-        output.status
-    );
+    well(&mut Command::new(binary));
 }
 
 #[test]

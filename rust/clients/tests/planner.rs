@@ -7,7 +7,7 @@ use std::path::{Path, PathBuf};
 use std::process::{Command, Output, Stdio};
 use std::sync::OnceLock;
 
-use clients::{Language, link, planner_text, run, scratch};
+use clients::{Language, link, planner_text, run, scratch, well};
 use program::{assert_same, input, root, weeks, write_parts};
 use reference::listing;
 
@@ -60,7 +60,7 @@ fn check(bytes: &[u8], file: Option<&Path>, expected: &str, week: &str) {
         assert_same(&text, expected.as_bytes(), bytes, &case);
         if let Some(file) = file {
             let case = format!("{case}, from a file");
-            let text = printed(run(Command::new(planner).arg(file)), &case);
+            let text = well(Command::new(planner).arg(file));
             assert_same(&text, expected.as_bytes(), bytes, &case);
         }
     }
@@ -145,7 +145,7 @@ fn bad_usage() {
 #[test]
 fn help() {
     for (name, planner) in planners() {
-        let text = printed(run(Command::new(planner).arg("--help")), name);
+        let text = well(Command::new(planner).arg("--help"));
         assert!(text.starts_with(b"usage: planner [FILE]\n"), "{name}");
     }
 }
