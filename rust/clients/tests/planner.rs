@@ -7,7 +7,7 @@ use std::path::{Path, PathBuf};
 use std::process::{Command, Output, Stdio};
 use std::sync::OnceLock;
 
-use clients::{Language, link, planner_text, run, scratch, well};
+use clients::{Language, link, planner_text, run, rust_example, scratch, well};
 use program::{assert_same, input, root, weeks, write_parts};
 use reference::listing;
 
@@ -20,9 +20,13 @@ type Planner = (&'static str, PathBuf);
 fn planners() -> &'static [Planner] {
     static PLANNERS: OnceLock<Vec<Planner>> = OnceLock::new();
     PLANNERS.get_or_init(|| {
-        let binary = scratch(TESTS, "planner");
-        link(Language::C, &root().join("examples/planner.c"), &binary);
-        vec![("in C", binary)]
+        let in_c = scratch(TESTS, "planner");
+        link(Language::C, &root().join("examples/planner.c"), &in_c);
+        let mut planners = vec![("in C", in_c)];
+        if root().join("rust/plankeeper").is_dir() {
+            planners.push(("in Rust", rust_example(TESTS, "planner")));
+        }
+        planners
     })
 }
 
