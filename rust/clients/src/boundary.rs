@@ -1,4 +1,5 @@
-//! The functions that the library's source exports, as C sees them.
+//! The functions that the library's source exports, and those that sources in
+//! Rust declare, as C sees them.
 
 use std::fs;
 use std::path::Path;
@@ -7,37 +8,83 @@ use crate::prototype::{Parameter, Prototype};
 
 const EXPORT: &str = "#[no_mangle]\npub extern \"C\" fn ";
 
+/// An exported function.
+pub struct Export {
+    /// What C sees of it.
+    pub prototype: Prototype,
+    /// Whether its contract has a `requires`, which its caller has to see to.
+    pub requires: bool,
+}
+
 /// The exported functions in the source files of the folder. Panics where it
 /// meets a type that does not cross the boundary.
-pub fn exported(folder: &Path) -> Vec<Prototype> {
+pub fn exported(folder: &Path) -> Vec<Export> {
     let entries = fs::read_dir(folder).expect("the library's source is there");
-    let mut files: Vec<_> = entries
-        .map(|entry| entry.expect("the folder can be read").path())
-        .filter(|path| path.extension().is_some_and(|ending| ending == "rt"))
-        .collect();
-    files.sort();
-    files
-        .iter()
-        .flat_map(|file| {
-            let source = fs::read_to_string(file).expect("the source can be read");
-            assert_eq!(
-                source.matches("\n#[no_mangle]").count(),
-                source.matches(EXPORT).count(),
-                "{} exports a function in another form",
-                file.display()
-            );
-            let functions: Vec<Prototype> = source.split(EXPORT).skip(1).map(function).collect();
-            functions
+    let mut exports = Vec::new();
+    for entry in entries {
+        let file = entry.expect("the folder can be read").path();
+        if file.extension().is_none_or(|ending| ending != "rt") {
+            continue;
+        }
+        let source = fs::read_to_string(&file).expect("the source can be read");
+        let functions = source.split(EXPORT).skip(1);
+        assert_eq!(
+            source.matches("\n#[no_mangle]").count(),
+            functions.clone().count(),
+            "{} exports a function in another form",
+            file.display()
+        );
+        exports.extend(functions.map(|function| {
+            let contract = function.split("\n{").next().expect("a split has parts");
+            Export {
+                prototype: prototype(function),
+                requires: contract.contains("\n    requires "),
+            }
+        }));
+    }
+    exports
+}
+
+/// The library's functions that a source in Rust declares. Its types for words
+/// are defined in the other text.
+pub fn declared(source: &str, definitions: &str) -> Vec<Prototype> {
+    let mut source = source.to_owned();
+    for (name, words) in word_types(definitions) {
+        let referent = match words.as_str() {
+            "17176" => "Cluster".into(),
+            "2147" => "Words".into(),
+            words => format!("[u32; {words}]"),
+        };
+        source = source.replace(&format!("&{name}"), &format!("&{referent}"));
+        source = source.replace(&format!("&mut {name}"), &format!("&mut {referent}"));
+    }
+    let functions = source.split("fn plankeeper").skip(1);
+    functions
+        .map(|function| prototype(&format!("plankeeper{function}")))
+        .collect()
+}
+
+/// Each `type NAME = [u32; LENGTH]` with its length's number.
+fn word_types(definitions: &str) -> Vec<(&str, String)> {
+    let types = definitions.split("pub type ").skip(1);
+    types
+        .filter_map(|definition| {
+            let (name, rest) = definition.split_once(" = [u32; ")?;
+            let (length, _) = rest.split_once("];")?;
+            let value = format!("const {length}: usize = ");
+            let (_, value) = definitions.split_once(&value)?;
+            let (value, _) = value.split_once(';')?;
+            Some((name, value.replace('_', "")))
         })
         .collect()
 }
 
 /// The function whose name the source begins with.
-fn function(source: &str) -> Prototype {
+fn prototype(source: &str) -> Prototype {
     let (name, rest) = source.split_once('(').expect("a function has parameters");
     let (parameters, rest) = rest.split_once(')').expect("its parameters end");
-    // What stands between the parameters and the contract.
-    let front = rest.find(['\n', '{']).map_or(rest, |end| &rest[..end]);
+    // What stands in front of the contract, or of a declaration's end.
+    let front = rest.find(['\n', ';']).map_or(rest, |end| &rest[..end]);
     let result = match front.trim().strip_prefix("->") {
         Some(result) => scalar(result.trim()).unwrap_or_else(|| unknown(name, result)),
         None => "void",
@@ -61,11 +108,14 @@ fn unknown<T>(function: &str, kind: &str) -> T {
     panic!("{function}: the type `{kind}` is none that crosses the boundary")
 }
 
+/// Types that pass as they are; a slice passes as a pointer and a length.
 fn scalar(kind: &str) -> Option<&'static str> {
     Some(match kind {
         "u32" => "uint32_t",
         "u64" => "uint64_t",
         "usize" => "size_t",
+        "*const u8" => "const uint8_t *",
+        "*mut u8" => "uint8_t *",
         _ => return None,
     })
 }
@@ -84,14 +134,7 @@ fn translated(name: &str, kind: &str) -> Option<Vec<Parameter>> {
     Some(match referent {
         "Cluster" => vec![one("plankeeper *", "cluster")],
         "Words" => vec![one("plankeeper_shard *", "shard")],
-        "[u8]" => {
-            let length = if constant.is_empty() {
-                "room"
-            } else {
-                "length"
-            };
-            vec![one("uint8_t *", name), Parameter::new("size_t", length)]
-        }
+        "[u8]" => vec![one("uint8_t *", name), Parameter::new("size_t", "length")],
         words => {
             let length = words.strip_prefix("[u32; ")?.strip_suffix(']')?;
             vec![one(&format!("uint32_t [{length}]"), name)]

@@ -93,10 +93,10 @@ impl Header {
     fn function(&self, declaration: &str) -> Prototype {
         let (front, rest) = declaration.split_once('(').expect("it is a function");
         let parameters = rest.strip_suffix(')').expect("its parameters end");
-        let Parameter { kind, name } = self.parameter(front);
+        let (result, name) = front.rsplit_once(' ').expect("it has a result");
         Prototype {
-            name,
-            result: kind,
+            name: name.into(),
+            result: result.into(),
             parameters: match parameters {
                 "void" => Vec::new(),
                 some => some.split(',').map(|one| self.parameter(one)).collect(),

@@ -12,7 +12,7 @@ mod header;
 mod prototype;
 mod tools;
 
-pub use boundary::exported;
+pub use boundary::{Export, declared, exported};
 pub use causes::{CAUSES, GIVERS};
 pub use expected::planner_text;
 pub use header::{Cause, Header};

@@ -8,7 +8,8 @@ pub struct Parameter {
     /// The type, one space between its words; an array has its length, as in
     /// `const uint32_t [35]`.
     pub kind: String,
-    /// The name.
+    /// The name; none where it is a length or a place, which may be called
+    /// anything.
     pub name: String,
 }
 
@@ -26,6 +27,7 @@ pub struct Prototype {
 impl Parameter {
     /// A parameter of this type and name.
     pub fn new(kind: &str, name: &str) -> Self {
+        let name = if kind == "size_t" { "" } else { name };
         Parameter {
             kind: kind.into(),
             name: name.into(),

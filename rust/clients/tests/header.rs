@@ -28,7 +28,8 @@ fn by_name(functions: Vec<Prototype>) -> BTreeMap<String, String> {
 #[test]
 fn declares_what_the_source_exports() {
     let declared = by_name(header().functions);
-    let exported = by_name(exported(&root().join("crates/engine/src")));
+    let exported = exported(&root().join("crates/engine/src")).into_iter();
+    let exported = by_name(exported.map(|export| export.prototype).collect());
     for (name, prototype) in &exported {
         assert_eq!(declared.get(name), Some(prototype), "{name}");
     }
