@@ -68,22 +68,22 @@ static uint8_t *read_all(FILE *file, const char *name, size_t *length)
     return bytes;
 }
 
+/* The first word of the answer to a registration or a vote. */
+static const char *first_word(uint32_t answer)
+{
+    if (PLANKEEPER_IS_REGISTERED(answer))
+        return PLANKEEPER_VERDICT(answer) == PLANKEEPER_YES ? "YES" : "NO";
+    return PLANKEEPER_IS_HEARD(answer) ? "HEARD" : "AGAIN";
+}
+
 static void print_answer(uint32_t answer)
 {
-    const char *word = "AGAIN";
-    if (PLANKEEPER_IS_REFUSED(answer)) {
+    if (PLANKEEPER_IS_REFUSED(answer))
         printf("REFUSED %" PRIu32 ": %s\n", answer, CAUSES[answer]);
-        return;
-    }
-    if (answer == PLANKEEPER_OPENED) {
+    else if (answer == PLANKEEPER_OPENED)
         puts("OPENED");
-        return;
-    }
-    if (PLANKEEPER_IS_REGISTERED(answer))
-        word = PLANKEEPER_VERDICT(answer) == PLANKEEPER_YES ? "YES" : "NO";
-    else if (PLANKEEPER_IS_HEARD(answer))
-        word = "HEARD";
-    printf("%s %s\n", word, OUTCOMES[PLANKEEPER_OUTCOME(answer)]);
+    else
+        printf("%s %s\n", first_word(answer), OUTCOMES[PLANKEEPER_OUTCOME(answer)]);
 }
 
 /* A line for each record. Behind a refusal 1 or 2 no record can begin, and all bytes are taken. */
