@@ -39,10 +39,10 @@
  *
  *     cc -std=c99 -Iinclude move.c -Ltarget/staticlib -lengine -o move
  *
- * WORDS. The engine follows a specification that is cited here as document 01. It calls a shard
- * a pantry, a cluster a round, a transaction a swap, an owner a household, an amount portions, a
- * genesis token an opening token, minting it an opening, and a token's creator and index its
- * making swap and its position.
+ * WORDS. The engine follows a specification that is cited here as document 01. Its own words are
+ * in brackets: shard (pantry), cluster (round), transaction (swap), owner (household), amount
+ * (portions), genesis token (opening token), mint (opening), creator (making swap), index
+ * (position).
  *
  * MEMORY. The caller owns it all; the engine allocates nothing and keeps nothing between calls.
  * - A cluster (eight shards) is PLANKEEPER_WORDS words in the caller's memory, a lone shard
@@ -138,15 +138,15 @@ enum plankeeper_token_word {
     PLANKEEPER_TOKEN_PLEDGE = 4
 };
 
-/* In a known transaction: the transaction's words, at the places above, and then the verdict
- * heard from each shard 0 to 7, the shard's own included. */
-#define PLANKEEPER_KNOWN_VERDICT(sender) (35 + (sender))
+/* In a known transaction: the transaction's words, at the places above, and then what was heard
+ * from each shard 0 to 7, the shard's own verdict included. */
+#define PLANKEEPER_KNOWN_HEARD(sender) (35 + (sender))
 
-/* The verdict heard from a shard. */
+/* What was heard from a shard. (A verdict that is handed in has other numbers.) */
 enum plankeeper_heard {
-    PLANKEEPER_VERDICT_NONE = 0,
-    PLANKEEPER_VERDICT_NO = 1,
-    PLANKEEPER_VERDICT_YES = 2
+    PLANKEEPER_SAID_NOTHING = 0,
+    PLANKEEPER_SAID_NO = 1,
+    PLANKEEPER_SAID_YES = 2
 };
 
 /* In a record that was read. A field that the record's kind does not have is 0. From
@@ -171,7 +171,7 @@ enum plankeeper_kind {
 
 /* ---- Answers -------------------------------------------------------------------------------- */
 
-/* A verdict that is handed in. */
+/* A verdict that is handed in, read from a record, or told in an answer. */
 enum plankeeper_verdict {
     PLANKEEPER_NO = 0,
     PLANKEEPER_YES = 1
@@ -271,7 +271,7 @@ enum plankeeper_answer {
 /* ---- A cluster ------------------------------------------------------------------------------ */
 
 /* How many words a cluster has, PLANKEEPER_WORDS: the caller provides that many, aligned for
- * uint32_t. It is below 70,000 bytes. */
+ * uint32_t. Together they are less than 70,000 bytes. */
 size_t plankeeper_words(void);
 
 /* Makes a cluster of eight empty shards of the words, whatever they were. */
@@ -333,7 +333,7 @@ uint32_t plankeeper_outcome_of(const plankeeper *cluster, uint32_t shard, uint32
 /* ---- A lone shard --------------------------------------------------------------------------- */
 
 /* How many words a lone shard has, PLANKEEPER_SHARD_WORDS: the caller provides that many, aligned
- * for uint32_t. It is below 9,000 bytes. */
+ * for uint32_t. Together they are less than 9,000 bytes. */
 size_t plankeeper_shard_words(void);
 
 /* Makes an empty shard of that number, 0 to 7, of the words, whatever they were. (A shard of
@@ -358,14 +358,23 @@ uint32_t plankeeper_shard_hear(plankeeper_shard *shard, uint32_t receiver, uint3
 /* The sum of the amounts held. */
 uint64_t plankeeper_shard_total(const plankeeper_shard *shard);
 
-/* As plankeeper_held_count, plankeeper_token_at, plankeeper_known_count, plankeeper_known_at and
- * plankeeper_outcome_of. */
+/* How many tokens the shard holds, 0 to PLANKEEPER_MAX_TOKENS. */
 size_t plankeeper_shard_held_count(const plankeeper_shard *shard);
+
+/* As plankeeper_token_at: 1 and the token at that place, or 0 and zeros. */
 uint32_t plankeeper_shard_token_at(const plankeeper_shard *shard, size_t place,
                                    uint32_t token[PLANKEEPER_TOKEN_WORDS]);
+
+/* How many transactions the shard knows, 0 to PLANKEEPER_MAX_KNOWN. */
 size_t plankeeper_shard_known_count(const plankeeper_shard *shard);
+
+/* As plankeeper_known_at: the outcome and the transaction at that place, or PLANKEEPER_UNKNOWN and
+ * zeros. */
 uint32_t plankeeper_shard_known_at(const plankeeper_shard *shard, size_t place,
                                    uint32_t known[PLANKEEPER_KNOWN_WORDS]);
+
+/* As plankeeper_outcome_of: the outcome of the transaction that the shard knows by that number, or
+ * PLANKEEPER_UNKNOWN. */
 uint32_t plankeeper_shard_outcome_of(const plankeeper_shard *shard, uint32_t number);
 
 /* ---- Records -------------------------------------------------------------------------------- */

@@ -158,8 +158,8 @@ static void check_pledged(const plankeeper *cluster, uint32_t shard, const uint3
     EQUAL(plankeeper_known_at(cluster, shard, 0, known), PLANKEEPER_WAIT);
     EQUAL(memcmp(known, t, sizeof(transaction)) == 0, 1);
     for (sender = 0; sender < PLANKEEPER_SHARDS; sender++)
-        EQUAL(known[PLANKEEPER_KNOWN_VERDICT(sender)],
-              sender == shard ? PLANKEEPER_VERDICT_YES : PLANKEEPER_VERDICT_NONE);
+        EQUAL(known[PLANKEEPER_KNOWN_HEARD(sender)],
+              sender == shard ? PLANKEEPER_SAID_YES : PLANKEEPER_SAID_NOTHING);
     EQUAL(plankeeper_outcome_of(cluster, shard, 5), PLANKEEPER_WAIT);
 }
 
@@ -179,8 +179,8 @@ static void check_exchanged(const plankeeper *cluster, uint32_t shard, const uin
     EQUAL(plankeeper_known_at(cluster, shard, 0, known), PLANKEEPER_COMMIT);
     EQUAL(memcmp(known, t, sizeof(transaction)) == 0, 1);
     for (sender = 0; sender < PLANKEEPER_SHARDS; sender++)
-        EQUAL(known[PLANKEEPER_KNOWN_VERDICT(sender)],
-              sender < 2 ? PLANKEEPER_VERDICT_YES : PLANKEEPER_VERDICT_NONE);
+        EQUAL(known[PLANKEEPER_KNOWN_HEARD(sender)],
+              sender < 2 ? PLANKEEPER_SAID_YES : PLANKEEPER_SAID_NOTHING);
     EQUAL(plankeeper_outcome_of(cluster, shard, 5), PLANKEEPER_COMMIT);
 }
 
@@ -270,10 +270,10 @@ static void play_others(void)
     EQUAL(plankeeper_known_count(cluster, 0), 3);
     EQUAL(plankeeper_known_at(cluster, 0, 1, known), PLANKEEPER_ABORT);
     EQUAL(known[PLANKEEPER_NUMBER], 2);
-    EQUAL(known[PLANKEEPER_KNOWN_VERDICT(0)], PLANKEEPER_VERDICT_NO);
+    EQUAL(known[PLANKEEPER_KNOWN_HEARD(0)], PLANKEEPER_SAID_NO);
     EQUAL(plankeeper_known_at(cluster, 1, 0, known), PLANKEEPER_ABORT);
-    EQUAL(known[PLANKEEPER_KNOWN_VERDICT(0)], PLANKEEPER_VERDICT_NO);
-    EQUAL(known[PLANKEEPER_KNOWN_VERDICT(1)], PLANKEEPER_VERDICT_YES);
+    EQUAL(known[PLANKEEPER_KNOWN_HEARD(0)], PLANKEEPER_SAID_NO);
+    EQUAL(known[PLANKEEPER_KNOWN_HEARD(1)], PLANKEEPER_SAID_YES);
     EQUAL(plankeeper_outcome_of(cluster, 2, 3), PLANKEEPER_WAIT);
 }
 
@@ -357,7 +357,7 @@ static void check_shard(const plankeeper_shard *shard, const uint32_t *t)
     EQUAL(plankeeper_shard_known_count(shard), 1);
     EQUAL(plankeeper_shard_known_at(shard, 0, known), PLANKEEPER_COMMIT);
     EQUAL(memcmp(known, t, sizeof(transaction)) == 0, 1);
-    EQUAL(known[PLANKEEPER_KNOWN_VERDICT(0)], PLANKEEPER_VERDICT_YES);
+    EQUAL(known[PLANKEEPER_KNOWN_HEARD(0)], PLANKEEPER_SAID_YES);
     EQUAL(plankeeper_shard_known_at(shard, 1, known), PLANKEEPER_UNKNOWN);
     EQUAL(known[PLANKEEPER_NUMBER], 0);
     EQUAL(plankeeper_shard_outcome_of(shard, 5), PLANKEEPER_COMMIT);
