@@ -122,9 +122,9 @@ static void print_known(const plankeeper *cluster, uint32_t shard, size_t place)
     uint32_t outcome = plankeeper_known_at(cluster, shard, place, known);
     printf("  swap %" PRIu32 ": %s, heard", known[PLANKEEPER_NUMBER], OUTCOMES[outcome]);
     for (uint32_t sender = 0; sender < PLANKEEPER_SHARDS; sender++) {
-        uint32_t verdict = known[PLANKEEPER_KNOWN_HEARD(sender)];
-        if (verdict != PLANKEEPER_SAID_NOTHING)
-            printf(" %" PRIu32 " %s", sender, verdict == PLANKEEPER_SAID_YES ? "yes" : "no");
+        uint32_t said = known[PLANKEEPER_KNOWN_HEARD(sender)];
+        if (said != PLANKEEPER_SAID_NOTHING)
+            printf(" %" PRIu32 " %s", sender, said == PLANKEEPER_SAID_YES ? "yes" : "no");
     }
     putchar('\n');
 }

@@ -2,9 +2,10 @@
  *
  * A transaction destroys tokens at some shards and makes new ones at others. Each of its shards
  * registers it, pledges the tokens it finds available, votes yes or no, hears the votes of the
- * other shards, and then decides alone: commit if all votes are yes, else abort. No two shards
- * decide one transaction differently, in whatever order the calls come. The functions are in the
- * static library libengine.a; what each returns, and what it leaves in memory, is proved.
+ * other shards, and then decides alone: commit if all votes are yes, else abort. No two shards of
+ * a cluster decide one transaction differently, in whatever order the calls come. The functions
+ * are in the static library libengine.a; what each returns, and what it leaves in memory, is
+ * proved for everything that it may be handed.
  *
  * Owner 10 moves a token of amount 3 from shard 0 to shard 1, in transaction 5:
  *
