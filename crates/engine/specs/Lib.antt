@@ -4,3 +4,4 @@ pub mod Fields
 pub mod Writing
 pub mod Calls
 pub mod Queries
+pub mod Asks

@@ -42,7 +42,7 @@ pub record Engine (limits : Limits) : Type 1 where
   pub same-ledgers : (s s′ : State) (c : Call) (a : Answer) → Sound s → Does s c s′ a → view s′ ≡ clusterStep limits (view s) c .0
 
 -- the ledgers themselves are an engine, so the hypotheses can be met
-pub reference : (limits : Limits) → Engine limits
+abbrev pub reference : (limits : Limits) → Engine limits
 reference limits = record {
   State = List Ledger;
   view = λ s. s;

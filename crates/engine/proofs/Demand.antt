@@ -1,0 +1,166 @@
+-- DEMAND 3 THROUGH THE LIBRARY'S DOOR. For every list of plankeeper_mint, _register, _deliver and _apply with any words and any bytes, refused ones
+-- included, on memory that plankeeper_new made a cluster of, and the numbers and clusters that the contracts of these exported functions fix, call after
+-- call: the numbers are the codes of the reference model's answers to the calls asked for, and every clause of demand 3 holds of the ledgers.
+--
+-- As in crates/cluster/proofs/Demand.antt a contract is read off the function itself (`Asked`, `Learnt`), so that one that said less would break this proof.
+use Prim.Native.Nat.{ℕ}
+use mathlib.Core.Path.{_≡_, refl, sym, subst}
+use mathlib.Core.Logic.{_≢_}
+use mathlib.Core.List.{List, [], _∷_}
+use base.Fml.{GName}
+use contract.Lifetimes.{Lfts}
+use denote.Ref.{RefT}
+use Rattle.transaction.specs.declared.Transaction.{Transaction}
+use Rattle.reader.specs.declared.Answer as reader
+use Rattle.reader.specs.declared.Answer.the-variants as reader-answer
+use Rattle.reader.specs.Reading.{readingOf}
+use Rattle.model.specs.declared.Answer.{Answer}
+use Rattle.model.specs.declared.Answer.the-variants.{Refused}
+use Rattle.model.specs.declared.Outcome.the-variants.{Wait}
+use Rattle.model.specs.Steps.{Ledger, house}
+use Rattle.model.specs.Shard.{Call}
+use Rattle.model.specs.Cluster.{emptyShards, ledgerAt, clusterStep}
+use Rattle.model.specs.Demand.{outcomeIn}
+use Rattle.model.proofs.Bridge as bridge
+use Rattle.model.proofs.Bridge.{reference, RunDemand, run-demand-3}
+use Rattle.cluster.specs.View.{view, Sound, Fresh}
+use Rattle.engine.specs.Codes.{answerCode}
+use Rattle.engine.specs.Calls.{clusterCalled, appliedAs, applied, ClusterDoes}
+use Rattle.engine.specs.Asks.{Ask, mints, registers, delivers, applies, Meant, refusal, asked, recordMeans, means, meantBy, callsOf, codesOf}
+use Rattle.engine.proofs.clusters.plankeeper_new.Reads as of-new
+use Rattle.engine.proofs.clusters.plankeeper_mint.Reads as of-mint
+use Rattle.engine.proofs.clusters.plankeeper_register.Reads as of-register
+use Rattle.engine.proofs.clusters.plankeeper_deliver.Reads as of-deliver
+use Rattle.engine.proofs.clusters.plankeeper_apply.Reads as of-apply
+
+-- a cluster's words
+abbrev pub Cluster : Type 0
+Cluster = List (List ℕ)
+
+-- where memory stands and under which name is nothing that a contract speaks of, nor for which lifetime it is lent
+pub record Place : Type 0 where
+  pub ptr : ℕ × ℕ
+  pub name : GName
+
+pub record Lent : Type 0 where
+  pub alone : Lfts 1
+  pub both : Lfts 2
+  pub to : Place
+  pub from : Place
+
+abbrev pub refers : {A : Type 0} → Place → A → RefT A
+refers at value = record { ptr = at .ptr; name = at .name; now = value }
+
+-- `plankeeper_new`, lent any words, may have left this cluster
+pub record Starts (c : Cluster) : Type 0 where
+  pub at : Lent
+  pub before : Cluster
+  pub kept : of-new.Asked (at .alone) (refers (at .to) before, tt) → of-new.Learnt (at .alone) (refers (at .to) before, tt) tt (refers (at .to) c, tt)
+
+-- the function, lent this cluster and handed these words or bytes, may have left that cluster and returned that number
+abbrev pub Leaves : Lent → Cluster → Ask → Cluster → ℕ → Type 0
+Leaves at c (mints p i o a) c′ code =
+    of-mint.Asked (at .alone) (refers (at .to) c, (p, (i, (o, (a, tt)))))
+    → of-mint.Learnt (at .alone) (refers (at .to) c, (p, (i, (o, (a, tt))))) code (refers (at .to) c′, (p, (i, (o, (a, tt)))))
+Leaves at c (registers p w) c′ code =
+    let words = refers (at .from) w in
+    of-register.Asked (at .both) (refers (at .to) c, (p, (words, tt)))
+    → of-register.Learnt (at .both) (refers (at .to) c, (p, (words, tt))) code (refers (at .to) c′, (p, (words, tt)))
+Leaves at c (delivers p q v w) c′ code =
+    let words = refers (at .from) w in
+    of-deliver.Asked (at .both) (refers (at .to) c, (p, (q, (v, (words, tt)))))
+    → of-deliver.Learnt (at .both) (refers (at .to) c, (p, (q, (v, (words, tt))))) code (refers (at .to) c′, (p, (q, (v, (words, tt)))))
+Leaves at c (applies l) c′ code =
+    let bytes = refers (at .from) l in
+    of-apply.Asked (at .both) (refers (at .to) c, (bytes, tt))
+    → of-apply.Learnt (at .both) (refers (at .to) c, (bytes, tt)) code (refers (at .to) c′, (bytes, tt))
+
+pub record Returns (c : Cluster) (ask : Ask) (c′ : Cluster) (code : ℕ) : Type 0 where
+  pub at : Lent
+  pub kept : Leaves at c ask c′ code
+
+-- A run: each function is lent the cluster that the one before it left. The functions and the numbers stand in order, the first one first.
+pub data Run : Cluster → List Ask → List ℕ → Cluster → Type 0 where
+  done : {c : Cluster} → Run c [] [] c
+  then : {c c′ c″ : Cluster} {ask : Ask} {code : ℕ} {asks : List Ask} {codes : List ℕ}
+      → Returns c ask c′ code → Run c′ asks codes c″ → Run c (ask ∷ asks) (code ∷ codes) c″
+
+-- ---- One function: its promise, by what was asked for
+
+abbrev stepOf : Cluster → Meant → List Ledger × Answer
+stepOf c (refusal number) = (view c, Refused number)
+stepOf c (asked call) = clusterCalled c call
+
+record-step : (c : Cluster) (a : reader.Answer) (t : Transaction) → appliedAs c a t ≡ stepOf c (recordMeans a t)
+unfolding appliedAs recordMeans
+record-step c (reader-answer.Read fields) t = refl
+record-step c (reader-answer.Refused number) t = refl
+
+promised : (at : Lent) (c c′ : Cluster) (ask : Ask) (code : ℕ) → Sound c → Leaves at c ask c′ code → ClusterDoes (stepOf c (means ask)) code c′
+unfolding means applied
+promised at c c′ (mints p i o a) code sound x = x sound
+promised at c c′ (registers p w) code sound x = x sound
+promised at c c′ (delivers p q v w) code sound x = x sound
+promised at c c′ (applies l) code sound x =
+    subst (λ (y : List Ledger × Answer). ClusterDoes y code c′) (record-step c (readingOf l .answer) (readingOf l .transaction)) (x sound)
+
+-- ---- All of them: a run of the reference model's cluster goes beside
+
+abbrev ModelRun : List Ledger → List Call → List Answer → List Ledger → Type 0
+ModelRun = bridge.Run (reference house)
+
+pub record Follows (c : Cluster) (meant : List Meant) (codes : List ℕ) (c′ : Cluster) : Type 0 where
+  pub replies : List Answer
+  pub run : ModelRun (view c) (callsOf meant) replies (view c′)
+  pub told : codes ≡ codesOf meant replies
+  pub sound : Sound c′
+
+one : (c c₁ c′ : Cluster) (m : Meant) (code : ℕ) (rest : List Meant) (codes : List ℕ) → ClusterDoes (stepOf c m) code c₁
+    → Follows c₁ rest codes c′ → Follows c (m ∷ rest) (code ∷ codes) c′
+unfolding answerCode
+one c c₁ c′ (refusal number) code rest codes does f = record {
+  replies = f .replies;
+  run = subst (λ (l : List Ledger). ModelRun l (callsOf rest) (f .replies) (view c′)) (does .ledgers) (f .run);
+  told = λ j. does .answered j ∷ f .told j;
+  sound = f .sound;
+}
+one c c₁ c′ (asked call) code rest codes does f = record {
+  replies = clusterStep house (view c) call .1 ∷ f .replies;
+  run = bridge.then (refl, does .ledgers) (f .run);
+  told = λ j. does .answered j ∷ f .told j;
+  sound = f .sound;
+}
+
+pub follows : {c c′ : Cluster} {asks : List Ask} {codes : List ℕ} → Sound c → Run c asks codes c′ → Follows c (meantBy asks) codes c′
+follows sound done = record { replies = []; run = bridge.done; told = refl; sound = sound }
+follows {c = c} {c′ = c′} sound (then {c′ = c₁} {ask = ask} {code = code} {asks = asks} {codes = codes} x rest) =
+    let does = promised (x .at) c c₁ ask code sound (x .kept) in
+    one c c₁ c′ (means ask) code (meantBy asks) codes does (follows (does .sound) rest)
+
+-- ---- THEOREM
+
+pub record PlannerDemand (asks : List Ask) (codes : List ℕ) (c : Cluster) : Type 0 where
+  -- the numbers returned are the codes of the model's answers
+  pub replies : List Answer
+  pub told : codes ≡ codesOf (meantBy asks) replies
+  -- each clause of demand 3, of the calls asked for, these answers and the ledgers after the run
+  pub demand : RunDemand (reference house) (callsOf (meantBy asks)) replies (view c)
+  -- a decision stays, whatever functions are called further
+  pub finality : {more : List Ask} {others : List ℕ} {c′ : Cluster} → Run c more others c′ → (p : ℕ) (t : Transaction)
+      → outcomeIn (ledgerAt house (view c) p) t ≢ Wait → outcomeIn (ledgerAt house (view c′) p) t ≡ outcomeIn (ledgerAt house (view c) p) t
+  -- and the memory can be handed to every further call and query
+  pub sound : Sound c
+
+pub planner-demand-3 : {c₀ c : Cluster} {asks : List Ask} {codes : List ℕ} → Starts c₀ → Run c₀ asks codes c → PlannerDemand asks codes c
+planner-demand-3 {c = c} {asks = asks} starts run =
+    let fresh : Fresh _ = starts .kept tt in
+    let f = follows (fresh .sound) run in
+    let empty = subst (λ (l : List Ledger). ModelRun l (callsOf (meantBy asks)) (f .replies) (view c)) (fresh .empty) (f .run) in
+    let demand = run-demand-3 (reference house) empty in
+    record {
+      replies = f .replies;
+      told = f .told;
+      demand = demand;
+      finality = λ further p t h. let g = follows (f .sound) further in demand .finality _ (g .replies) _ (g .run) p t h;
+      sound = f .sound;
+    }
