@@ -26,6 +26,14 @@
 //   400 + outcome                   a vote that was heard before; nothing is changed
 // The outcome is what the receiving shard has decided on the transaction: 0 nothing yet, 1 commit, 2 abort.
 //
+// A query changes nothing but the words lent for its answer, and any shard and any place get one; specs/Queries.antt has the definitions:
+//   a token      1, and its five words: creator, index, owner, amount, pledge (0: to none); 0 and zeros behind the last
+//   a known one  the outcome, and its 43 words: the transaction's 35 and the verdict heard from each shard (0 none, 1 no, 2 yes);
+//                3 and zeros behind the last
+//
+// include/plankeeper.h says the same to a compiler of C, rust/plankeeper to one of Rust. proofs/Demand.antt has the theorem about every list of
+// these calls (planner-demand-3; its words are in specs/Asks.antt).
+//
 // Refusals have the numbers of document 01's table. That document calls a shard a pantry, a cluster a round, a transaction a swap,
 // an owner a household, an amount portions, a genesis token an opening, and a token's creator and index its making swap and its position.
 
