@@ -1,0 +1,100 @@
+//! What a cluster and a lone shard have in common.
+
+use crate::answer::answered;
+use crate::boundary::Memory;
+use crate::{Answer, Record, Refusal, Transaction, Verdict};
+
+/// Tokens and transactions in some memory, and the calls that change them:
+/// [`Cluster`](crate::Cluster) and [`Shard`](crate::Shard) are ledgers, each
+/// with queries of its own.
+///
+/// Any arguments may be handed in. A call that is refused has changed nothing.
+#[derive(Clone)]
+pub struct Ledger<M> {
+    memory: M,
+}
+
+impl<M: Memory> Ledger<M> {
+    /// The ledger in this memory, as it stands.
+    pub fn on(memory: M) -> Self {
+        Ledger { memory }
+    }
+
+    /// Its memory, to be asked by words.
+    pub fn memory(&self) -> &M {
+        &self.memory
+    }
+
+    /// Its memory, for calls by words.
+    pub fn memory_mut(&mut self) -> &mut M {
+        &mut self.memory
+    }
+
+    /// Empties it and keeps the memory.
+    pub fn renew(&mut self) {
+        self.memory.renew();
+    }
+
+    /// Gives the receiving shard a genesis token (document 01: opening). That
+    /// is done first: a shard that knows a transaction is given no more.
+    pub fn mint(
+        &mut self,
+        receiver: u8,
+        index: u8,
+        owner: u32,
+        amount: u32,
+    ) -> Result<Answer, Refusal> {
+        let (receiver, index) = (receiver.into(), index.into());
+        answered(self.memory.mint(receiver, index, owner, amount))
+    }
+
+    /// Asks the receiving shard to register the transaction (document 01:
+    /// registration). It pledges the inputs that it holds and that are
+    /// available, and votes yes if all its inputs are.
+    pub fn register(&mut self, receiver: u8, transaction: &Transaction) -> Result<Answer, Refusal> {
+        let words = transaction.words();
+        answered(self.memory.register(receiver.into(), words))
+    }
+
+    /// Hands the sending shard's vote to the receiving one (document 01: vote
+    /// delivery). A cluster refuses a vote that its sender has not given; a
+    /// lone shard hears any.
+    pub fn deliver(
+        &mut self,
+        receiver: u8,
+        sender: u8,
+        verdict: Verdict,
+        transaction: &Transaction,
+    ) -> Result<Answer, Refusal> {
+        let (receiver, sender, verdict) = (receiver.into(), sender.into(), verdict as u32);
+        let words = transaction.words();
+        answered(self.memory.deliver(receiver, sender, verdict, words))
+    }
+
+    /// Makes the call that the record stands for.
+    pub fn play(&mut self, record: &Record) -> Result<Answer, Refusal> {
+        match *record {
+            Record::Register {
+                receiver,
+                ref transaction,
+            } => self.register(receiver, transaction),
+            Record::Vote {
+                receiver,
+                sender,
+                verdict,
+                ref transaction,
+            } => self.deliver(receiver, sender, verdict, transaction),
+            Record::Mint {
+                receiver,
+                index,
+                owner,
+                amount,
+            } => self.mint(receiver, index, owner, amount),
+        }
+    }
+
+    /// The sum of the amounts held (document 01: TOTAL).
+    pub fn total(&self) -> u64 {
+        self.memory.total()
+    }
+}

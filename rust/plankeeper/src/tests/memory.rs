@@ -1,0 +1,168 @@
+//! The words of the memory by hand.
+
+use super::story::{
+    AMOUNT, OWNER, UNSET, cluster_story, mint, register, shard_stories, transaction, yes,
+};
+use crate::boundary::{ClusterMemory, Memory, ShardMemory};
+use crate::{Cluster, Ledger, Record, Shard, Transaction};
+
+/// A cluster in memory that was not empty before.
+fn cluster() -> Cluster {
+    Ledger::on(ClusterMemory::new_over(UNSET))
+}
+
+fn shard(number: u8) -> Shard {
+    Ledger::on(ShardMemory::new_over(number.into(), UNSET))
+}
+
+/// The words of one shard in a cluster.
+fn words_of(cluster: &Cluster, number: usize) -> &[u32] {
+    &cluster.memory().words()[2147 * number..][..2147]
+}
+
+fn play_story(cluster: &mut Cluster) {
+    for (record, _) in cluster_story() {
+        let _ = cluster.play(&record);
+    }
+}
+
+/// A shard's words by hand: its number, the indices given, the tokens, and the
+/// transactions with what was heard.
+fn check_shard(
+    words: &[u32],
+    number: u32,
+    given: &[usize],
+    tokens: &[[u32; 5]],
+    known: &[(Transaction, [u32; 8])],
+) {
+    let counts = [number, tokens.len() as u32, known.len() as u32];
+    assert_eq!(words[..3], counts, "number and counts");
+    let flags = (0..128).filter(|index| words[3 + index] != 0);
+    assert_eq!(flags.collect::<Vec<_>>(), given, "indices given");
+    assert_eq!(words[131..131 + 5 * tokens.len()], *tokens.as_flattened());
+    let known = known
+        .iter()
+        .flat_map(|(transaction, heard)| transaction.words().iter().chain(heard));
+    let known: Vec<u32> = known.copied().collect();
+    assert_eq!(words[771..771 + known.len()], known, "transactions known");
+}
+
+#[test]
+fn words_after_new() {
+    for number in 0..8 {
+        for shard in [shard(number), Shard::new(number)] {
+            check_shard(shard.memory().words(), number.into(), &[], &[], &[]);
+            assert_eq!(shard.total(), 0);
+            assert_eq!(shard.memory().number(), number.into());
+        }
+    }
+    for mut cluster in [cluster(), Cluster::new(), Cluster::default()] {
+        for renewed in [false, true] {
+            for number in 0..8 {
+                let words = words_of(&cluster, number);
+                check_shard(words, number as u32, &[], &[], &[]);
+            }
+            assert_eq!(cluster.total(), 0, "renewed: {renewed}");
+            play_story(&mut cluster);
+            assert_ne!(cluster.total(), 0);
+            cluster.renew();
+        }
+    }
+}
+
+/// A renewed shard is as one just made, and keeps its number.
+#[test]
+fn renewed_shards() {
+    for (number, told) in shard_stories() {
+        let mut shard = shard(number);
+        for _ in 0..2 {
+            for (record, code) in &told {
+                assert_eq!(crate::answer_code(&shard.play(record)), *code);
+            }
+            assert_ne!(shard.total(), 0);
+            shard.renew();
+            check_shard(shard.memory().words(), number.into(), &[], &[], &[]);
+        }
+    }
+}
+
+/// A clone has the same words and goes its own way.
+#[test]
+fn clones() {
+    let mut cluster = cluster();
+    cluster.play(&mint(1, 0)).expect("the token is given");
+    let clone = cluster.clone();
+    assert_eq!(clone.memory().words(), cluster.memory().words());
+    cluster.play(&mint(1, 1)).expect("the token is given");
+    assert_eq!((clone.total(), cluster.total()), (1000, 2000));
+}
+
+/// Shards 1 and 2 call by call: two tokens opened at one and one at the other,
+/// a transaction over both, registered, decided and heard again.
+#[test]
+fn words_after_calls() {
+    let both = transaction(0x0506_0708, &[(1, 127)], &[2]);
+    let first = [0, 127, OWNER, AMOUNT, 0];
+    let second = [0, 64, OWNER, AMOUNT, 0];
+    let pledged = [0, 127, OWNER, AMOUNT, 0x0506_0708];
+    let other = [0, 0, OWNER, AMOUNT, 0];
+    let made = [0x0506_0708, 0, OWNER + 1, AMOUNT, 0];
+    let one_yes = (both, [0, 2, 0, 0, 0, 0, 0, 0]);
+    let two_yes = (both, [0, 0, 2, 0, 0, 0, 0, 0]);
+    let both_yes = (both, [0, 2, 2, 0, 0, 0, 0, 0]);
+    type Words<'a> = (&'a [usize], &'a [[u32; 5]], &'a [(Transaction, [u32; 8])]);
+    let opened: Words = (&[64, 127], &[first, second], &[]);
+    let waiting: Words = (&[64, 127], &[pledged, second], &[one_yes]);
+    let committed: Words = (&[64, 127], &[second], &[both_yes]);
+    let other_waiting: Words = (&[0], &[other], &[two_yes]);
+    let other_committed: Words = (&[0], &[other, made], &[both_yes]);
+    let steps: [(Record, Words, Words); 9] = [
+        (mint(1, 127), (&[127], &[first], &[]), (&[], &[], &[])),
+        (mint(1, 64), opened, (&[], &[], &[])),
+        (mint(1, 64), opened, (&[], &[], &[])),
+        (mint(2, 0), opened, (&[0], &[other], &[])),
+        (register(1, both), waiting, (&[0], &[other], &[])),
+        (register(2, both), waiting, other_waiting),
+        (yes(2, 1, both), committed, other_waiting),
+        (yes(1, 2, both), committed, other_committed),
+        (yes(2, 1, both), committed, other_committed),
+    ];
+    let mut cluster = cluster();
+    let mut shards = [1, 2].map(shard);
+    for (call, (record, one, two)) in steps.iter().enumerate() {
+        let _ = cluster.play(record);
+        // Each lone shard takes the calls that are its own.
+        for shard in &mut shards {
+            let _ = shard.play(record);
+        }
+        println!("call {call}: {record:?}");
+        for (number, (given, tokens, known)) in [(1, one), (2, two)] {
+            let words = words_of(&cluster, number);
+            check_shard(words, number as u32, given, tokens, known);
+            let lone = &shards[number - 1];
+            check_shard(lone.memory().words(), number as u32, given, tokens, known);
+            let held = tokens.iter().map(|token| u64::from(token[3]));
+            assert_eq!(lone.total(), held.sum());
+            assert_eq!(cluster.total_at(number as u8), lone.total());
+        }
+        for number in [0, 3, 4, 5, 6, 7] {
+            let words = words_of(&cluster, number);
+            check_shard(words, number as u32, &[], &[], &[]);
+        }
+        let totals = shards.each_ref().map(Ledger::total);
+        assert_eq!(cluster.total(), totals[0] + totals[1]);
+    }
+}
+
+#[test]
+fn the_last_words_of_a_full_shard() {
+    let mut cluster = cluster();
+    play_story(&mut cluster);
+    let words = words_of(&cluster, 7);
+    assert_eq!(words[..3], [7, 128, 32]);
+    assert!(words[3..131].iter().all(|&flag| flag != 0));
+    assert_eq!(words[766..771], [0, 127, OWNER, AMOUNT, 0]);
+    let last = transaction(131, &[(7, 31)], &[6]);
+    assert_eq!(words[2104..2139], *last.words());
+    assert_eq!(words[2139..], [0, 0, 0, 0, 0, 0, 0, 2]);
+}

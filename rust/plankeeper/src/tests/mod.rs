@@ -1,0 +1,9 @@
+//! What is fixed by hand: codes, words and sentences.
+
+mod answers;
+mod memory;
+mod queries;
+mod sentences;
+pub mod story;
+mod transactions;
+mod widths;

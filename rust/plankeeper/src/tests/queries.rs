@@ -1,0 +1,113 @@
+//! Queries by hand.
+
+use super::story::{AMOUNT, OWNER, cluster_story, mint, register, transaction, yes};
+use crate::boundary::Memory;
+use crate::{Cluster, Known, Outcome, Shard, Token, TokenId, Verdict};
+
+fn token(shard: u8, creator: u32, index: u8, pledge: Option<u32>) -> Token {
+    Token {
+        id: TokenId {
+            shard,
+            creator,
+            index,
+        },
+        owner: if creator == 0 { OWNER } else { OWNER + 1 },
+        amount: AMOUNT,
+        pledge,
+    }
+}
+
+/// Shard 1 gives a token to shard 2, alone and in a cluster.
+#[test]
+fn queries_after_calls() {
+    let both = transaction(7, &[(1, 5)], &[2]);
+    let known = |heard: &[usize], outcome| {
+        let mut verdicts = [None; 8];
+        for &shard in heard {
+            verdicts[shard] = Some(Verdict::Yes);
+        }
+        Known {
+            transaction: both,
+            heard: verdicts,
+            outcome,
+        }
+    };
+    let (mut cluster, mut shard) = (Cluster::new(), Shard::new(1));
+    for record in [mint(1, 9), mint(1, 5), register(1, both), register(2, both)] {
+        cluster.play(&record).expect("it is carried out");
+        let alone = shard.play(&record);
+        assert_eq!(alone.is_ok(), record.receiver() == 1);
+    }
+    let waiting = [token(1, 0, 9, None), token(1, 0, 5, Some(7))];
+    assert!(cluster.tokens(1).eq(waiting) && shard.tokens().eq(waiting));
+    let here = [known(&[1], Outcome::Wait)];
+    assert!(cluster.transactions(1).eq(here) && shard.transactions().eq(here));
+    assert_eq!(cluster.outcome(1, 7), Some(Outcome::Wait));
+    assert_eq!(cluster.tokens(2).len(), 0);
+    assert!(cluster.transactions(2).eq([known(&[2], Outcome::Wait)]));
+
+    for record in [yes(2, 1, both), yes(1, 2, both)] {
+        cluster.play(&record).expect("it is carried out");
+        let _ = shard.play(&record);
+    }
+    let left = [token(1, 0, 9, None)];
+    assert!(cluster.tokens(1).eq(left) && shard.tokens().eq(left));
+    assert!(cluster.tokens(2).eq([token(2, 7, 0, None)]));
+    let there = [known(&[1, 2], Outcome::Commit)];
+    assert!(cluster.transactions(1).eq(there) && shard.transactions().eq(there));
+    assert!(cluster.transactions(2).eq(there));
+    assert_eq!(shard.outcome(7), Some(Outcome::Commit));
+    assert_eq!((shard.outcome(8), cluster.outcome(1, 8)), (None, None));
+    assert_eq!((shard.outcome(0), cluster.outcome(3, 7)), (None, None));
+}
+
+/// The words of every answer, also where there is nothing.
+#[test]
+fn words_of_queries() {
+    let mut cluster = Cluster::new();
+    for (record, _) in cluster_story() {
+        let _ = cluster.play(&record);
+    }
+    let before = *cluster.memory().words();
+    let memory = cluster.memory();
+    assert_eq!((memory.held_count(7), memory.known_count(7)), (128, 32));
+    assert_eq!(memory.total_at(7), 128 * u64::from(AMOUNT));
+    let (mut token, mut known) = ([9; 5], [9; 43]);
+    assert_eq!(memory.token_at(7, 31, &mut token), 1);
+    assert_eq!(token, [0, 31, OWNER, AMOUNT, 131]);
+    assert_eq!(memory.known_at(1, 1, &mut known), 2);
+    assert_eq!(known[..35], *transaction(6, &[(1, 0)], &[1]).words());
+    assert_eq!(known[35..], [0, 1, 0, 0, 0, 0, 0, 0]);
+    let outcomes = [5, 6, 7, 8, 9].map(|number| memory.outcome_of(1, number));
+    assert_eq!(outcomes, [1, 2, 1, 0, 3]);
+
+    for (shard, k) in [(7, 128), (7, usize::MAX), (0, 0), (8, 0), (u32::MAX, 0)] {
+        (token, known) = ([9; 5], [9; 43]);
+        assert_eq!(memory.token_at(shard, k, &mut token), 0, "{shard}, {k}");
+        assert_eq!(memory.known_at(shard, k, &mut known), 3, "{shard}, {k}");
+        assert_eq!((token, known), ([0; 5], [0; 43]));
+    }
+    for shard in [8, 15, 255, 256, u32::MAX] {
+        let counts = (memory.held_count(shard), memory.known_count(shard));
+        assert_eq!((counts, memory.total_at(shard)), ((0, 0), 0));
+        assert_eq!(memory.outcome_of(shard, 5), 3);
+    }
+    assert_eq!(*memory.words(), before, "queries change nothing");
+}
+
+#[test]
+fn ledgers_are_shown() {
+    let mut shard = Shard::new(3);
+    shard.play(&mint(3, 4)).expect("the token is given");
+    let token = "Token { id: TokenId { shard: 3, creator: 0, index: 4 }, \
+        owner: 16909060, amount: 1000, pledge: None }";
+    let shown = format!("Shard {{ number: 3, tokens: [{token}], transactions: [] }}");
+    assert_eq!(format!("{shard:?}"), shown);
+
+    let mut cluster = Cluster::new();
+    cluster.play(&mint(3, 4)).expect("the token is given");
+    let text = format!("{cluster:?}");
+    assert!(text.starts_with("Cluster [Shard { number: 0, tokens: [], transactions: [] }, "));
+    assert!(text.contains(&shown), "{text}");
+    assert_eq!(text.matches("number").count(), 8);
+}

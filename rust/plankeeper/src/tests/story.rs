@@ -1,0 +1,219 @@
+//! Calls by hand, each with its answer's code.
+
+use crate::{Input, Output, Record, TokenId, Transaction, Verdict};
+
+/// A call and its answer's code.
+pub type Told = (Record, u32);
+
+pub const OWNER: u32 = 0x0102_0304;
+pub const AMOUNT: u32 = 1000;
+
+/// Stands in all words before the library makes a ledger of them: it has to
+/// set whatever it will look at.
+pub const UNSET: u32 = 0xA5A5_A5A5;
+
+/// Where a transaction's words are bytes.
+pub const BYTES: [usize; 14] = [1, 2, 3, 5, 8, 10, 13, 15, 18, 20, 23, 26, 29, 32];
+
+pub fn mint(receiver: u8, index: u8) -> Record {
+    Record::Mint {
+        receiver,
+        index,
+        owner: OWNER,
+        amount: AMOUNT,
+    }
+}
+
+pub fn register(receiver: u8, transaction: Transaction) -> Record {
+    Record::Register {
+        receiver,
+        transaction,
+    }
+}
+
+pub fn yes(sender: u8, receiver: u8, transaction: Transaction) -> Record {
+    Record::Vote {
+        receiver,
+        sender,
+        verdict: Verdict::Yes,
+        transaction,
+    }
+}
+
+pub fn no(sender: u8, receiver: u8, transaction: Transaction) -> Record {
+    Record::Vote {
+        receiver,
+        sender,
+        verdict: Verdict::No,
+        transaction,
+    }
+}
+
+/// Takes genesis tokens (shard, index) and makes as many tokens at these
+/// shards.
+pub fn transaction(number: u32, tokens: &[(u8, u8)], shards: &[u8]) -> Transaction {
+    let input = |(shard, index)| Input {
+        token: TokenId {
+            shard,
+            creator: 0,
+            index,
+        },
+        owner: OWNER,
+        amount: AMOUNT,
+    };
+    let taking = tokens
+        .iter()
+        .fold(Transaction::new(number), |taking, &token| {
+            taking.input(input(token))
+        });
+    let outputs = (OWNER + 1..).zip(shards).map(|(owner, &shard)| Output {
+        shard,
+        owner,
+        amount: AMOUNT,
+    });
+    outputs.fold(taking, Transaction::output)
+}
+
+/// The record's bytes, whatever its fields hold: the writers refuse what tests
+/// have to try.
+pub fn encode(record: &Record) -> Vec<u8> {
+    let (mut bytes, transaction) = match *record {
+        Record::Register {
+            receiver,
+            transaction,
+        } => (vec![1, receiver], transaction),
+        Record::Vote {
+            receiver,
+            sender,
+            verdict,
+            transaction,
+        } => (vec![2, receiver, sender, verdict as u8], transaction),
+        Record::Mint {
+            receiver,
+            index,
+            owner,
+            amount,
+        } => {
+            let numbers = [owner, amount].map(u32::to_be_bytes);
+            return [&[3, receiver, index], numbers.as_flattened()].concat();
+        }
+    };
+    for (place, word) in transaction.words().iter().enumerate() {
+        let all = word.to_be_bytes();
+        bytes.extend(if BYTES.contains(&place) {
+            &all[3..]
+        } else {
+            &all
+        });
+    }
+    bytes
+}
+
+/// Every answer that a cluster can give to a call by fields.
+pub fn cluster_story() -> Vec<Told> {
+    let here = transaction(5, &[(1, 0)], &[1]);
+    let late = transaction(6, &[(1, 0)], &[1]);
+    let both = transaction(7, &[(1, 1)], &[2]);
+    let three = transaction(8, &[(1, 1), (2, 0), (3, 0)], &[1, 2, 3]);
+    let mut told = vec![
+        (mint(1, 0), 100),
+        (mint(1, 1), 100),
+        (mint(1, 1), 14),
+        (mint(2, 0), 100),
+        (mint(8, 0), 3),
+        (mint(1, 128), 3),
+        (register(1, here), 211),
+        (register(1, here), 8),
+        (mint(1, 2), 13),
+        (yes(1, 1, here), 401),
+        (no(1, 1, here), 16),
+        (register(1, late), 202),
+        (no(1, 1, late), 402),
+        (register(1, both), 210),
+        (yes(1, 1, both), 400),
+        (yes(2, 1, both), 16),
+        (yes(1, 2, both), 11),
+        (register(2, both), 210),
+        (yes(2, 1, both), 301),
+        (yes(1, 2, both), 301),
+        (yes(3, 2, both), 6),
+        (register(1, three), 200),
+        (register(2, three), 210),
+        (register(3, three), 200),
+        (no(1, 2, three), 300),
+        (no(1, 2, three), 400),
+        (yes(1, 2, three), 16),
+        (no(3, 2, three), 302),
+        (no(3, 2, three), 402),
+    ];
+    told.extend(refused_forms());
+    told.extend(full_shard());
+    told
+}
+
+/// Every answer that a lone shard can give to a call, first shard 1 and then
+/// shard 7.
+pub fn shard_stories() -> [(u8, Vec<Told>); 2] {
+    let here = transaction(5, &[(1, 0)], &[1]);
+    let late = transaction(6, &[(1, 0)], &[1]);
+    let both = transaction(7, &[(1, 1)], &[2]);
+    let three = transaction(8, &[(1, 1), (2, 0), (3, 0)], &[1, 2, 3]);
+    let mut told = vec![
+        (mint(1, 0), 100),
+        (mint(1, 1), 100),
+        (mint(1, 1), 14),
+        (mint(2, 0), 3),
+        (mint(1, 128), 3),
+        (register(1, here), 211),
+        (register(1, here), 8),
+        (mint(1, 2), 13),
+        (yes(1, 1, here), 401),
+        (no(1, 1, here), 12),
+        (register(1, late), 202),
+        (no(1, 1, late), 402),
+        (yes(2, 1, both), 11),
+        (register(1, both), 210),
+        (yes(1, 1, both), 400),
+        (yes(2, 1, both), 301),
+        (no(2, 1, both), 12),
+        (yes(3, 1, both), 6),
+        (register(2, both), 3),
+        (register(1, three), 200),
+        (yes(2, 1, three), 300),
+        (yes(3, 1, three), 302),
+    ];
+    told.extend(refused_forms());
+    [(1, told), (7, full_shard())]
+}
+
+/// Calls at shard 1 that are refused for what they say, and for a number taken
+/// by transaction 5.
+fn refused_forms() -> Vec<Told> {
+    let mut unbalanced = *transaction(9, &[(1, 5)], &[1]).words();
+    unbalanced[25] += 1;
+    let forms = [
+        (3, transaction(0, &[(1, 5)], &[1])),
+        (4, transaction(9, &[(1, 5), (1, 5)], &[1, 1])),
+        (5, Transaction::from_words(unbalanced)),
+        (6, transaction(9, &[(4, 5)], &[5])),
+        (7, transaction(5, &[(1, 5)], &[1])),
+    ];
+    forms
+        .into_iter()
+        .map(|(code, transaction)| (register(1, transaction), code))
+        .collect()
+}
+
+/// Shard 7 until it holds and knows all it can, in the last words of the
+/// memory.
+fn full_shard() -> Vec<Told> {
+    let away = |number: u8| transaction(100 + u32::from(number), &[(7, number)], &[6]);
+    let mints = (0..128).map(|index| (mint(7, index), 100));
+    let known = (0..31).map(|number| (register(7, away(number)), 210));
+    let full = [
+        (register(7, transaction(99, &[(7, 99)], &[7])), 10),
+        (register(7, away(31)), 210),
+        (register(7, away(32)), 9),
+    ];
+    mints.chain(known).chain(full).collect()
+}
