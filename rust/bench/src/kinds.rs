@@ -18,10 +18,10 @@ use std::array;
 use std::ops::Range;
 use std::time::{Duration, Instant};
 
-use engine::{Ledger, answer_code};
+use engine::answer_code;
 use reference::{Answer, Cluster, Done, LIMITS, Record};
 
-use crate::ledgers::{Week, folded};
+use crate::ledgers::{Week, code, folded};
 
 /// Kinds of calls, in the order of the table.
 pub const KINDS: [&str; 7] = [
@@ -53,13 +53,13 @@ pub struct Kind {
 /// gives the counts and times of each kind. Nothing if the answers differ.
 pub fn kinds(weeks: &[Week], rounds: usize) -> Option<[Kind; KINDS.len()]> {
     let mut all = [Kind::default(); KINDS.len()];
-    let mut cluster = engine::Cluster::new();
+    let mut cluster = engine::cluster();
     for week in weeks {
         assert_eq!(week.shard, None, "the weeks are a cluster's");
         let runs = runs(&week.records);
         let mut engine = |runs: &Runs| {
             cluster.renew();
-            time(&week.calls, runs, |call| cluster.call(call))
+            time(&week.calls, runs, |call| code(&mut cluster, call))
         };
         let mut reference = |runs: &Runs| {
             let mut cluster = Cluster::new(LIMITS);

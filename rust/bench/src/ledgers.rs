@@ -3,7 +3,9 @@
 
 use std::time::{Duration, Instant};
 
-use engine::{Call, Ledger, answer_code};
+use engine::{Call, answer_code, play};
+use plankeeper::Ledger;
+use plankeeper::boundary::Memory;
 use reference::{Cluster, LIMITS, Record, Shard};
 
 /// A week for a lone shard, if it has a number, or for a cluster. What each
@@ -36,8 +38,8 @@ pub type Run = (u64, Duration);
 /// Plays the week so many times with the engine, each time from empty.
 pub fn engine_run(week: &Week, rounds: usize) -> Run {
     match week.shard {
-        Some(number) => held_run(&mut engine::Shard::new(number), &week.calls, rounds),
-        None => held_run(&mut engine::Cluster::new(), &week.calls, rounds),
+        Some(number) => held_run(&mut engine::shard(number), &week.calls, rounds),
+        None => held_run(&mut engine::cluster(), &week.calls, rounds),
     }
 }
 
@@ -64,8 +66,14 @@ pub fn reference_run(week: &Week, rounds: usize) -> Run {
     }
 }
 
-fn held_run<E: Ledger>(ledger: &mut E, calls: &[Call], rounds: usize) -> Run {
-    run(ledger, calls, rounds, E::renew, E::call)
+fn held_run<M: Memory>(ledger: &mut Ledger<M>, calls: &[Call], rounds: usize) -> Run {
+    run(ledger, calls, rounds, Ledger::renew, code)
+}
+
+/// Makes the engine's call and gives its answer's code.
+#[inline]
+pub(crate) fn code<M: Memory>(ledger: &mut Ledger<M>, call: &Call) -> u32 {
+    plankeeper::answer_code(&play(ledger, call))
 }
 
 #[inline(always)]

@@ -9,7 +9,7 @@ pub mod ledgers;
 
 use reference::{Reading, Record};
 
-/// The loop of `engine::read_votes`, calling the reference reader.
+/// The loop of `engine::probes::read_votes`, calling the reference reader.
 #[inline(never)]
 pub fn read_votes(bytes: &[u8], records: usize) -> u64 {
     sum(bytes, records, reference::read)

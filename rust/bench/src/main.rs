@@ -15,7 +15,7 @@ const VOTES: u64 = 642;
 type Loop = fn(&[u8], usize) -> u64;
 
 const LOOPS: [(&str, Loop); 3] = [
-    ("engine", engine::read_votes),
+    ("engine", engine::probes::read_votes),
     ("reference", bench::read_votes),
     ("reference, inlined", bench::read_votes_inlined),
 ];

@@ -4,7 +4,7 @@ use differential::{Rng, SEED, damage, encode, record, vote};
 
 fn check(case: u64, bytes: &[u8], records: usize) {
     let expected = bench::read_votes(bytes, records);
-    let answer = engine::read_votes(bytes, records);
+    let answer = engine::probes::read_votes(bytes, records);
     assert_eq!(
         answer, expected,
         "seed {SEED:#x}, case {case}, {records} records"

@@ -3,7 +3,8 @@
 use std::io::{Write, stderr};
 use std::{ptr, thread};
 
-use engine::places::{READING_WORDS, ReadingWords};
+use engine::probes;
+use plankeeper::boundary::{self, READING_WORDS, ReadingWords};
 use reference::{GENESIS, REGISTER_LENGTH, Reading, Record, Refusal, Transaction, VOTE_LENGTH};
 
 use crate::Rng;
@@ -78,7 +79,7 @@ pub fn check_read(case: &Case) -> u8 {
 
     // Filled beforehand, so that a word left as it was shows.
     let mut words = [!case.number as u32; READING_WORDS];
-    let number = engine::read_words(bytes, &mut words);
+    let number = boundary::read(bytes, &mut words);
     assert_eq!(
         number,
         u32::from(expected_number),
@@ -89,9 +90,11 @@ pub fn check_read(case: &Case) -> u8 {
         expected_words(&expected),
         "words; expected {expected:?}"
     );
-    assert_eq!(engine::read(bytes), expected, "fields");
+    let reading = plankeeper::read(bytes);
+    assert_eq!(engine::reading(&reading), expected, "fields");
 
-    let rest = engine::rest(bytes);
+    assert_eq!(boundary::taken(bytes), expected.taken, "length taken");
+    let rest = reading.rest;
     assert_eq!(
         rest.len(),
         bytes.len() - expected.taken,
@@ -148,7 +151,7 @@ pub fn check_write(case: &Case, record: &Record, room: usize, rng: &mut Rng) -> 
     );
 
     if let Ok(length) = answer {
-        let again = engine::read(&after[buffer.clone()]);
+        let again = engine::reading(&plankeeper::read(&after[buffer.clone()]));
         assert_eq!(again.outcome, Ok(*record), "read again");
         assert_eq!(again.taken, length, "read again");
         assert_eq!(reference::read(&after[buffer]), again, "read again");
@@ -160,7 +163,7 @@ pub fn check_write(case: &Case, record: &Record, room: usize, rng: &mut Rng) -> 
 pub fn check_cause(case: u64, genesis: u8, transaction: &Transaction) -> u8 {
     let bytes = encode(&register(transaction));
     let _case = Case::new(case, &bytes);
-    let answer = engine::cause(genesis, transaction);
+    let answer = probes::cause(genesis, transaction);
     let expected = reference::cause(genesis, transaction);
     assert_eq!(answer, expected, "cause with {genesis} genesis indices");
     number(answer)
@@ -170,7 +173,7 @@ pub fn check_cause(case: u64, genesis: u8, transaction: &Transaction) -> u8 {
 pub fn check_shard(case: u64, shard: u8, transaction: &Transaction) -> bool {
     let bytes = encode(&register(transaction));
     let _case = Case::new(case, &bytes);
-    let answer = engine::takes_part(shard, transaction);
+    let answer = probes::takes_part(shard, transaction);
     let expected = reference::takes_part(shard, transaction);
     assert_eq!(answer, expected, "shard {shard} takes part");
     answer
@@ -182,9 +185,9 @@ pub fn check_same(case: u64, one: &Transaction, other: &Transaction) -> bool {
     let bytes = [encode(&register(one)), encode(&register(other))].concat();
     let _case = Case::new(case, &bytes);
     let expected = one == other;
-    assert_eq!(engine::same(one, other), expected, "same");
+    assert_eq!(probes::same(one, other), expected, "same");
     assert_eq!(
-        engine::same(other, one),
+        probes::same(other, one),
         expected,
         "same in the other order"
     );

@@ -5,7 +5,9 @@ use std::fmt::Debug;
 use std::{slice, thread};
 
 use engine::places::{ShardWords, name};
-use engine::{Call, Ledger, State, answer_code, code_answer};
+use engine::{Call, State, Words, play, shards};
+use plankeeper::Ledger;
+use plankeeper::boundary::{ClusterMemory, Memory, ShardMemory, taken};
 use reference::{Answer, Cluster, Done, LIMITS, Record, Refusal, Shard};
 use weeks::{Before, receiver};
 
@@ -77,8 +79,8 @@ pub struct Played {
 
 /// A week played on both from empty. The engine's memory serves for many
 /// weeks, so that each finds what the one before has left.
-pub struct Player<'a, E, R> {
-    engine: &'a mut E,
+pub struct Player<'a, M, R> {
+    engine: &'a mut Ledger<M>,
     reference: R,
     /// The engine's words after the call before.
     kept: Vec<ShardWords>,
@@ -89,21 +91,21 @@ pub struct Player<'a, E, R> {
 }
 
 /// A week of a lone shard.
-pub type ShardPlayer<'a> = Player<'a, engine::Shard, Shard>;
+pub type ShardPlayer<'a> = Player<'a, ShardMemory, Shard>;
 /// A week of a cluster.
-pub type ClusterPlayer<'a> = Player<'a, engine::Cluster, Cluster>;
+pub type ClusterPlayer<'a> = Player<'a, ClusterMemory, Cluster>;
 
 impl<'a> ShardPlayer<'a> {
     /// Starts the week with this number.
-    pub fn shard(week: u64, engine: &'a mut engine::Shard) -> Self {
-        let expected = Shard::new(engine.number(), LIMITS);
-        Player::new(week, engine, expected)
+    pub fn shard(week: u64, engine: &'a mut plankeeper::Shard) -> Self {
+        let number = engine.memory().number() as u8;
+        Player::new(week, engine, Shard::new(number, LIMITS))
     }
 }
 
 impl<'a> ClusterPlayer<'a> {
     /// Starts the week with this number.
-    pub fn cluster(week: u64, engine: &'a mut engine::Cluster) -> Self {
+    pub fn cluster(week: u64, engine: &'a mut plankeeper::Cluster) -> Self {
         Player::new(week, engine, Cluster::new(LIMITS))
     }
 
@@ -113,20 +115,21 @@ impl<'a> ClusterPlayer<'a> {
         let expected = reference::read(bytes);
         let front = &bytes[..expected.taken];
         let _case = self.case(&front);
-        let code = self.engine.apply(bytes);
-        let played = self.compare(code, expected.outcome.as_ref().map_err(|&refusal| refusal));
-        let rest = engine::rest(bytes);
-        assert_eq!(rest.len(), bytes.len() - front.len(), "bytes behind");
-        (played, expected.outcome.ok(), rest)
+        let answer = engine::answer(self.engine.apply(bytes));
+        let record = expected.outcome.as_ref().map_err(|&refusal| refusal);
+        let played = self.compare(answer, record);
+        let taken = taken(bytes);
+        assert_eq!(taken, front.len(), "bytes taken");
+        (played, expected.outcome.ok(), &bytes[taken..])
     }
 }
 
-impl<'a, E: Ledger, R: Expected> Player<'a, E, R> {
-    fn new(week: u64, engine: &'a mut E, reference: R) -> Self {
+impl<'a, M: Memory, R: Expected> Player<'a, M, R> {
+    fn new(week: u64, engine: &'a mut Ledger<M>, reference: R) -> Self {
         engine.renew();
         let player = Player {
-            kept: engine.shards().to_vec(),
-            states: engine.shards().iter().map(State::of).collect(),
+            kept: shards(engine).to_vec(),
+            states: shards(engine).iter().map(State::of).collect(),
             engine,
             reference,
             week,
@@ -138,14 +141,24 @@ impl<'a, E: Ledger, R: Expected> Player<'a, E, R> {
 
     /// Compares what comes of the record's fields.
     pub fn call(&mut self, record: &Record) -> Played {
-        let call = Call::from(record);
+        self.make(Call::from(record), record)
+    }
+
+    /// Compares what comes of the words, whether they fit their fields or not.
+    /// Gives the fields that they stand for, too.
+    pub fn call_words(&mut self, words: Words) -> (Played, Record) {
+        let record = Record::from(&words);
+        (self.make(Call::from(words), &record), record)
+    }
+
+    fn make(&mut self, call: Call, record: &Record) -> Played {
         let _case = self.case(&call);
-        let code = self.engine.call(&call);
-        self.compare(code, Ok(record))
+        let answer = engine::answer(play(self.engine, &call));
+        self.compare(answer, Ok(record))
     }
 
     /// The engine.
-    pub fn engine(&self) -> &E {
+    pub fn engine(&self) -> &Ledger<M> {
         self.engine
     }
 
@@ -176,18 +189,18 @@ impl<'a, E: Ledger, R: Expected> Player<'a, E, R> {
 
     /// Compares the engine after a call with the reference's answer and state:
     /// what a record's fields bring, or the reader's refusal.
-    fn compare(&mut self, code: u32, record: Result<&Record, Refusal>) -> Played {
+    fn compare(&mut self, ours: Answer, record: Result<&Record, Refusal>) -> Played {
         let number = record.ok().map(receiver);
-        let mut shards = self.reference.shards().iter();
-        let place = shards.position(|shard| Some(shard.number()) == number);
+        let mut expected = self.reference.shards().iter();
+        let place = expected.position(|shard| Some(shard.number()) == number);
         let before = place.map(|place| Before::of(&self.reference.shards()[place]));
         let answer = record.and_then(|record| self.reference.play(record));
-        compare_code(code, answer);
+        assert_eq!(ours, answer, "answer");
 
         // A refused call and a repeat change nothing, any other its receiver.
         let unchanged = matches!(answer, Err(_) | Ok(Done::Again(_)));
         let changed = place.filter(|_| !unchanged);
-        let now = self.engine.shards();
+        let now = shards(self.engine);
         for (place, (now, kept)) in now.iter().zip(&self.kept).enumerate() {
             if Some(place) != changed {
                 compare_words(place, now, kept);
@@ -210,14 +223,6 @@ impl<'a, E: Ledger, R: Expected> Player<'a, E, R> {
         if let Some(difference) = self.states[place].difference(shard) {
             panic!("state of shard {}: {difference}", shard.number());
         }
-    }
-}
-
-fn compare_code(code: u32, expected: Answer) {
-    // The codes have to agree; the answers are easier to read.
-    if code != answer_code(expected) {
-        assert_eq!(code_answer(code), expected, "answer");
-        panic!("the engine answered {code} for {expected:?}");
     }
 }
 

@@ -1,7 +1,8 @@
 //! Weeks of a cluster as bytes, record by record.
 
 use differential::{ANSWERS, CLUSTER_REFUSALS, ClusterPlayer, Player, Rng, SEED, count_weeks};
-use engine::{Call, Cluster, Ledger, answer_code};
+use engine::{Call, cluster, play};
+use plankeeper::boundary::Memory;
 use program::{DAMAGES, encode_all, input};
 use reference::{Answer, Record};
 use weeks::{Tally, cluster_week, label};
@@ -34,7 +35,7 @@ fn hand_over(
 /// both are left with the same words, those that are not in use too.
 #[test]
 fn weeks_as_bytes_and_as_fields() {
-    let clusters = || (Cluster::new(), Cluster::new());
+    let clusters = || (cluster(), cluster());
     let (tally, calls) = count_weeks(WEEKS, clusters, |(bytes, fields), tally, week| {
         let records = cluster_week(&mut Rng::new(SEED, week));
         let (stretch, _) = encode_all(&records);
@@ -48,9 +49,9 @@ fn weeks_as_bytes_and_as_fields() {
                 "fields; week {week}"
             );
             // Fields that the reader refuses make calls that are refused.
-            let code = fields.call(&Call::from(record));
-            assert_eq!(code, answer_code(answer), "by fields; week {week}");
-            let same = player.engine().words() == fields.words();
+            let ours = engine::answer(play(fields, &Call::from(record)));
+            assert_eq!(ours, answer, "by fields; week {week}");
+            let same = player.engine().memory().words() == fields.memory().words();
             assert!(same, "bytes and fields leave other words; week {week}");
         });
         assert_eq!(handed, records.len(), "records; week {week}");
@@ -64,7 +65,7 @@ fn weeks_as_bytes_and_as_fields() {
 /// takes all that is left.
 #[test]
 fn damaged_bytes() {
-    let (tally, calls) = count_weeks(INPUTS, Cluster::new, |cluster, tally, case| {
+    let (tally, calls) = count_weeks(INPUTS, cluster, |cluster, tally, case| {
         let input = input(case, case.is_multiple_of(4));
         tally.add(input.damage);
         let player = &mut Player::cluster(case, cluster);

@@ -1,7 +1,7 @@
 //! Weeks of a cluster.
 
 use differential::{ANSWERS, CLUSTER_REFUSALS, EVENTS, Player, Rng, SEED, count_weeks};
-use engine::{Cluster, Ledger, answer_code};
+use engine::{answer_code, cluster};
 use reference::{Input, Output, Record, TokenId, Transaction};
 use weeks::cluster_week;
 
@@ -15,7 +15,7 @@ const CLUSTER_EVENTS: [&str; 2] = ["vote overtaking another", "two commits of on
 
 #[test]
 fn random_weeks_of_a_cluster() {
-    let (tally, calls) = count_weeks(WEEKS, Cluster::new, |cluster, tally, week| {
+    let (tally, calls) = count_weeks(WEEKS, cluster, |cluster, tally, week| {
         let records = cluster_week(&mut Rng::new(SEED, week));
         let mut player = Player::cluster(week, cluster);
         for record in &records {
@@ -85,7 +85,7 @@ fn worked_example() {
         vote(0, 1),
         vote(0, 1),
     ];
-    let mut cluster = Cluster::new();
+    let mut cluster = cluster();
     let mut player = Player::cluster(0, &mut cluster);
     let (mut answers, mut totals) = (Vec::new(), Vec::new());
     for record in &records {

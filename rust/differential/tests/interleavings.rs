@@ -5,7 +5,7 @@ use std::collections::BTreeMap;
 use std::{array, thread};
 
 use differential::{ANSWERS, Player, share_out};
-use engine::Cluster;
+use plankeeper::Cluster;
 use reference::Done;
 use weeks::{Clauses, Scenario, Tally, View, label, scenarios};
 
@@ -78,7 +78,7 @@ fn play(scenario: &Scenario, cluster: &mut Cluster) -> Played {
 fn every_order_of_every_scenario() {
     let scenarios = scenarios();
     let played = share_out(scenarios.len() as u64, |jobs| {
-        let mut cluster = Cluster::new();
+        let mut cluster = engine::cluster();
         let scenarios = jobs.map(|job| &scenarios[job as usize]);
         let played = scenarios.map(|scenario| play(scenario, &mut cluster));
         played.collect::<Vec<_>>()

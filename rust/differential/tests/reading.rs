@@ -186,7 +186,7 @@ fn read_on(mut bytes: &[u8], counts: &mut Counts) -> (usize, u8) {
         if matches!(answer, 1 | 2) {
             return (records, answer);
         }
-        bytes = engine::rest(bytes);
+        bytes = plankeeper::read(bytes).rest;
     }
     unreachable!("a stretch ends")
 }

@@ -15,10 +15,10 @@ const FULL: u64 = 1_000_000;
 const LEAST: u64 = 10_000;
 
 /// The engine's memory: a lone shard of every number.
-type Shards = [engine::Shard; SHARDS];
+type Shards = [plankeeper::Shard; SHARDS];
 
 fn shards() -> Shards {
-    array::from_fn(|number| engine::Shard::new(number as u8))
+    array::from_fn(|number| engine::shard(number as u8))
 }
 
 /// Plays the week and gives the number of calls.

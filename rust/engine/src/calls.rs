@@ -1,14 +1,16 @@
-//! Calls by their words, and the codes that answer them.
+//! Calls by their words, and through the types where these can say them.
 
-use reference::{Answer, Done, Outcome, Record, Refusal, Verdict};
+use plankeeper::boundary::Memory;
+use plankeeper::{Answer, Ledger, Refusal, Transaction, Verdict, answer_from_code};
+use reference::Record;
 
 use crate::places::TransactionWords;
-use crate::words::to_words;
+use crate::words::{from_words, narrow, narrowed, to_words};
 
 /// A call with the words that cross the boundary, whether they fit their
 /// fields or not.
 #[derive(Clone, Copy, Debug, PartialEq, Eq)]
-pub enum Call {
+pub enum Words {
     /// Gives a shard a genesis token (document 01: opening).
     Mint {
         /// Document 01: receiving pantry.
@@ -40,8 +42,8 @@ pub enum Call {
     },
 }
 
-/// The call that the record's fields stand for.
-impl From<&Record> for Call {
+/// The words of the record's fields.
+impl From<&Record> for Words {
     fn from(record: &Record) -> Self {
         match *record {
             Record::Mint {
@@ -49,7 +51,7 @@ impl From<&Record> for Call {
                 index,
                 owner,
                 amount,
-            } => Call::Mint {
+            } => Words::Mint {
                 receiver: receiver.into(),
                 index: index.into(),
                 owner,
@@ -58,7 +60,7 @@ impl From<&Record> for Call {
             Record::Register {
                 receiver,
                 ref transaction,
-            } => Call::Register {
+            } => Words::Register {
                 receiver: receiver.into(),
                 transaction: to_words(transaction),
             },
@@ -67,7 +69,7 @@ impl From<&Record> for Call {
                 sender,
                 verdict,
                 ref transaction,
-            } => Call::Vote {
+            } => Words::Vote {
                 receiver: receiver.into(),
                 sender: sender.into(),
                 verdict: verdict.into(),
@@ -77,44 +79,141 @@ impl From<&Record> for Call {
     }
 }
 
-/// The answer's code.
-pub fn answer_code(answer: Answer) -> u32 {
-    let of = |outcome| match outcome {
-        Outcome::Wait => 0,
-        Outcome::Commit => 1,
-        Outcome::Abort => 2,
-    };
-    match answer {
-        Err(refusal) => refusal.number().into(),
-        Ok(Done::Minted) => 100,
-        Ok(Done::Registered { verdict, outcome }) => {
-            200 + 10 * u32::from(verdict == Verdict::Yes) + of(outcome)
+/// The fields that the words stand for: a word above 255 where the field is a
+/// byte stands for 255.
+impl From<&Words> for Record {
+    fn from(words: &Words) -> Self {
+        match *words {
+            Words::Mint {
+                receiver,
+                index,
+                owner,
+                amount,
+            } => Record::Mint {
+                receiver: narrow(receiver),
+                index: narrow(index),
+                owner,
+                amount,
+            },
+            Words::Register {
+                receiver,
+                transaction,
+            } => Record::Register {
+                receiver: narrow(receiver),
+                transaction: from_words(&narrowed(transaction)),
+            },
+            Words::Vote {
+                receiver,
+                sender,
+                verdict,
+                transaction,
+            } => Record::Vote {
+                receiver: narrow(receiver),
+                sender: narrow(sender),
+                verdict: narrow(verdict),
+                transaction: from_words(&narrowed(transaction)),
+            },
         }
-        Ok(Done::Heard(outcome)) => 300 + of(outcome),
-        Ok(Done::Again(outcome)) => 400 + of(outcome),
     }
 }
 
-/// The answer with this code. Panics if there is none.
-pub fn code_answer(code: u32) -> Answer {
-    let outcome = match code % 10 {
-        0 => Some(Outcome::Wait),
-        1 => Some(Outcome::Commit),
-        2 => Some(Outcome::Abort),
-        _ => None,
-    };
-    let registered = |verdict, outcome| Done::Registered { verdict, outcome };
-    let done = match (code / 10, outcome) {
-        (10, Some(Outcome::Wait)) => Some(Done::Minted),
-        (20, Some(outcome)) => Some(registered(Verdict::No, outcome)),
-        (21, Some(outcome)) => Some(registered(Verdict::Yes, outcome)),
-        (30, Some(outcome)) => Some(Done::Heard(outcome)),
-        (40, Some(outcome)) => Some(Done::Again(outcome)),
-        _ => None,
-    };
-    if let Some(done) = done {
-        return Ok(done);
+/// A call as it is made.
+#[derive(Clone, Copy, Debug, PartialEq, Eq)]
+pub enum Call {
+    /// Through the types.
+    Typed(plankeeper::Record),
+    /// By words, which the types cannot say: some word is too wide for its
+    /// field, or the verdict is neither 0 nor 1.
+    Words(Words),
+}
+
+impl From<Words> for Call {
+    fn from(words: Words) -> Self {
+        typed(&words).map_or(Call::Words(words), Call::Typed)
     }
-    let refusal = u8::try_from(code).ok().and_then(Refusal::from_number);
-    Err(refusal.unwrap_or_else(|| panic!("the engine answered {code} to a call")))
+}
+
+impl From<&Record> for Call {
+    fn from(record: &Record) -> Self {
+        Words::from(record).into()
+    }
+}
+
+fn typed(words: &Words) -> Option<plankeeper::Record> {
+    let byte = |word: u32| u8::try_from(word).ok();
+    Some(match *words {
+        Words::Mint {
+            receiver,
+            index,
+            owner,
+            amount,
+        } => plankeeper::Record::Mint {
+            receiver: byte(receiver)?,
+            index: byte(index)?,
+            owner,
+            amount,
+        },
+        Words::Register {
+            receiver,
+            transaction,
+        } => plankeeper::Record::Register {
+            receiver: byte(receiver)?,
+            transaction: fitting(transaction)?,
+        },
+        Words::Vote {
+            receiver,
+            sender,
+            verdict,
+            transaction,
+        } => plankeeper::Record::Vote {
+            receiver: byte(receiver)?,
+            sender: byte(sender)?,
+            verdict: match verdict {
+                0 => Verdict::No,
+                1 => Verdict::Yes,
+                _ => return None,
+            },
+            transaction: fitting(transaction)?,
+        },
+    })
+}
+
+/// The transaction, if all words fit their fields.
+fn fitting(words: TransactionWords) -> Option<Transaction> {
+    let transaction = Transaction::from_words(words);
+    (*transaction.words() == words).then_some(transaction)
+}
+
+/// Makes the call.
+#[inline]
+pub fn play<M: Memory>(ledger: &mut Ledger<M>, call: &Call) -> Result<Answer, Refusal> {
+    match call {
+        Call::Typed(record) => ledger.play(record),
+        Call::Words(words) => {
+            let code = code(ledger.memory_mut(), words);
+            answer_from_code(code).unwrap_or_else(|| panic!("the engine answered {code}"))
+        }
+    }
+}
+
+/// The code of the call by its words.
+fn code<M: Memory>(memory: &mut M, words: &Words) -> u32 {
+    match *words {
+        Words::Mint {
+            receiver,
+            index,
+            owner,
+            amount,
+        } => memory.mint(receiver, index, owner, amount),
+        Words::Register {
+            receiver,
+            ref transaction,
+        } => memory.register(receiver, transaction),
+        Words::Vote {
+            receiver,
+            sender,
+            verdict,
+            ref transaction,
+        } => memory.deliver(receiver, sender, verdict, transaction),
+    }
 }

@@ -1,24 +1,27 @@
-//! The proved engine, reached through its C boundary: memory that the caller
-//! holds, and calls on it.
+//! The crate `plankeeper` beside the reference, for tests and benchmarks: calls
+//! by words where its types cannot say them, its answers in the reference's
+//! types, the state that the memory's words tell of, and the probes.
 //!
 //! The types are the reference's, so that the answers of both can be compared
 //! by `==`; nothing the reference computes is used here.
 
+#![deny(unsafe_code)]
 #![warn(missing_docs)]
 
+mod answers;
 mod calls;
 mod codec;
-mod ledger;
+mod memory;
 pub mod places;
-mod probes;
-mod raw;
+#[allow(unsafe_code)]
+pub mod probes;
 mod state;
 mod words;
 
-pub use calls::{Call, answer_code, code_answer};
-pub use codec::{read, read_words, rest, taken, write};
-pub use ledger::{Cluster, Ledger, Shard, UNSET};
-pub use probes::{cause, read_votes, same, takes_part};
+pub use answers::{answer, answer_code, refusal};
+pub use calls::{Call, Words, play};
+pub use codec::{reading, write};
+pub use memory::{UNSET, cluster, shard, shards};
 pub use state::State;
 pub use words::{from_words, to_words};
 

@@ -1,27 +1,19 @@
 //! Where everything stands in the engine's memory and in a transaction's
-//! words: the one table that the Rust side has of it, in numbers of its own.
+//! words: the one table that the tests have of it, in numbers of its own. A
+//! cluster's memory is eight shards', one behind the other.
 
 use std::ops::Range;
 
-/// Words of a lone shard's memory.
+/// Words of a shard's memory.
 pub const SHARD_WORDS: usize = 2147;
-/// Words of a cluster's memory: eight shards, one behind the other.
-pub const CLUSTER_WORDS: usize = 17_176;
 /// Words of a transaction.
 pub const TRANSACTION_WORDS: usize = 35;
-/// Words of a reading.
-pub const READING_WORDS: usize = 42;
 
-/// A lone shard's memory.
+/// A shard's memory.
 pub type ShardWords = [u32; SHARD_WORDS];
-/// A cluster's memory.
-pub type ClusterWords = [u32; CLUSTER_WORDS];
 /// Number and counts, then the inputs (shard, creator, index, owner, amount),
 /// then the outputs (shard, owner, amount).
 pub type TransactionWords = [u32; TRANSACTION_WORDS];
-/// Kind, receiver, sender, verdict, index, owner and amount, then the
-/// transaction.
-pub type ReadingWords = [u32; READING_WORDS];
 
 /// A shard's number.
 pub(crate) const NUMBER: usize = 0;

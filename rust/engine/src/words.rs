@@ -5,7 +5,7 @@ use std::array;
 use reference::{Input, Output, TokenId, Transaction};
 
 use crate::places::{
-    INPUT_WORDS, INPUTS, OUTPUT_WORDS, OUTPUTS, TRANSACTION_WORDS, TransactionWords,
+    INPUT_WORDS, INPUTS, OUTPUT_WORDS, OUTPUTS, TRANSACTION_WORDS, TransactionWords, is_byte,
 };
 
 /// The transaction's fields as words.
@@ -68,4 +68,19 @@ pub fn from_words(words: &TransactionWords) -> Transaction {
 /// A cut word would pass for another value, so one too large is a fault.
 pub(crate) fn byte(word: u32) -> u8 {
     u8::try_from(word).unwrap_or_else(|_| panic!("word {word} is too large for its field"))
+}
+
+/// What a word stands for where the field is a byte: one above 255 for 255.
+pub(crate) fn narrow(word: u32) -> u8 {
+    u8::try_from(word).unwrap_or(u8::MAX)
+}
+
+/// The words that these stand for.
+pub(crate) fn narrowed(mut words: TransactionWords) -> TransactionWords {
+    for (place, word) in words.iter_mut().enumerate() {
+        if is_byte(place) {
+            *word = narrow(*word).into();
+        }
+    }
+    words
 }

@@ -58,6 +58,7 @@ pub enum Answer {
 
 impl Outcome {
     /// The outcome with this number, if there is one.
+    #[inline]
     pub(crate) fn from_number(number: u32) -> Option<Self> {
         match number {
             0 => Some(Outcome::Wait),
@@ -78,6 +79,7 @@ impl Outcome {
 /// assert_eq!(answer_from_code(301), Some(Ok(Answer::Heard(Outcome::Commit))));
 /// assert_eq!(answer_from_code(17), None);
 /// ```
+#[inline]
 pub fn answer_code(answer: &Result<Answer, Refusal>) -> u32 {
     match *answer {
         Err(refusal) => refusal.number().into(),
@@ -89,6 +91,7 @@ pub fn answer_code(answer: &Result<Answer, Refusal>) -> u32 {
 }
 
 /// The answer that the number stands for; nothing if it stands for none.
+#[inline]
 pub fn answer_from_code(code: u32) -> Option<Result<Answer, Refusal>> {
     let outcome = |first| Outcome::from_number(code - first);
     let registered = |verdict, first| {
@@ -110,6 +113,7 @@ pub fn answer_from_code(code: u32) -> Option<Result<Answer, Refusal>> {
 }
 
 /// The answer that the library's number stands for.
+#[inline]
 pub(crate) fn answered(code: u32) -> Result<Answer, Refusal> {
     answer_from_code(code).unwrap_or_else(|| nameless("a call", code))
 }

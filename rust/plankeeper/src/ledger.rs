@@ -37,6 +37,7 @@ impl<M: Memory> Ledger<M> {
 
     /// Gives the receiving shard a genesis token (document 01: opening). That
     /// is done first: a shard that knows a transaction is given no more.
+    #[inline]
     pub fn mint(
         &mut self,
         receiver: u8,
@@ -51,6 +52,7 @@ impl<M: Memory> Ledger<M> {
     /// Asks the receiving shard to register the transaction (document 01:
     /// registration). It pledges the inputs that it holds and that are
     /// available, and votes yes if all its inputs are.
+    #[inline]
     pub fn register(&mut self, receiver: u8, transaction: &Transaction) -> Result<Answer, Refusal> {
         let words = transaction.words();
         answered(self.memory.register(receiver.into(), words))
@@ -59,6 +61,7 @@ impl<M: Memory> Ledger<M> {
     /// Hands the sending shard's vote to the receiving one (document 01: vote
     /// delivery). A cluster refuses a vote that its sender has not given; a
     /// lone shard hears any.
+    #[inline]
     pub fn deliver(
         &mut self,
         receiver: u8,
@@ -72,6 +75,7 @@ impl<M: Memory> Ledger<M> {
     }
 
     /// Makes the call that the record stands for.
+    #[inline]
     pub fn play(&mut self, record: &Record) -> Result<Answer, Refusal> {
         match *record {
             Record::Register {

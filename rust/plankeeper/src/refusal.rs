@@ -79,11 +79,13 @@ impl Refusal {
     ];
 
     /// The cause's number in document 01's table.
+    #[inline]
     pub fn number(self) -> u8 {
         self as u8
     }
 
     /// The cause with this number, if there is one.
+    #[inline]
     pub fn from_number(number: u8) -> Option<Self> {
         let place = usize::from(number).checked_sub(1)?;
         Refusal::ALL.get(place).copied()

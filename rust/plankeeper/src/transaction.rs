@@ -137,6 +137,7 @@ impl Transaction {
     }
 
     /// Its words.
+    #[inline]
     pub fn words(&self) -> &TransactionWords {
         &self.words
     }

@@ -12,7 +12,7 @@ use std::time::Duration;
 
 use bench::kinds::{KINDS, Kind, kinds};
 use bench::ledgers::{Run, Week, engine_run, reference_run};
-use engine::places::{CLUSTER_WORDS, SHARD_WORDS};
+use plankeeper::boundary::{CLUSTER_WORDS, SHARD_WORDS};
 use reference::{Known, LIMITS, Shard, Token};
 use weeks::{ClusterStyle, Rng, SEED, ShardStyle, cluster_week_of, shard_week_of};
 

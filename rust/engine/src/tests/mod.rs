@@ -1,7 +1,4 @@
-//! The boundary itself: what is fixed by hand, and what the safe wrapper
-//! cannot ask.
+//! What the adapter itself says, by hand.
 
-mod answers;
-mod memory;
-mod story;
+mod conversions;
 mod widths;

@@ -33,6 +33,7 @@ impl ClusterMemory {
 
     /// Reads the record at the front of the bytes and carries it out. Where it
     /// cannot be read, it is refused with 1 to 5.
+    #[inline]
     pub fn apply(&mut self, bytes: &[u8]) -> u32 {
         // SAFETY: besides, pointer and length are those of a live slice.
         unsafe { raw::plankeeper_apply(&mut self.words, bytes.as_ptr(), bytes.len()) }
@@ -91,14 +92,17 @@ impl Memory for ClusterMemory {
         raw::plankeeper_new(&mut self.words);
     }
 
+    #[inline]
     fn mint(&mut self, receiver: u32, index: u32, owner: u32, amount: u32) -> u32 {
         unsafe { raw::plankeeper_mint(&mut self.words, receiver, index, owner, amount) }
     }
 
+    #[inline]
     fn register(&mut self, receiver: u32, transaction: &TransactionWords) -> u32 {
         unsafe { raw::plankeeper_register(&mut self.words, receiver, transaction) }
     }
 
+    #[inline]
     fn deliver(
         &mut self,
         receiver: u32,

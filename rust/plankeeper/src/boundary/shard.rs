@@ -79,14 +79,17 @@ impl Memory for ShardMemory {
         raw::plankeeper_shard_new(&mut self.words, self.number);
     }
 
+    #[inline]
     fn mint(&mut self, receiver: u32, index: u32, owner: u32, amount: u32) -> u32 {
         unsafe { raw::plankeeper_shard_mint(&mut self.words, receiver, index, owner, amount) }
     }
 
+    #[inline]
     fn register(&mut self, receiver: u32, transaction: &TransactionWords) -> u32 {
         unsafe { raw::plankeeper_shard_register(&mut self.words, receiver, transaction) }
     }
 
+    #[inline]
     fn deliver(
         &mut self,
         receiver: u32,

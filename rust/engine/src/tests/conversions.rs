@@ -1,0 +1,141 @@
+//! Answers, calls and transactions in both sides' types.
+
+use std::panic::catch_unwind;
+
+use plankeeper::answer_from_code;
+use reference::{Answer, Done, Outcome, Record, Refusal, Verdict};
+
+use super::widths::{transaction, wide_transactions};
+use crate::codec::written;
+use crate::places::TRANSACTION_WORDS;
+use crate::{Call, Words, answer, answer_code, from_words, to_words};
+
+#[test]
+fn answers_are_told_apart() {
+    let registered = |verdict, outcome| Ok(Done::Registered { verdict, outcome });
+    let answers: [(u32, Answer); 16] = [
+        (1, Err(Refusal::UnknownKind)),
+        (3, Err(Refusal::OutOfRange)),
+        (16, Err(Refusal::VoteNotGiven)),
+        (100, Ok(Done::Minted)),
+        (200, registered(Verdict::No, Outcome::Wait)),
+        (201, registered(Verdict::No, Outcome::Commit)),
+        (202, registered(Verdict::No, Outcome::Abort)),
+        (210, registered(Verdict::Yes, Outcome::Wait)),
+        (211, registered(Verdict::Yes, Outcome::Commit)),
+        (212, registered(Verdict::Yes, Outcome::Abort)),
+        (300, Ok(Done::Heard(Outcome::Wait))),
+        (301, Ok(Done::Heard(Outcome::Commit))),
+        (302, Ok(Done::Heard(Outcome::Abort))),
+        (400, Ok(Done::Again(Outcome::Wait))),
+        (401, Ok(Done::Again(Outcome::Commit))),
+        (402, Ok(Done::Again(Outcome::Abort))),
+    ];
+    for (code, expected) in answers {
+        let ours = answer_from_code(code).expect("the code of an answer");
+        assert_eq!(answer(ours), expected, "{code}");
+        assert_eq!(answer_code(expected), code, "{expected:?}");
+    }
+    for code in 1..=16 {
+        let ours = answer_from_code(code).expect("the code of a refusal");
+        assert_eq!(answer_code(answer(ours)), code);
+    }
+}
+
+#[test]
+fn writers_answers_are_told_apart() {
+    assert_eq!(written(102), Ok(102));
+    assert_eq!(written(3000), Err(Refusal::OutOfRange));
+    assert_eq!(written(15000), Err(Refusal::BufferTooShort));
+    for odd in [0, 101, 255, 1001, 2500, 15001, 17000, 259_000, u64::MAX] {
+        assert!(catch_unwind(|| written(odd)).is_err(), "{odd}");
+    }
+}
+
+#[test]
+fn words_and_fields_stand_for_each_other() {
+    let words: [u32; TRANSACTION_WORDS] = std::array::from_fn(|place| place as u32 + 1);
+    let fields = from_words(&words);
+    assert_eq!(to_words(&fields), words);
+    let counts = (fields.number, fields.input_count, fields.output_count);
+    assert_eq!(counts, (1, 2, 3));
+    let input = fields.inputs[1];
+    let token = input.token;
+    assert_eq!((token.shard, token.creator, token.index), (9, 10, 11));
+    assert_eq!((input.owner, input.amount), (12, 13));
+    let output = fields.outputs[1];
+    assert_eq!((output.shard, output.owner, output.amount), (27, 28, 29));
+    // No word is cut to its field.
+    for wide in wide_transactions(words) {
+        assert!(catch_unwind(|| from_words(&wide)).is_err());
+    }
+}
+
+/// A transaction built of fields has the words of the reference's.
+#[test]
+fn built_transactions_have_the_same_words() {
+    let expected = transaction();
+    let mut built = plankeeper::Transaction::new(expected.number);
+    for input in expected.inputs {
+        let token = plankeeper::TokenId {
+            shard: input.token.shard,
+            creator: input.token.creator,
+            index: input.token.index,
+        };
+        built = built.input(plankeeper::Input {
+            token,
+            owner: input.owner,
+            amount: input.amount,
+        });
+    }
+    for output in expected.outputs {
+        built = built.output(plankeeper::Output {
+            shard: output.shard,
+            owner: output.owner,
+            amount: output.amount,
+        });
+    }
+    assert_eq!(*built.words(), to_words(&expected));
+}
+
+/// Types say what they can, words the rest; both stand for the same fields.
+#[test]
+fn calls_are_typed_where_types_can_say_them() {
+    let vote = |receiver, verdict| Record::Vote {
+        receiver,
+        sender: 2,
+        verdict,
+        transaction: transaction(),
+    };
+    for (record, typed) in [
+        (vote(1, 0), true),
+        (vote(255, 1), true),
+        (vote(1, 2), false),
+        (vote(1, 255), false),
+    ] {
+        let words = Words::from(&record);
+        assert_eq!(Record::from(&words), record);
+        let call = Call::from(&record);
+        assert_eq!(matches!(call, Call::Typed(_)), typed, "{record:?}");
+    }
+    let narrow = to_words(&transaction());
+    for wide in wide_transactions(narrow) {
+        let words = Words::Register {
+            receiver: 300,
+            transaction: wide,
+        };
+        assert_eq!(Call::from(words), Call::Words(words));
+        let Record::Register {
+            receiver,
+            transaction: meant,
+        } = Record::from(&words)
+        else {
+            panic!("another kind of record");
+        };
+        assert_eq!(receiver, 255);
+        let place = (0..TRANSACTION_WORDS).find(|&place| wide[place] != narrow[place]);
+        let mut expected = narrow;
+        expected[place.expect("a wide word")] = 255;
+        assert_eq!(to_words(&meant), expected);
+    }
+}
