@@ -145,10 +145,8 @@ impl<'a, M: Memory, R: Expected> Player<'a, M, R> {
     }
 
     /// Compares what comes of the words, whether they fit their fields or not.
-    /// Gives the fields that they stand for, too.
-    pub fn call_words(&mut self, words: Words) -> (Played, Record) {
-        let record = Record::from(&words);
-        (self.make(Call::from(words), &record), record)
+    pub fn call_words(&mut self, words: Words) -> Played {
+        self.make(Call::from(words), &Record::from(&words))
     }
 
     fn make(&mut self, call: Call, record: &Record) -> Played {
@@ -178,6 +176,14 @@ impl<'a, M: Memory, R: Expected> Player<'a, M, R> {
     pub fn compare_states(&self) {
         for place in 0..self.states.len() {
             self.compare_state(place);
+        }
+    }
+
+    /// Fails unless all words are those after the last call.
+    pub fn compare_words(&self) {
+        let now = shards(self.engine).iter().zip(&self.kept);
+        for (place, (now, kept)) in now.enumerate() {
+            compare_words(place, now, kept);
         }
     }
 

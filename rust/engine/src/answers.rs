@@ -40,20 +40,24 @@ fn outcome(outcome: plankeeper::Outcome) -> Outcome {
     }
 }
 
-/// The code of the reference's answer.
-pub fn answer_code(answer: Answer) -> u32 {
-    let of = |outcome| match outcome {
+/// The code of the reference's outcome.
+pub fn outcome_code(outcome: Outcome) -> u32 {
+    match outcome {
         Outcome::Wait => 0,
         Outcome::Commit => 1,
         Outcome::Abort => 2,
-    };
+    }
+}
+
+/// The code of the reference's answer.
+pub fn answer_code(answer: Answer) -> u32 {
     match answer {
         Err(refusal) => refusal.number().into(),
         Ok(Done::Minted) => 100,
         Ok(Done::Registered { verdict, outcome }) => {
-            200 + 10 * u32::from(verdict == Verdict::Yes) + of(outcome)
+            200 + 10 * u32::from(verdict == Verdict::Yes) + outcome_code(outcome)
         }
-        Ok(Done::Heard(outcome)) => 300 + of(outcome),
-        Ok(Done::Again(outcome)) => 400 + of(outcome),
+        Ok(Done::Heard(outcome)) => 300 + outcome_code(outcome),
+        Ok(Done::Again(outcome)) => 400 + outcome_code(outcome),
     }
 }

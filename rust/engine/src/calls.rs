@@ -4,7 +4,7 @@ use plankeeper::boundary::Memory;
 use plankeeper::{Answer, Ledger, Refusal, Transaction, Verdict, answer_from_code};
 use reference::Record;
 
-use crate::places::TransactionWords;
+use crate::places::{TransactionWords, is_byte};
 use crate::words::{from_words, narrow, narrowed, to_words};
 
 /// A call with the words that cross the boundary, whether they fit their
@@ -40,6 +40,40 @@ pub enum Words {
         /// Document 01: swap.
         transaction: TransactionWords,
     },
+}
+
+impl Words {
+    /// Each of its words, and whether the field is a byte.
+    pub fn each(&mut self) -> Vec<(&mut u32, bool)> {
+        let (head, transaction) = match self {
+            Words::Mint {
+                receiver,
+                index,
+                owner,
+                amount,
+            } => {
+                let bytes = [receiver, index].map(|word| (word, true));
+                return bytes
+                    .into_iter()
+                    .chain([(owner, false), (amount, false)])
+                    .collect();
+            }
+            Words::Register {
+                receiver,
+                transaction,
+            } => (vec![receiver], transaction),
+            Words::Vote {
+                receiver,
+                sender,
+                verdict,
+                transaction,
+            } => (vec![receiver, sender, verdict], transaction),
+        };
+        let head = head.into_iter().map(|word| (word, true));
+        let fields = transaction.iter_mut().enumerate();
+        let fields = fields.map(|(place, word)| (word, is_byte(place)));
+        head.chain(fields).collect()
+    }
 }
 
 /// The words of the record's fields.

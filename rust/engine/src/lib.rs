@@ -16,13 +16,15 @@ pub mod places;
 #[allow(unsafe_code)]
 pub mod probes;
 mod state;
+mod views;
 mod words;
 
-pub use answers::{answer, answer_code, refusal};
+pub use answers::{answer, answer_code, outcome_code};
 pub use calls::{Call, Words, play};
 pub use codec::{reading, write};
 pub use memory::{UNSET, cluster, shard, shards};
 pub use state::State;
+pub use views::{tokens, transactions};
 pub use words::{from_words, to_words};
 
 #[cfg(test)]
