@@ -179,8 +179,15 @@ impl<'a, M: Memory, R: Expected> Player<'a, M, R> {
         }
     }
 
-    /// Fails unless all words are those after the last call.
-    pub fn compare_words(&self) {
+    /// Asks the engine after the last call, beside the reference. Fails if that
+    /// has changed a word.
+    pub fn ask(&self, compare: impl FnOnce(&Ledger<M>, &R)) {
+        let _case = Case {
+            week: self.week,
+            call: self.call.saturating_sub(1),
+            handed: &"what is asked after it",
+        };
+        compare(self.engine, &self.reference);
         let now = shards(self.engine).iter().zip(&self.kept);
         for (place, (now, kept)) in now.enumerate() {
             compare_words(place, now, kept);

@@ -9,6 +9,7 @@ mod generate;
 mod labels;
 mod ledger;
 mod queries;
+mod shards;
 mod share;
 mod spoil;
 
@@ -20,6 +21,7 @@ pub use generate::{base, damage, damage_byte, damage_transaction, record, transa
 pub use labels::{ANSWERS, CLUSTER_REFUSALS, EVENTS, SHARD_REFUSALS};
 pub use ledger::{ClusterPlayer, Expected, Played, Player, ShardPlayer};
 pub use queries::{Questions, check_cluster, check_lone, check_none};
+pub use shards::{Shards, full_shard_week, shards};
 pub use share::{count_weeks, share_out};
 pub use spoil::{BYTE_DAMAGES, WORD_DAMAGES, spoiled_bytes, spoiled_words};
 pub use weeks::{Rng, SEED};

@@ -2,14 +2,12 @@
 //! and the whole state are compared after each, and a refused call has changed
 //! no word.
 
-use std::array;
-
 use differential::{
     ANSWERS, BYTE_DAMAGES, CLUSTER_REFUSALS, Expected, Player, Rng, SEED, SHARD_REFUSALS,
-    WORD_DAMAGES, count_weeks, encode, spoiled_bytes, spoiled_words,
+    WORD_DAMAGES, count_weeks, encode, shards, spoiled_bytes, spoiled_words,
 };
 use plankeeper::boundary::Memory;
-use reference::{Answer, Record, Refusal, SHARDS};
+use reference::{Answer, Record, Refusal};
 use weeks::{Tally, cluster_week, label, shard_week};
 
 /// Weeks for bytes, for words at a cluster and for words at a lone shard: a
@@ -99,7 +97,6 @@ fn a_million_damaged_calls_of_a_cluster() {
 
 #[test]
 fn a_million_damaged_calls_of_a_shard() {
-    let shards = || array::from_fn::<_, SHARDS, _>(|number| engine::shard(number as u8));
     let counts = count_weeks(SHARD_WEEKS, shards, |shards, tally, week| {
         let rng = &mut Rng::new(SEED, week);
         let (number, records) = shard_week(rng);

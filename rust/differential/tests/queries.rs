@@ -1,20 +1,15 @@
 //! Queries, asked after every call of the shard that received it.
 
-use std::array;
-
 use differential::{
-    Player, Questions, Rng, SEED, check_cluster, check_lone, check_none, count_weeks,
+    Player, Questions, Rng, SEED, Shards, check_cluster, check_lone, check_none, count_weeks,
+    full_shard_week, shards,
 };
 use reference::{Outcome, Record, SHARDS, Shard};
-use weeks::{
-    ClusterStyle, ShardStyle, Tally, cluster_week, cluster_week_of, receiver, shard_week,
-    shard_week_of,
-};
+use weeks::{ClusterStyle, Tally, cluster_week, cluster_week_of, receiver, shard_week};
 
-const WEEKS: u64 = 1_600;
-const FULL_WEEKS: u64 = 300;
-/// Weeks in which shards run full are numbered from here.
-const FULL: u64 = 1_000_000;
+const WEEKS: u64 = 1_900;
+/// From this week on, shards run full.
+const FULL: u64 = 1_600;
 /// How often each kind of state has to be met by a query.
 const LEAST: u64 = 3_000;
 
@@ -71,27 +66,22 @@ fn ask_cluster(
     let mut player = Player::cluster(week, cluster);
     for (call, record) in records.iter().enumerate() {
         player.call(record);
-        let shards = player.reference().shards();
         // A call for no shard: any is asked.
         let place = usize::from(receiver(record)) % SHARDS;
-        let (ours, expected) = (player.engine(), &shards[place]);
-        check_cluster(ours, expected);
-        let none = NONE[call % NONE.len()];
-        check_none(ours, none, &Questions::of(Some(expected)));
-        player.compare_words();
-        count(tally, expected);
+        player.ask(|ours, reference| {
+            let expected = &reference.shards()[place];
+            check_cluster(ours, expected);
+            let none = NONE[call % NONE.len()];
+            check_none(ours, none, &Questions::of(Some(expected)));
+            count(tally, expected);
+        });
     }
-    for shard in player.reference().shards() {
-        check_cluster(player.engine(), shard);
-    }
-    player.compare_words();
+    player.ask(|ours, reference| {
+        for shard in reference.shards() {
+            check_cluster(ours, shard);
+        }
+    });
     records.len()
-}
-
-type Shards = [plankeeper::Shard; SHARDS];
-
-fn shards() -> Shards {
-    array::from_fn(|number| engine::shard(number as u8))
 }
 
 /// Plays the week on a lone shard and asks it.
@@ -104,65 +94,54 @@ fn ask_shard(
     let mut player = Player::shard(week, &mut shards[usize::from(number)]);
     for record in &records {
         player.call(record);
-        check_lone(player.engine(), player.reference());
-        player.compare_words();
-        count(tally, player.reference());
+        player.ask(|ours, expected| {
+            check_lone(ours, expected);
+            count(tally, expected);
+        });
     }
     records.len()
 }
 
+/// A week without damage in which a shard or two run full.
+fn full_cluster_week(rng: &mut Rng) -> Vec<Record> {
+    let style = ClusterStyle {
+        calls: 400,
+        shards: 1 + rng.below(2),
+        mints: 120 + rng.below(9),
+        amounts: 60,
+        new: 20,
+        due: 50,
+        damage: None,
+    };
+    cluster_week_of(rng, style)
+}
+
 #[test]
 fn queries_of_a_cluster() {
-    let weeks = WEEKS + FULL_WEEKS;
-    let (tally, calls) = count_weeks(weeks, engine::cluster, |cluster, tally, week| {
-        let rng = &mut Rng::new(SEED, FULL + week);
-        let records = if week < WEEKS {
+    let (tally, calls) = count_weeks(WEEKS, engine::cluster, |cluster, tally, week| {
+        let rng = &mut Rng::new(SEED, week);
+        let records = if week < FULL {
             cluster_week(rng)
         } else {
-            let style = ClusterStyle {
-                calls: 400,
-                shards: 1 + rng.below(2),
-                mints: 120 + rng.below(9),
-                amounts: 60,
-                new: 20,
-                due: 50,
-                damage: None,
-            };
-            cluster_week_of(rng, style)
+            full_cluster_week(rng)
         };
         ask_cluster(cluster, tally, week, &records)
     });
-    tally.report(
-        &format!("queries of a cluster, after {calls} calls"),
-        &STATES,
-        LEAST,
-    );
+    let title = format!("queries of a cluster, after {calls} calls");
+    tally.report(&title, &STATES, LEAST);
 }
 
 #[test]
 fn queries_of_a_shard() {
-    let weeks = WEEKS + FULL_WEEKS;
-    let (tally, calls) = count_weeks(weeks, shards, |shards, tally, week| {
-        let rng = &mut Rng::new(SEED, FULL + week);
-        let calls = if week < WEEKS {
+    let (tally, calls) = count_weeks(WEEKS, shards, |shards, tally, week| {
+        let rng = &mut Rng::new(SEED, week);
+        let calls = if week < FULL {
             shard_week(rng)
         } else {
-            let style = ShardStyle {
-                calls: 400,
-                mints: 120 + rng.below(9),
-                amounts: 60,
-                local: 3,
-                here: rng.pick(&[3, 5, 7]),
-                damage: None,
-                yes: 14,
-            };
-            shard_week_of(rng, style)
+            full_shard_week(rng)
         };
         ask_shard(shards, tally, week, calls)
     });
-    tally.report(
-        &format!("queries of a shard, after {calls} calls"),
-        &STATES,
-        LEAST,
-    );
+    let title = format!("queries of a shard, after {calls} calls");
+    tally.report(&title, &STATES, LEAST);
 }

@@ -1,10 +1,11 @@
 //! Weeks of a lone shard.
 
-use std::array;
-
-use differential::{ANSWERS, EVENTS, Player, Rng, SEED, SHARD_REFUSALS, count_weeks};
-use reference::{Record, SHARDS};
-use weeks::{ShardStyle, Tally, label, shard_week, shard_week_of};
+use differential::{
+    ANSWERS, EVENTS, Player, Rng, SEED, SHARD_REFUSALS, Shards, count_weeks, full_shard_week,
+    shards,
+};
+use reference::Record;
+use weeks::{Tally, label, shard_week};
 
 const WEEKS: u64 = 42_000;
 const CALLS: usize = 10_000_000;
@@ -13,13 +14,6 @@ const FULL_WEEKS: u64 = 4_000;
 const FULL: u64 = 1_000_000;
 /// How often each kind of answer and event has to be met.
 const LEAST: u64 = 10_000;
-
-/// The engine's memory: a lone shard of every number.
-type Shards = [plankeeper::Shard; SHARDS];
-
-fn shards() -> Shards {
-    array::from_fn(|number| engine::shard(number as u8))
-}
 
 /// Plays the week and gives the number of calls.
 fn play(
@@ -61,17 +55,7 @@ fn random_weeks_of_a_shard() {
 fn weeks_of_a_full_shard() {
     let (tally, calls) = count_weeks(FULL_WEEKS, shards, |shards, tally, week| {
         let week = FULL + week;
-        let rng = &mut Rng::new(SEED, week);
-        let style = ShardStyle {
-            calls: 400,
-            mints: 120 + rng.below(9),
-            amounts: 60,
-            local: 3,
-            here: rng.pick(&[3, 5, 7]),
-            damage: None,
-            yes: 14,
-        };
-        let (number, records) = shard_week_of(rng, style);
+        let (number, records) = full_shard_week(&mut Rng::new(SEED, week));
         play(shards, tally, week, number, &records)
     });
     let labels = [

@@ -74,6 +74,17 @@ pub fn transaction(number: u32, tokens: &[(u8, u8)], shards: &[u8]) -> Transacti
     outputs.fold(taking, Transaction::output)
 }
 
+/// One of shard 1 alone, one that comes too late for the same token, one of two
+/// shards and one of three.
+fn transactions() -> [Transaction; 4] {
+    [
+        transaction(5, &[(1, 0)], &[1]),
+        transaction(6, &[(1, 0)], &[1]),
+        transaction(7, &[(1, 1)], &[2]),
+        transaction(8, &[(1, 1), (2, 0), (3, 0)], &[1, 2, 3]),
+    ]
+}
+
 /// The record's bytes, whatever its fields hold: the writers refuse what tests
 /// have to try.
 pub fn encode(record: &Record) -> Vec<u8> {
@@ -111,10 +122,7 @@ pub fn encode(record: &Record) -> Vec<u8> {
 
 /// Every answer that a cluster can give to a call by fields.
 pub fn cluster_story() -> Vec<Told> {
-    let here = transaction(5, &[(1, 0)], &[1]);
-    let late = transaction(6, &[(1, 0)], &[1]);
-    let both = transaction(7, &[(1, 1)], &[2]);
-    let three = transaction(8, &[(1, 1), (2, 0), (3, 0)], &[1, 2, 3]);
+    let [here, late, both, three] = transactions();
     let mut told = vec![
         (mint(1, 0), 100),
         (mint(1, 1), 100),
@@ -154,10 +162,7 @@ pub fn cluster_story() -> Vec<Told> {
 /// Every answer that a lone shard can give to a call, first shard 1 and then
 /// shard 7.
 pub fn shard_stories() -> [(u8, Vec<Told>); 2] {
-    let here = transaction(5, &[(1, 0)], &[1]);
-    let late = transaction(6, &[(1, 0)], &[1]);
-    let both = transaction(7, &[(1, 1)], &[2]);
-    let three = transaction(8, &[(1, 1), (2, 0), (3, 0)], &[1, 2, 3]);
+    let [here, late, both, three] = transactions();
     let mut told = vec![
         (mint(1, 0), 100),
         (mint(1, 1), 100),
