@@ -98,8 +98,8 @@ pub type ClusterPlayer<'a> = Player<'a, ClusterMemory, Cluster>;
 impl<'a> ShardPlayer<'a> {
     /// Starts the week with this number.
     pub fn shard(week: u64, engine: &'a mut plankeeper::Shard) -> Self {
-        let number = engine.memory().number() as u8;
-        Player::new(week, engine, Shard::new(number, LIMITS))
+        let expected = Shard::new(engine.number(), LIMITS);
+        Player::new(week, engine, expected)
     }
 }
 

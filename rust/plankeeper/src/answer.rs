@@ -100,10 +100,10 @@ pub fn answer_from_code(code: u32) -> Option<Result<Answer, Refusal>> {
     };
     let answer = match code {
         100 => Some(Answer::Minted),
-        200..210 => registered(Verdict::No, 200),
-        210..220 => registered(Verdict::Yes, 210),
-        300..310 => outcome(300).map(Answer::Heard),
-        400..410 => outcome(400).map(Answer::Again),
+        200..=202 => registered(Verdict::No, 200),
+        210..=212 => registered(Verdict::Yes, 210),
+        300..=302 => outcome(300).map(Answer::Heard),
+        400..=402 => outcome(400).map(Answer::Again),
         _ => {
             let number = u8::try_from(code).ok()?;
             return Refusal::from_number(number).map(Err);

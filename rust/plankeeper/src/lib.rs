@@ -71,6 +71,15 @@
 //! [`records`] read them, [`Cluster::apply`] reads one and makes its call. The
 //! example `planner` plays a file of records and shows what each shard holds.
 //!
+//! # Linking
+//!
+//! The library is `target/staticlib/libengine.a` in the repository that this
+//! crate is part of; `rt staticlib engine` in the repository's root makes it.
+//! Elsewhere the environment variable `PLANKEEPER_LIB` names the folder that it
+//! stands in. It is linked into the program, which needs nothing else to run.
+//!
+//! # Panics
+//!
 //! No arguments make a function of this crate panic. It panics only if the
 //! library that is linked answers with a number that stands for nothing.
 

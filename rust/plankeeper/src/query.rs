@@ -88,7 +88,7 @@ impl Asked for Member<'_> {
 
 impl Asked for &ShardMemory {
     fn number(self) -> u8 {
-        ShardMemory::number(self).min(u8::MAX.into()) as u8
+        ShardMemory::number(self) as u8
     }
 
     fn held_count(self) -> usize {

@@ -37,6 +37,11 @@ impl Shard {
         Ledger::on(ShardMemory::new(number.into()))
     }
 
+    /// Its number.
+    pub fn number(&self) -> u8 {
+        self.memory().number() as u8
+    }
+
     /// The tokens held, 128 at most, in the order in which they stand in the
     /// memory.
     pub fn tokens(&self) -> impl ExactSizeIterator<Item = Token> + '_ {

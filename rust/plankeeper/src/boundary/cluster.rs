@@ -25,8 +25,9 @@ impl ClusterMemory {
     /// matter to the library what they were; tests show that.
     pub fn new_over(word: u32) -> Self {
         check_words(raw::plankeeper_words(), CLUSTER_WORDS);
-        let words = filled(word);
-        let mut memory = ClusterMemory { words };
+        let mut memory = ClusterMemory {
+            words: filled(word),
+        };
         memory.renew();
         memory
     }

@@ -18,7 +18,7 @@ pub struct ShardMemory {
 
 impl ShardMemory {
     /// The memory of an empty shard with this number. One above 7 is taken, but
-    /// every call on such a shard is refused.
+    /// every call on such a shard is refused; one above 255 stands for 255.
     pub fn new(number: u32) -> Self {
         Self::new_over(number, 0)
     }
@@ -27,13 +27,15 @@ impl ShardMemory {
     /// matter to the library what they were; tests show that.
     pub fn new_over(number: u32, word: u32) -> Self {
         check_words(raw::plankeeper_shard_words(), SHARD_WORDS);
-        let words = filled(word);
-        let mut memory = ShardMemory { number, words };
+        let mut memory = ShardMemory {
+            number: number.min(u8::MAX.into()),
+            words: filled(word),
+        };
         memory.renew();
         memory
     }
 
-    /// The number that it was made with.
+    /// The shard's number.
     pub fn number(&self) -> u32 {
         self.number
     }

@@ -53,8 +53,13 @@ fn words_after_new() {
         for shard in [shard(number), Shard::new(number)] {
             check_shard(shard.memory().words(), number.into(), &[], &[], &[]);
             assert_eq!(shard.total(), 0);
-            assert_eq!(shard.memory().number(), number.into());
+            assert_eq!(shard.number(), number);
         }
+    }
+    for (number, taken) in [(8, 8), (255, 255), (256, 255), (u32::MAX, 255)] {
+        let shard = Ledger::on(ShardMemory::new(number));
+        check_shard(shard.memory().words(), taken.into(), &[], &[], &[]);
+        assert_eq!(shard.number(), taken);
     }
     for mut cluster in [cluster(), Cluster::new(), Cluster::default()] {
         for renewed in [false, true] {

@@ -1,6 +1,7 @@
 //! What is fixed by hand: codes, words and sentences.
 
 mod answers;
+mod codec;
 mod memory;
 mod queries;
 mod sentences;
