@@ -141,17 +141,17 @@ impl<'a, M: Memory, R: Expected> Player<'a, M, R> {
 
     /// Compares what comes of the record's fields.
     pub fn call(&mut self, record: &Record) -> Played {
-        self.make(Call::from(record), record)
+        self.make(Words::from(record), record)
     }
 
     /// Compares what comes of the words, whether they fit their fields or not.
     pub fn call_words(&mut self, words: Words) -> Played {
-        self.make(Call::from(words), &Record::from(&words))
+        self.make(words, &Record::from(&words))
     }
 
-    fn make(&mut self, call: Call, record: &Record) -> Played {
-        let _case = self.case(&call);
-        let answer = engine::answer(play(self.engine, &call));
+    fn make(&mut self, words: Words, record: &Record) -> Played {
+        let _case = self.case(&words);
+        let answer = engine::answer(play(self.engine, &Call::from(words)));
         self.compare(answer, Ok(record))
     }
 

@@ -7,9 +7,6 @@ use crate::Rng;
 use crate::fields::{Field, encode};
 use crate::generate::{damage, damage_byte};
 
-/// Words of a vote.
-const VOTE_WORDS: usize = 38;
-
 /// What [`spoiled_bytes`] does.
 pub const BYTE_DAMAGES: [&str; 9] = [
     "a field damaged",
@@ -25,36 +22,37 @@ pub const BYTE_DAMAGES: [&str; 9] = [
 
 /// The record's bytes with some damage, and which.
 pub fn spoiled_bytes(rng: &mut Rng, record: &Record) -> (&'static str, Vec<u8>) {
-    let way = rng.below(BYTE_DAMAGES.len());
+    let way = rng.pick(&BYTE_DAMAGES);
     let mut bytes = encode(record);
     match way {
-        0 => {
+        "a field damaged" => {
             let mut record = *record;
             damage(rng, &mut record);
             bytes = encode(&record);
         }
-        1 => {
+        "bytes changed" => {
             for _ in 0..=rng.below(3) {
                 damage_byte(rng, &mut bytes);
             }
         }
-        2 => bytes.truncate(rng.below(bytes.len())),
-        3 => bytes[0] = rng.byte(),
-        4 => {
+        "cut" => bytes.truncate(rng.below(bytes.len())),
+        "another kind" => bytes[0] = rng.byte(),
+        "bytes inserted" => {
             let place = rng.below(bytes.len() + 1);
             let more = random_bytes(rng, 12);
             bytes.splice(place..place, more);
         }
-        5 => {
+        "bytes removed" => {
             let from = rng.below(bytes.len());
             let to = bytes.len().min(from + 1 + rng.below(12));
             bytes.drain(from..to);
         }
-        6 => bytes = random_bytes(rng, VOTE_LENGTH + 10),
-        7 => rng.fill(&mut bytes[1..]),
-        _ => bytes.extend(random_bytes(rng, VOTE_LENGTH)),
+        "random bytes" => bytes = random_bytes(rng, VOTE_LENGTH + 10),
+        "a random body" => rng.fill(&mut bytes[1..]),
+        "bytes behind" => bytes.extend(random_bytes(rng, VOTE_LENGTH)),
+        _ => unreachable!("each damage is above"),
     }
-    (BYTE_DAMAGES[way], bytes)
+    (way, bytes)
 }
 
 /// Up to so many bytes, and no fewer than one.
@@ -80,50 +78,62 @@ pub const WORD_DAMAGES: [&str; 9] = [
 /// The call's words with some damage, and which; and whether a word is too wide
 /// for its field.
 pub fn spoiled_words(rng: &mut Rng, record: &Record) -> (&'static str, Words, bool) {
-    let way = rng.below(WORD_DAMAGES.len());
+    let way = rng.pick(&WORD_DAMAGES);
     let mut record = *record;
-    if way == 0 {
+    if way == "a field damaged" {
         damage(rng, &mut record);
     }
     let mut words = Words::from(&record);
     let mut all = words.each();
     match way {
-        0 => {}
-        // The receiver, or a vote's sender.
-        1 => {
-            let place = rng.below(if all.len() == VOTE_WORDS { 2 } else { 1 });
-            *all[place].0 = rng.below(8) as u32;
+        "a field damaged" => {}
+        "another shard" => {
+            // The receiver, or a vote's sender behind it.
+            let shards = if let Record::Vote { .. } = record {
+                2
+            } else {
+                1
+            };
+            *all[rng.below(shards)].0 = rng.below(8) as u32;
         }
-        2..=5 => spoil(rng, way, &mut all),
-        6 => widen_one(rng, &mut all),
-        7 => {
-            for _ in 0..2 + rng.below(3) {
-                widen_one(rng, &mut all);
-            }
-        }
-        _ => {
+        "a wide word" => widen_one(rng, &mut all),
+        "wide words" => several(rng, |rng| widen_one(rng, &mut all)),
+        "a field at an edge" => spoil_one(rng, &mut all, edge),
+        "fields at edges" => several(rng, |rng| spoil_one(rng, &mut all, edge)),
+        "a random word" => spoil_one(rng, &mut all, |rng, _, _| random_word(rng)),
+        "a bit turned" => spoil_one(rng, &mut all, |rng, word, byte| {
+            word ^ 1 << rng.below(if byte { 8 } else { 32 })
+        }),
+        "all words random" => {
             for (word, _) in &mut all {
                 **word = random_word(rng);
             }
         }
+        _ => unreachable!("each damage is above"),
     }
     let wide = all.iter().any(|(word, byte)| *byte && **word > 255);
-    (WORD_DAMAGES[way], words, wide)
+    (way, words, wide)
 }
 
-/// Spoils a word or several, wherever they stand.
-fn spoil(rng: &mut Rng, way: usize, all: &mut [(&mut u32, bool)]) {
-    let times = if way == 3 { 2 + rng.below(3) } else { 1 };
-    for _ in 0..times {
-        let (word, byte) = &mut all[rng.below(all.len())];
-        **word = match way {
-            // An edge of the field's range, or of what a mistaken width would
-            // make of it.
-            2 | 3 => rng.pick(Field::at((*byte).into()).edges()),
-            4 => random_word(rng),
-            _ => **word ^ 1 << rng.below(if *byte { 8 } else { 32 }),
-        };
+fn several(rng: &mut Rng, mut spoil: impl FnMut(&mut Rng)) {
+    for _ in 0..2 + rng.below(3) {
+        spoil(rng);
     }
+}
+
+/// Changes a word, wherever it stands, to what `other` makes of it.
+fn spoil_one(
+    rng: &mut Rng,
+    all: &mut [(&mut u32, bool)],
+    other: impl Fn(&mut Rng, u32, bool) -> u32,
+) {
+    let (word, byte) = &mut all[rng.below(all.len())];
+    **word = other(rng, **word, *byte);
+}
+
+/// An edge of the field's range, or of what a mistaken width would make of it.
+fn edge(rng: &mut Rng, _: u32, byte: bool) -> u32 {
+    rng.pick(Field::at(byte.into()).edges())
 }
 
 /// Any word, often a small one.
