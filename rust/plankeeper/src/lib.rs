@@ -80,8 +80,9 @@
 //!
 //! # Panics
 //!
-//! No arguments make a function of this crate panic. It panics only if the
-//! library that is linked answers with a number that stands for nothing.
+//! No arguments make a function of this crate panic. It panics only if another
+//! library is linked than this crate was written for: one that asks for another
+//! number of words, or that answers with a number that stands for nothing.
 
 #![deny(unsafe_code)]
 #![warn(missing_docs)]
