@@ -22,11 +22,7 @@ fn planners() -> &'static [Planner] {
     PLANNERS.get_or_init(|| {
         let in_c = scratch(TESTS, "planner");
         link(Language::C, &root().join("examples/planner.c"), &in_c);
-        let mut planners = vec![("in C", in_c)];
-        if root().join("rust/plankeeper").is_dir() {
-            planners.push(("in Rust", rust_example(TESTS, "planner")));
-        }
-        planners
+        vec![("in C", in_c), ("in Rust", rust_example(TESTS, "planner"))]
     })
 }
 

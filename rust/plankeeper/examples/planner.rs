@@ -13,8 +13,10 @@ use std::process::ExitCode;
 use plankeeper::{Cluster, Known, Token, Verdict, records};
 
 const USAGE: &str = "usage: planner [FILE]
-Plays the records in FILE, or those of standard input, on a fresh round of
-eight pantries, and prints each answer and the pantries at the end.";
+
+Plays a week's records, from FILE or from standard input where none is named,
+and prints each answer, what each pantry then holds and knows, and the total.
+Exit status: 0; 1 if something cannot be read or written; 2 bad usage.";
 
 fn main() -> ExitCode {
     let arguments: Vec<OsString> = env::args_os().skip(1).collect();
@@ -24,7 +26,9 @@ fn main() -> ExitCode {
             println!("{USAGE}");
             return ExitCode::SUCCESS;
         }
-        [file] => fs::read(file).map_err(|error| named(file, error)),
+        [file] if !file.as_encoded_bytes().starts_with(b"-") => {
+            fs::read(file).map_err(|error| named(file, error))
+        }
         _ => {
             eprintln!("{USAGE}");
             return ExitCode::from(2);

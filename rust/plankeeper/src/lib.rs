@@ -111,3 +111,8 @@ pub use record::Record;
 pub use refusal::Refusal;
 pub use shard::Shard;
 pub use transaction::{Input, Output, TokenId, Transaction};
+
+/// The program in Rust that the repository's README shows is a test.
+#[cfg(doctest)]
+#[doc = include_str!("../../../README.md")]
+struct Readme;
