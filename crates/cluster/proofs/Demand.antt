@@ -7,14 +7,13 @@
 -- that a contract that said less would break this proof.
 use Prim.Native.Nat.{ℕ}
 use mathlib.Core.List.{List}
-use base.Fml.{GName}
 use contract.Lifetimes.{Lfts}
-use denote.Ref.{RefT}
 use Rattle.model.specs.declared.Answer.{Answer}
 use Rattle.model.specs.Steps.{house}
 use Rattle.model.specs.Shard.{Call, mint, register, deliver}
 use Rattle.model.proofs.Bridge.{Engine, Run, RunDemand, run-demand-3}
 use Rattle.cluster.specs.View.{view, Sound, Fresh, Steps}
+use Rattle.cluster.proofs.References.{Place, refers}
 use Rattle.cluster.proofs.new.Reads as new
 use Rattle.cluster.proofs.mint_token.Reads as mint-token
 use Rattle.cluster.proofs.register_transaction.Reads as register-transaction
@@ -24,33 +23,29 @@ use Rattle.cluster.proofs.deliver_vote.Reads as deliver-vote
 abbrev pub Cluster : Type 0
 Cluster = List (List ℕ)
 
--- how a cluster is lent: for which lifetime, where it stands and under which name is nothing that a contract speaks of
+-- how a cluster is lent: for which lifetime is nothing that a contract speaks of either
 pub record Lent : Type 0 where
   pub lifetimes : Lfts 1
-  pub ptr : ℕ × ℕ
-  pub name : GName
-
--- a reference to a cluster
-abbrev pub refers : Lent → Cluster → RefT Cluster
-refers at c = record { ptr = at .ptr; name = at .name; now = c }
+  pub place : Place
 
 -- `new`, lent any words, may have left this cluster
 pub record Starts (c : Cluster) : Type 0 where
   pub at : Lent
   pub before : Cluster
-  pub kept : new.Asked (at .lifetimes) (refers at before, tt) → new.Learnt (at .lifetimes) (refers at before, tt) tt (refers at c, tt)
+  pub kept : new.Asked (at .lifetimes) (refers (at .place) before, tt)
+      → new.Learnt (at .lifetimes) (refers (at .place) before, tt) tt (refers (at .place) c, tt)
 
 -- the function of the call, lent this cluster and handed the call's arguments, may have left that cluster and returned that answer
 abbrev pub Leaves : Lent → Cluster → Call → Cluster → Answer → Type 0
 Leaves at c (mint p i o a) c′ answer =
-    mint-token.Asked (at .lifetimes) (refers at c, (p, (i, (o, (a, tt)))))
-    → mint-token.Learnt (at .lifetimes) (refers at c, (p, (i, (o, (a, tt))))) answer (refers at c′, (p, (i, (o, (a, tt)))))
+    mint-token.Asked (at .lifetimes) (refers (at .place) c, (p, (i, (o, (a, tt)))))
+    → mint-token.Learnt (at .lifetimes) (refers (at .place) c, (p, (i, (o, (a, tt))))) answer (refers (at .place) c′, (p, (i, (o, (a, tt)))))
 Leaves at c (register p t) c′ answer =
-    register-transaction.Asked (at .lifetimes) (refers at c, (p, (t, tt)))
-    → register-transaction.Learnt (at .lifetimes) (refers at c, (p, (t, tt))) answer (refers at c′, (p, (t, tt)))
+    register-transaction.Asked (at .lifetimes) (refers (at .place) c, (p, (t, tt)))
+    → register-transaction.Learnt (at .lifetimes) (refers (at .place) c, (p, (t, tt))) answer (refers (at .place) c′, (p, (t, tt)))
 Leaves at c (deliver p q v t) c′ answer =
-    deliver-vote.Asked (at .lifetimes) (refers at c, (p, (q, (v, (t, tt)))))
-    → deliver-vote.Learnt (at .lifetimes) (refers at c, (p, (q, (v, (t, tt))))) answer (refers at c′, (p, (q, (v, (t, tt)))))
+    deliver-vote.Asked (at .lifetimes) (refers (at .place) c, (p, (q, (v, (t, tt)))))
+    → deliver-vote.Learnt (at .lifetimes) (refers (at .place) c, (p, (q, (v, (t, tt))))) answer (refers (at .place) c′, (p, (q, (v, (t, tt)))))
 
 pub record Returns (c : Cluster) (call : Call) (c′ : Cluster) (answer : Answer) : Type 0 where
   pub at : Lent

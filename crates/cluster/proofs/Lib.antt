@@ -1,3 +1,4 @@
 pub mod Shards
 pub mod Asked
+pub mod References
 pub mod Demand

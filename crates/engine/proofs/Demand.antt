@@ -7,9 +7,7 @@ use Prim.Native.Nat.{ℕ}
 use mathlib.Core.Path.{_≡_, refl, sym, subst}
 use mathlib.Core.Logic.{_≢_}
 use mathlib.Core.List.{List, [], _∷_}
-use base.Fml.{GName}
 use contract.Lifetimes.{Lfts}
-use denote.Ref.{RefT}
 use Rattle.transaction.specs.declared.Transaction.{Transaction}
 use Rattle.reader.specs.declared.Answer as reader
 use Rattle.reader.specs.declared.Answer.the-variants as reader-answer
@@ -24,6 +22,8 @@ use Rattle.model.specs.Demand.{outcomeIn}
 use Rattle.model.proofs.Bridge as bridge
 use Rattle.model.proofs.Bridge.{reference, RunDemand, run-demand-3}
 use Rattle.cluster.specs.View.{view, Sound, Fresh}
+use Rattle.cluster.proofs.References.{Place, refers}
+use Rattle.cluster.proofs.Demand.{Cluster}
 use Rattle.engine.specs.Codes.{answerCode}
 use Rattle.engine.specs.Calls.{clusterCalled, appliedAs, applied, ClusterDoes}
 use Rattle.engine.specs.Asks.{Ask, mints, registers, delivers, applies, Meant, refusal, asked, recordMeans, means, meantBy, callsOf, codesOf}
@@ -33,23 +33,12 @@ use Rattle.engine.proofs.clusters.plankeeper_register.Reads as of-regis
 use Rattle.engine.proofs.clusters.plankeeper_deliver.Reads as of-deliver
 use Rattle.engine.proofs.clusters.plankeeper_apply.Reads as of-apply
 
--- a cluster's words
-abbrev pub Cluster : Type 0
-Cluster = List (List ℕ)
-
--- where memory stands and under which name is nothing that a contract speaks of, nor for which lifetime it is lent
-pub record Place : Type 0 where
-  pub ptr : ℕ × ℕ
-  pub name : GName
-
+-- how memory is lent: a cluster alone, or beside it what is read from
 pub record Lent : Type 0 where
   pub alone : Lfts 1
   pub both : Lfts 2
   pub to : Place
   pub from : Place
-
-abbrev pub refers : {A : Type 0} → Place → A → RefT A
-refers at value = record { ptr = at .ptr; name = at .name; now = value }
 
 -- `plankeeper_new`, lent any words, may have left this cluster
 pub record Starts (c : Cluster) : Type 0 where

@@ -23,12 +23,13 @@ use Rattle.model.proofs.Basics.{clash}
 use Rattle.cluster.specs.View.{view, Sound}
 use Rattle.cluster.specs.Queries.{totalHeld}
 use Rattle.cluster.proofs.Demand.{Cluster, Starts, started}
+use Rattle.cluster.proofs.References.{Place, refers}
 use Rattle.listing.specs.declared.Progress.{Progress}
 use Rattle.listing.specs.Lines.{totalLine}
 use Rattle.listing.specs.Listing.{Shown, shownAs, stepOf, listingWithin, listingOf}
 use Rattle.listing.specs.Buffers.{Standing, further, goesOn, runWithin, start, runOf, ListsAll}
 use Rattle.listing.proofs.Left.{fewer, nothing-left, reading-ends, reading-on}
-use Rattle.listing.proofs.Whole.{Place, refers, Totalled, shown, joined}
+use Rattle.listing.proofs.Whole.{Totalled, shown, joined}
 use Rattle.listing.proofs.Running.{Goes, told}
 use Rattle.listing.proofs.Ahead.{same-step, same-rest}
 use Rattle.listing.proofs.list_records.Reads as of-records

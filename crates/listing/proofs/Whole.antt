@@ -12,14 +12,13 @@ use mathlib.Core.Bool.{Bool, true, false}
 use mathlib.Core.List.{List, _++_, append-assoc}
 use lib.ListN.{length, take, drop}
 use lib.Seq.{sets, sets-eq, take-at, drop-at, length-take-le}
-use base.Fml.{GName}
 use contract.Lifetimes.{Lfts}
-use denote.Ref.{RefT}
 use Rattle.reader.specs.Reading.{restOf}
 use Rattle.model.specs.Steps.{Ledger}
 use Rattle.cluster.specs.View.{view, Sound}
 use Rattle.cluster.specs.Queries.{totalHeld}
 use Rattle.cluster.proofs.Demand.{Cluster, Starts, started}
+use Rattle.cluster.proofs.References.{Place, refers}
 use Rattle.listing.specs.declared.Listed.{Listed}
 use Rattle.listing.specs.Lines.{totalLine}
 use Rattle.listing.specs.Parts.{Puts, Shows}
@@ -27,14 +26,6 @@ use Rattle.listing.specs.Listing.{listingWithin, listingOf}
 use Rattle.listing.proofs.Left.{fewer, behind, nothing-left, reading-ends, reading-on}
 use Rattle.listing.proofs.step.Reads as of-step
 use Rattle.listing.proofs.total.Reads as of-total
-
--- where a reference points, and its name; no contract speaks of either
-pub record Place : Type 0 where
-  pub ptr : ℕ × ℕ
-  pub name : GName
-
-abbrev pub refers : {A : Type 0} → Place → A → RefT A
-refers to value = record { ptr = to .ptr; name = to .name; now = value }
 
 -- `step`, handed references to a cluster, to the bytes left and to lent bytes with a place in them that has room for a line, may have returned r and left
 -- the cluster and the lent bytes as they are after

@@ -10,10 +10,8 @@ use Rattle.cluster.proofs.queries.amount_at.Tie as tie
 returns : tie.Need-returns
 unfolding heldIn totalAmount
 returns c =
-    let args = c .before .args in
-    let pre = c .before .pre in
-    let if1 = c .if1 in
-    rw (ledger-none (now (args .c)) pre (args .number) (if1 .taken)) refl
+    let entry = c .before in
+    rw (ledger-none (now (entry .args .c)) (entry .pre) (entry .args .number) (c .if1 .taken)) refl
 
 mul-total-amount : tie.Need-mul-total-amount
 mul-total-amount c = search needs
@@ -23,17 +21,14 @@ index-1-total-amount c = search needs
 
 total-amount-requires : tie.Need-total-amount-requires
 total-amount-requires c κs =
-    let pre = c .before .before .pre in
-    let args = c .before .before .args in
-    pre .each (args .number) (search needs) .sound
+    let entry = c .before .before in
+    entry .pre .each (entry .args .number) (search needs) .sound
 
 returns-2 : tie.Need-returns-2
 unfolding heldIn
 returns-2 c =
-    let args = c .before .before .before .args in
-    let pre = c .before .before .before .pre in
-    let total-amount = c .total-amount in
-    rw (← ledger-there (now (args .c)) pre (args .number) (search needs)) (total-amount .ensures .0)
+    let entry = c .before .before .before in
+    rw (← ledger-there (now (entry .args .c)) (entry .pre) (entry .args .number) (search needs)) (c .total-amount .ensures .0)
 
 pub amount-at-spec : {M : Type 1} → statement M
 amount-at-spec =

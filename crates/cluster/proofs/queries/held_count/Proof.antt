@@ -7,10 +7,8 @@ use Rattle.cluster.proofs.queries.held_count.Tie as tie
 
 returns : tie.Need-returns
 returns c =
-    let args = c .before .args in
-    let pre = c .before .pre in
-    let if1 = c .if1 in
-    rw (ledger-none (now (args .c)) pre (args .number) (if1 .taken)) refl
+    let entry = c .before in
+    rw (ledger-none (now (entry .args .c)) (entry .pre) (entry .args .number) (c .if1 .taken)) refl
 
 mul-held-count : tie.Need-mul-held-count
 mul-held-count c = search needs
@@ -20,16 +18,13 @@ index-1-held-count c = search needs
 
 held-count-requires : tie.Need-held-count-requires
 held-count-requires c κs =
-    let pre = c .before .before .pre in
-    let args = c .before .before .args in
-    pre .each (args .number) (search needs) .sound
+    let entry = c .before .before in
+    entry .pre .each (entry .args .number) (search needs) .sound
 
 returns-2 : tie.Need-returns-2
 returns-2 c =
-    let args = c .before .before .before .args in
-    let pre = c .before .before .before .pre in
-    let held-count = c .held-count in
-    rw (← ledger-there (now (args .c)) pre (args .number) (search needs)) (held-count .ensures)
+    let entry = c .before .before .before in
+    rw (← ledger-there (now (entry .args .c)) (entry .pre) (entry .args .number) (search needs)) (c .held-count .ensures)
 
 pub held-count-spec : {M : Type 1} → statement M
 held-count-spec =

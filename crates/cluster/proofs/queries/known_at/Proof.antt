@@ -10,11 +10,9 @@ blank-known-requires c κs = search needs
 
 returns : tie.Need-returns
 returns c =
-    let args = c .before .before .args in
-    let pre = c .before .before .pre in
+    let entry = c .before .before in
     let if1 = c .before .if1 in
-    let blank-known = c .blank-known in
-    rw (ledger-none (now (args .c)) pre (args .number) (if1 .taken)) (blank-known .ensures)
+    rw (ledger-none (now (entry .args .c)) (entry .pre) (entry .args .number) (if1 .taken)) (c .blank-known .ensures)
 
 mul-known-at : tie.Need-mul-known-at
 mul-known-at c = search needs
@@ -24,16 +22,13 @@ index-1-known-at c = search needs
 
 known-at-requires : tie.Need-known-at-requires
 known-at-requires c κs =
-    let pre = c .before .before .pre in
-    let args = c .before .before .args in
-    pre .each (args .number) (search needs) .sound
+    let entry = c .before .before in
+    entry .pre .each (entry .args .number) (search needs) .sound
 
 returns-2 : tie.Need-returns-2
 returns-2 c =
-    let args = c .before .before .before .args in
-    let pre = c .before .before .before .pre in
-    let known-at = c .known-at in
-    rw (← ledger-there (now (args .c)) pre (args .number) (search needs)) (known-at .ensures)
+    let entry = c .before .before .before in
+    rw (← ledger-there (now (entry .args .c)) (entry .pre) (entry .args .number) (search needs)) (c .known-at .ensures)
 
 pub known-at-spec : {M : Type 1} → statement M
 known-at-spec =

@@ -7,10 +7,8 @@ use Rattle.cluster.proofs.queries.known_count.Tie as tie
 
 returns : tie.Need-returns
 returns c =
-    let args = c .before .args in
-    let pre = c .before .pre in
-    let if1 = c .if1 in
-    rw (ledger-none (now (args .c)) pre (args .number) (if1 .taken)) refl
+    let entry = c .before in
+    rw (ledger-none (now (entry .args .c)) (entry .pre) (entry .args .number) (c .if1 .taken)) refl
 
 mul-known-count : tie.Need-mul-known-count
 mul-known-count c = search needs
@@ -20,16 +18,13 @@ index-1-known-count c = search needs
 
 known-count-requires : tie.Need-known-count-requires
 known-count-requires c κs =
-    let pre = c .before .before .pre in
-    let args = c .before .before .args in
-    pre .each (args .number) (search needs) .sound
+    let entry = c .before .before in
+    entry .pre .each (entry .args .number) (search needs) .sound
 
 returns-2 : tie.Need-returns-2
 returns-2 c =
-    let args = c .before .before .before .args in
-    let pre = c .before .before .before .pre in
-    let known-count = c .known-count in
-    rw (← ledger-there (now (args .c)) pre (args .number) (search needs)) (known-count .ensures)
+    let entry = c .before .before .before in
+    rw (← ledger-there (now (entry .args .c)) (entry .pre) (entry .args .number) (search needs)) (c .known-count .ensures)
 
 pub known-count-spec : {M : Type 1} → statement M
 known-count-spec =

@@ -9,10 +9,8 @@ use Rattle.cluster.proofs.queries.outcome_of.Tie as tie
 returns : tie.Need-returns
 unfolding outcomeOfNumber outcomeAt
 returns c =
-    let args = c .before .args in
-    let pre = c .before .pre in
-    let if1 = c .if1 in
-    rw (ledger-none (now (args .c)) pre (args .number) (if1 .taken)) refl
+    let entry = c .before in
+    rw (ledger-none (now (entry .args .c)) (entry .pre) (entry .args .number) (c .if1 .taken)) refl
 
 mul-outcome-of : tie.Need-mul-outcome-of
 mul-outcome-of c = search needs
@@ -22,16 +20,13 @@ index-1-outcome-of c = search needs
 
 outcome-of-requires : tie.Need-outcome-of-requires
 outcome-of-requires c κs =
-    let pre = c .before .before .pre in
-    let args = c .before .before .args in
-    pre .each (args .number) (search needs) .sound
+    let entry = c .before .before in
+    entry .pre .each (entry .args .number) (search needs) .sound
 
 returns-2 : tie.Need-returns-2
 returns-2 c =
-    let args = c .before .before .before .args in
-    let pre = c .before .before .before .pre in
-    let outcome-of = c .outcome-of in
-    rw (← ledger-there (now (args .c)) pre (args .number) (search needs)) (outcome-of .ensures)
+    let entry = c .before .before .before in
+    rw (← ledger-there (now (entry .args .c)) (entry .pre) (entry .args .number) (search needs)) (c .outcome-of .ensures)
 
 pub outcome-of-spec : {M : Type 1} → statement M
 outcome-of-spec =

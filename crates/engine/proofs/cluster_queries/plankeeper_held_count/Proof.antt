@@ -11,8 +11,7 @@ held-count-requires c κs = search needs
 returns : tie.Need-returns
 returns c =
     let narrow = c .before .narrow in
-    let held-count = c .held-count in
-    rw (← narrow .ensures) (held-count .ensures)
+    rw (← narrow .ensures) (c .held-count .ensures)
 
 pub plankeeper-held-count-spec : {M : Type 1} → statement M
 plankeeper-held-count-spec = tie.close (tie.spec narrow-requires held-count-requires returns)

@@ -23,9 +23,8 @@ returns c =
     let narrow = c .before .before .before .before .narrow in
     let known-at = c .before .before .before .known-at in
     let outcome-at = c .before .outcome-at in
-    let known-code = c .known-code in
     let known-words = c .before .before .known-words in
-    rw (← narrow .ensures) (tells-known (known-at .ensures) (outcome-at .ensures) (known-code .ensures) (known-words .ensures))
+    rw (← narrow .ensures) (tells-known (known-at .ensures) (outcome-at .ensures) (c .known-code .ensures) (known-words .ensures))
 
 pub plankeeper-known-at-spec : {M : Type 1} → statement M
 plankeeper-known-at-spec =

@@ -11,8 +11,7 @@ known-count-requires c κs = search needs
 returns : tie.Need-returns
 returns c =
     let narrow = c .before .narrow in
-    let known-count = c .known-count in
-    rw (← narrow .ensures) (known-count .ensures)
+    rw (← narrow .ensures) (c .known-count .ensures)
 
 pub plankeeper-known-count-spec : {M : Type 1} → statement M
 plankeeper-known-count-spec = tie.close (tie.spec narrow-requires known-count-requires returns)

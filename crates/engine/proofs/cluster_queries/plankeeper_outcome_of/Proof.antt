@@ -16,9 +16,8 @@ known-code-requires c κs = search needs
 returns : tie.Need-returns
 returns c =
     let narrow = c .before .before .narrow in
-    let known-code = c .known-code in
     let outcome-of = c .before .outcome-of in
-    rw (← narrow .ensures) (known-code .ensures ∙ ap knownCode (outcome-of .ensures))
+    rw (← narrow .ensures) (c .known-code .ensures ∙ ap knownCode (outcome-of .ensures))
 
 pub plankeeper-outcome-of-spec : {M : Type 1} → statement M
 plankeeper-outcome-of-spec =

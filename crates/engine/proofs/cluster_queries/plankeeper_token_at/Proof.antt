@@ -19,9 +19,8 @@ returns : tie.Need-returns
 returns c =
     let narrow = c .before .before .before .narrow in
     let token-at = c .before .before .token-at in
-    let held-code = c .held-code in
     let token-words = c .before .token-words in
-    rw (← narrow .ensures) (tells-token (token-at .ensures) (held-code .ensures) (token-words .ensures))
+    rw (← narrow .ensures) (tells-token (token-at .ensures) (c .held-code .ensures) (token-words .ensures))
 
 pub plankeeper-token-at-spec : {M : Type 1} → statement M
 plankeeper-token-at-spec =

@@ -11,8 +11,7 @@ amount-at-requires c κs = search needs
 returns : tie.Need-returns
 returns c =
     let narrow = c .before .narrow in
-    let amount-at = c .amount-at in
-    rw (← narrow .ensures) (amount-at .ensures)
+    rw (← narrow .ensures) (c .amount-at .ensures)
 
 pub plankeeper-total-at-spec : {M : Type 1} → statement M
 plankeeper-total-at-spec = tie.close (tie.spec narrow-requires amount-at-requires returns)

@@ -13,14 +13,12 @@ enum-told-2 c = search needs
 returns : tie.Need-returns
 unfolding heldCode
 returns c =
-    let enum-told = c .enum-told in
-    rw (enum-told .given .1) refl
+    rw (c .enum-told .given .1) refl
 
 returns-2 : tie.Need-returns-2
 unfolding heldCode
 returns-2 c =
-    let enum-told2 = c .enum-told2 in
-    rw (enum-told2 .given .1) refl
+    rw (c .enum-told2 .given .1) refl
 
 pub held-code-spec : {M : Type 1} → statement M
 held-code-spec = tie.close (tie.spec enum-told enum-told-2 returns returns-2)

@@ -17,14 +17,12 @@ returns : tie.Need-returns
 unfolding knownCode
 returns c =
     let outcome = c .before .before .outcome in
-    let outcome-code = c .outcome-code in
-    rw (outcome .given .1) (outcome-code .ensures .0)
+    rw (outcome .given .1) (c .outcome-code .ensures .0)
 
 returns-2 : tie.Need-returns-2
 unfolding knownCode
 returns-2 c =
-    let enum-told = c .enum-told in
-    rw (enum-told .given .1) refl
+    rw (c .enum-told .given .1) refl
 
 pub known-code-spec : {M : Type 1} → statement M
 known-code-spec =

@@ -13,8 +13,7 @@ returns : tie.Need-returns
 unfolding knownWords
 returns c =
     let words-of = c .before .words-of in
-    let with-heard = c .with-heard in
-    rw (← words-of .ensures) (with-heard .ensures)
+    rw (← words-of .ensures) (c .with-heard .ensures)
 
 pub known-words-spec : {M : Type 1} → statement M
 known-words-spec = tie.close (tie.spec words-of-requires with-heard-requires returns)

@@ -17,14 +17,12 @@ returns : tie.Need-returns
 unfolding tokenWords
 returns c =
     let token = c .before .before .token in
-    let wide = c .wide in
-    rw (token .given .1, wide .ensures .0) refl
+    rw (token .given .1, c .wide .ensures .0) refl
 
 returns-2 : tie.Need-returns-2
 unfolding tokenWords
 returns-2 c =
-    let enum-told = c .enum-told in
-    rw (enum-told .given .1) refl
+    rw (c .enum-told .given .1) refl
 
 pub token-words-spec : {M : Type 1} → statement M
 token-words-spec = tie.close (tie.spec enum-known-token wide-requires enum-told returns returns-2)

@@ -35,8 +35,7 @@ loop-less c = search needs
 loop-again : tie.Need-loop-again Inv-loop μ-loop
 loop-again c =
     let loop = c .before .before .loop in
-    let if1 = c .if1 in
-    from-first _ _ 35 8 _ _ (loop .inv) (if1 .taken)
+    from-first _ _ 35 8 _ _ (loop .inv) (c .if1 .taken)
 
 array-read-wide : tie.Need-array-read-wide Inv-loop μ-loop
 array-read-wide c = search needs
@@ -55,17 +54,15 @@ loop-less-2 c = search needs
 
 loop-again-2 : tie.Need-loop-again-2 Inv-loop μ-loop
 loop-again-2 c =
-    let wide = c .wide in
     let loop = c .before .before .before .loop in
     let if1 = c .before .if1 in
     let loop-test = c .before .before .loop-test in
-    rw (wide .ensures .0) (from-second _ _ 35 8 _ _ (loop .inv) (if1 .left) (loop-test .taken))
+    rw (c .wide .ensures .0) (from-second _ _ 35 8 _ _ (loop .inv) (if1 .left) (loop-test .taken))
 
 returns : tie.Need-returns Inv-loop μ-loop
 returns c =
     let loop = c .before .loop in
-    let loop-test = c .loop-test in
-    joins _ _ 35 8 _ _ (loop .inv) (loop-test .left)
+    joins _ _ 35 8 _ _ (loop .inv) (c .loop-test .left)
 
 pub with-heard-spec : {M : Type 1} → statement M
 with-heard-spec =

@@ -19,9 +19,8 @@ returns : tie.Need-returns
 returns c =
     let known-at = c .before .before .before .known-at in
     let outcome-at = c .before .outcome-at in
-    let known-code = c .known-code in
     let known-words = c .before .before .known-words in
-    tells-known (known-at .ensures) (outcome-at .ensures) (known-code .ensures) (known-words .ensures)
+    tells-known (known-at .ensures) (outcome-at .ensures) (c .known-code .ensures) (known-words .ensures)
 
 pub plankeeper-shard-known-at-spec : {M : Type 1} → statement M
 plankeeper-shard-known-at-spec =

@@ -12,9 +12,8 @@ known-code-requires c κs = search needs
 
 returns : tie.Need-returns
 returns c =
-    let known-code = c .known-code in
     let outcome-of = c .before .outcome-of in
-    known-code .ensures ∙ ap knownCode (outcome-of .ensures)
+    c .known-code .ensures ∙ ap knownCode (outcome-of .ensures)
 
 pub plankeeper-shard-outcome-of-spec : {M : Type 1} → statement M
 plankeeper-shard-outcome-of-spec =

@@ -15,9 +15,8 @@ held-code-requires c κs = search needs
 returns : tie.Need-returns
 returns c =
     let token-at = c .before .before .token-at in
-    let held-code = c .held-code in
     let token-words = c .before .token-words in
-    tells-token (token-at .ensures) (held-code .ensures) (token-words .ensures)
+    tells-token (token-at .ensures) (c .held-code .ensures) (token-words .ensures)
 
 pub plankeeper-shard-token-at-spec : {M : Type 1} → statement M
 plankeeper-shard-token-at-spec =

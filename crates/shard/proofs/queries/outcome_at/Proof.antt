@@ -12,20 +12,16 @@ outcome-at-requires c κs = search needs
 
 returns : tie.Need-returns
 returns c =
-    let args = c .before .before .before .args in
-    let pre = c .before .before .before .pre in
+    let entry = c .before .before .before in
     let known-count = c .before .before .known-count in
     let if1 = c .before .if1 in
-    let outcome-at = c .outcome-at in
-    outcome-within (now (args .s)) pre (args .place) (known-count .ensures) (if1 .taken) (outcome-at .ensures)
+    outcome-within (now (entry .args .s)) (entry .pre) (entry .args .place) (known-count .ensures) (if1 .taken) (c .outcome-at .ensures)
 
 returns-2 : tie.Need-returns-2
 returns-2 c =
-    let args = c .before .before .args in
-    let pre = c .before .before .pre in
+    let entry = c .before .before in
     let known-count = c .before .known-count in
-    let if1 = c .if1 in
-    outcome-behind (now (args .s)) pre (args .place) (known-count .ensures) (if1 .left)
+    outcome-behind (now (entry .args .s)) (entry .pre) (entry .args .place) (known-count .ensures) (c .if1 .left)
 
 pub outcome-at-spec : {M : Type 1} → statement M
 outcome-at-spec = tie.close (tie.spec known-count-requires outcome-at-requires returns returns-2)
