@@ -7,7 +7,7 @@ use std::path::{Path, PathBuf};
 use std::process::{Command, Output, Stdio};
 use std::sync::OnceLock;
 
-use clients::{CAUSES, Language, link, planner_text, run, rust_example, scratch, well};
+use clients::{Language, link, planner_text, run, rust_example, scratch, well};
 use program::{assert_same, input, root, weeks, write_parts};
 use reference::listing;
 
@@ -87,20 +87,6 @@ fn random_and_damaged_inputs() {
         let expected = planner_text(&bytes, &listing);
         check(&bytes, None, &expected, &format!("input {case}"));
     }
-}
-
-/// Not every refusal can come of a record, so the sentences are looked up.
-#[test]
-fn every_sentence_in_c() {
-    let source = fs::read_to_string(root().join("examples/planner.c")).expect("it can be read");
-    let (_, rest) = source.split_once("CAUSES[] = {\n").expect("it has them");
-    let (sentences, _) = rest.split_once("\n};").expect("they end");
-    let sentences: Vec<&str> = sentences
-        .lines()
-        .map(|line| line.trim().trim_matches([',', '"']))
-        .collect();
-    assert_eq!(sentences[0], "", "there is no refusal 0");
-    assert_eq!(sentences[1..], CAUSES);
 }
 
 /// A text by hand: a pledge, a refusal of the cluster, one of the reader, and

@@ -1,7 +1,8 @@
 //! Readings and writings in the reference's types.
 
 use plankeeper::boundary::{write_mint, write_register, write_vote};
-use reference::{Reading, Record, Refusal};
+use plankeeper::written_from_code;
+use reference::{MINT_LENGTH, REGISTER_LENGTH, Reading, Record, Refusal, VOTE_LENGTH};
 
 use crate::answers::{refusal, verdict};
 use crate::calls::{Call, Words};
@@ -53,38 +54,42 @@ fn record(record: plankeeper::Record) -> Record {
 pub fn write(record: &Record, buffer: &mut [u8]) -> Result<usize, Refusal> {
     match Call::from(record) {
         Call::Typed(record) => record.write(buffer).map_err(refusal),
-        Call::Words(words) => written(write_words(&words, buffer)),
+        Call::Words(words) => {
+            let (length, code) = write_words(&words, buffer);
+            let written = written_from_code(length, code);
+            let written = written.unwrap_or_else(|| panic!("the engine answered {code}"));
+            written.map_err(refusal)
+        }
     }
 }
 
-fn write_words(words: &Words, buffer: &mut [u8]) -> u64 {
+/// The length of such a record, and the writer's answer.
+fn write_words(words: &Words, buffer: &mut [u8]) -> (usize, u64) {
     match *words {
         Words::Mint {
             receiver,
             index,
             owner,
             amount,
-        } => write_mint(receiver, index, owner, amount, buffer),
+        } => (
+            MINT_LENGTH,
+            write_mint(receiver, index, owner, amount, buffer),
+        ),
         Words::Register {
             receiver,
             ref transaction,
-        } => write_register(receiver, transaction, buffer),
+        } => (
+            REGISTER_LENGTH,
+            write_register(receiver, transaction, buffer),
+        ),
         Words::Vote {
             receiver,
             sender,
             verdict,
             ref transaction,
-        } => write_vote(receiver, sender, verdict, transaction, buffer),
+        } => (
+            VOTE_LENGTH,
+            write_vote(receiver, sender, verdict, transaction, buffer),
+        ),
     }
-}
-
-/// A writer's answer: the bytes written, or 1000 times a refusal's number.
-pub(crate) fn written(answer: u64) -> Result<usize, Refusal> {
-    if let length @ (11 | 100 | 102) = answer {
-        return Ok(length as usize);
-    }
-    let number = u8::try_from(answer / 1000).ok();
-    let number = number.filter(|_| answer.is_multiple_of(1000));
-    let refusal = number.and_then(Refusal::from_number);
-    Err(refusal.unwrap_or_else(|| panic!("the engine answered {answer} for a record")))
 }

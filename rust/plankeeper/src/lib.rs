@@ -107,7 +107,7 @@ pub use cluster::Cluster;
 pub use ledger::Ledger;
 pub use query::{Known, Token};
 pub use reading::{Reading, Records, read, records};
-pub use record::Record;
+pub use record::{Record, written_from_code};
 pub use refusal::Refusal;
 pub use shard::Shard;
 pub use transaction::{Input, Output, TokenId, Transaction};

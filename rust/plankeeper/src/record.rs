@@ -77,7 +77,7 @@ impl Record {
     /// bytes behind it, and on a refusal (3, 4, 5 or 15) all bytes, keep their
     /// values.
     pub fn write(&self, buffer: &mut [u8]) -> Result<usize, Refusal> {
-        let answer = match *self {
+        let code = match *self {
             Record::Register {
                 receiver,
                 ref transaction,
@@ -104,7 +104,8 @@ impl Record {
                 amount,
             } => write_mint(receiver.into(), index.into(), owner, amount, buffer),
         };
-        written(self.length(), answer)
+        let written = written_from_code(self.length(), code);
+        written.unwrap_or_else(|| nameless("writing a record", code))
     }
 
     /// Its bytes. What the library would refuse to carry out for its fields is
@@ -116,13 +117,23 @@ impl Record {
     }
 }
 
-/// A writer's answer: the record's length, or 1000 times a refusal's number.
-pub(crate) fn written(length: usize, answer: u64) -> Result<usize, Refusal> {
-    if answer == length as u64 {
-        return Ok(length);
+/// What a writer's number at the [boundary](crate::boundary) stands for, of a
+/// record that has this length: the bytes written, or 1000 times a refusal's
+/// number. Nothing if it stands for neither.
+///
+/// ```
+/// use plankeeper::{Refusal, written_from_code};
+///
+/// assert_eq!(written_from_code(11, 11), Some(Ok(11)));
+/// assert_eq!(written_from_code(11, 3000), Some(Err(Refusal::OutOfRange)));
+/// assert_eq!(written_from_code(11, 12), None);
+/// ```
+pub fn written_from_code(length: usize, code: u64) -> Option<Result<usize, Refusal>> {
+    if code == length as u64 {
+        return Some(Ok(length));
     }
-    let number = u8::try_from(answer / 1000).ok();
-    let writers = |number: &u8| answer.is_multiple_of(1000) && matches!(number, 3..=5 | 15);
+    let number = u8::try_from(code / 1000).ok();
+    let writers = |number: &u8| code.is_multiple_of(1000) && matches!(number, 3..=5 | 15);
     let refusal = number.filter(writers).and_then(Refusal::from_number);
-    Err(refusal.unwrap_or_else(|| nameless("writing a record", answer)))
+    refusal.map(Err)
 }

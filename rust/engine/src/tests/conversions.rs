@@ -6,7 +6,6 @@ use plankeeper::answer_from_code;
 use reference::{Answer, Done, Outcome, Record, Refusal, Verdict};
 
 use super::widths::{transaction, wide_transactions};
-use crate::codec::written;
 use crate::places::TRANSACTION_WORDS;
 use crate::{Call, Words, answer, answer_code, from_words, to_words};
 
@@ -39,16 +38,6 @@ fn answers_are_told_apart() {
     for code in 1..=16 {
         let ours = answer_from_code(code).expect("the code of a refusal");
         assert_eq!(answer_code(answer(ours)), code);
-    }
-}
-
-#[test]
-fn writers_answers_are_told_apart() {
-    assert_eq!(written(102), Ok(102));
-    assert_eq!(written(3000), Err(Refusal::OutOfRange));
-    assert_eq!(written(15000), Err(Refusal::BufferTooShort));
-    for odd in [0, 101, 255, 1001, 2500, 15001, 17000, 259_000, u64::MAX] {
-        assert!(catch_unwind(|| written(odd)).is_err(), "{odd}");
     }
 }
 

@@ -7,10 +7,9 @@ use super::story::{Told, cluster_story, encode, shard_stories};
 use crate::answer::answered;
 use crate::boundary::{Memory, taken};
 use crate::reading::refused;
-use crate::record::written;
 use crate::{
     Answer, Cluster, Ledger, Outcome, Record, Refusal, Shard, Verdict, answer_code,
-    answer_from_code,
+    answer_from_code, written_from_code,
 };
 
 /// The call's code by its words.
@@ -191,10 +190,25 @@ fn readers_answers_are_told_apart() {
 
 #[test]
 fn writers_answers_are_told_apart() {
-    assert_eq!(written(102, 102), Ok(102));
-    assert_eq!(written(102, 3000), Err(Refusal::OutOfRange));
-    assert_eq!(written(11, 15000), Err(Refusal::BufferTooShort));
-    for odd in [0, 100, 255, 1001, 2500, 6000, 15001, 259_000, u64::MAX] {
-        assert!(catch_unwind(|| written(102, odd)).is_err(), "{odd}");
+    assert_eq!(written_from_code(102, 102), Some(Ok(102)));
+    assert_eq!(written_from_code(102, 3000), Some(Err(Refusal::OutOfRange)));
+    assert_eq!(
+        written_from_code(11, 15000),
+        Some(Err(Refusal::BufferTooShort))
+    );
+    for odd in [
+        0,
+        100,
+        101,
+        255,
+        1001,
+        2500,
+        6000,
+        15001,
+        17000,
+        259_000,
+        u64::MAX,
+    ] {
+        assert_eq!(written_from_code(102, odd), None, "{odd}");
     }
 }

@@ -1,10 +1,10 @@
-//! What is fixed by hand: codes, words and sentences.
+//! What is fixed by hand: codes and words.
 
 mod answers;
 mod codec;
 mod memory;
 mod queries;
-mod sentences;
+mod refusals;
 pub mod story;
 mod transactions;
 mod widths;

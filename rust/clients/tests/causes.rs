@@ -1,0 +1,45 @@
+//! The causes of refusal read the same wherever a planner meets them: not every
+//! one can come of a record, so they are looked up.
+
+use std::fs;
+
+use clients::{CAUSES, Header};
+use plankeeper::Refusal;
+use program::root;
+
+#[test]
+fn every_sentence_in_rust() {
+    let sentences = Refusal::ALL.map(|refusal| refusal.to_string());
+    assert_eq!(sentences, CAUSES);
+}
+
+/// The header's name of a cause is the crate's, in capitals.
+#[test]
+fn every_name_in_both() {
+    let header = fs::read_to_string(root().join("include/plankeeper.h")).expect("it can be read");
+    let numbers = Header::parse(&header).numbers;
+    for refusal in Refusal::ALL {
+        let mut name = "PLANKEEPER_REFUSED".to_owned();
+        for letter in format!("{refusal:?}").chars() {
+            if letter.is_uppercase() {
+                name.push('_');
+            }
+            name.push(letter.to_ascii_uppercase());
+        }
+        let number = u64::from(refusal.number());
+        assert_eq!(numbers.get(&name), Some(&number), "{name}");
+    }
+}
+
+#[test]
+fn every_sentence_in_c() {
+    let source = fs::read_to_string(root().join("examples/planner.c")).expect("it can be read");
+    let (_, rest) = source.split_once("CAUSES[] = {\n").expect("it has them");
+    let (sentences, _) = rest.split_once("\n};").expect("they end");
+    let sentences: Vec<&str> = sentences
+        .lines()
+        .map(|line| line.trim().trim_matches([',', '"']))
+        .collect();
+    assert_eq!(sentences[0], "", "there is no refusal 0");
+    assert_eq!(sentences[1..], CAUSES);
+}
