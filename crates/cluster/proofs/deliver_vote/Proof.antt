@@ -10,9 +10,11 @@ deliver-form-requires c κs = search needs
 
 returns : tie.Need-returns
 returns c =
-    let args = c .before .before .args in
-    let pre = c .before .before .pre in
-    let deliver-form = c .before .deliver-form in
+    let after-deliver-form : tie.After-deliver-form = search in
+    let entry : tie.Start = search in
+    let args = entry .args in
+    let pre = entry .pre in
+    let deliver-form = after-deliver-form .deliver-form in
     let if1 = c .if1 in
     form-refused (now (args .c)) pre (args .receiver) (args .sender) (args .verdict) (args .t) (deliver-form .ensures) (if1 .taken)
 
@@ -21,29 +23,38 @@ mul-has-given-vote c = search needs
 
 index-1-has-given-vote : tie.Need-index-1-has-given-vote
 index-1-has-given-vote c =
-    let args = c .before .before .args in
-    let pre = c .before .before .pre in
-    let deliver-form = c .before .deliver-form in
+    let after-deliver-form : tie.After-deliver-form = search in
+    let entry : tie.Start = search in
+    let args = entry .args in
+    let pre = entry .pre in
+    let deliver-form = after-deliver-form .deliver-form in
     let if1 = c .if1 in
     let below = sender-below (now (args .c)) pre (args .receiver) (args .sender) (args .verdict) (args .t) (deliver-form .ensures) (if1 .left) in
     omega (arith, below, pre .eight)
 
 has-given-vote-requires : tie.Need-has-given-vote-requires
 has-given-vote-requires c κs =
-    let args = c .before .before .before .args in
-    let pre = c .before .before .before .pre in
-    let deliver-form = c .before .before .deliver-form in
-    let if1 = c .before .if1 in
+    let else1 : tie.Else1 = search in
+    let after-deliver-form : tie.After-deliver-form = search in
+    let entry : tie.Start = search in
+    let args = entry .args in
+    let pre = entry .pre in
+    let deliver-form = after-deliver-form .deliver-form in
+    let if1 = else1 .if1 in
     let below = sender-below (now (args .c)) pre (args .receiver) (args .sender) (args .verdict) (args .t) (deliver-form .ensures) (if1 .left) in
     lent (now (args .c)) pre (args .sender) below
 
 returns-2 : tie.Need-returns-2
 returns-2 c =
-    let args = c .before .before .before .before .before .args in
-    let pre = c .before .before .before .before .before .pre in
-    let deliver-form = c .before .before .before .before .deliver-form in
-    let if1 = c .before .before .before .if1 in
-    let has-given-vote = c .before .has-given-vote in
+    let after-has-given-vote : tie.After-has-given-vote = search in
+    let else1 : tie.Else1 = search in
+    let after-deliver-form : tie.After-deliver-form = search in
+    let entry : tie.Start = search in
+    let args = entry .args in
+    let pre = entry .pre in
+    let deliver-form = after-deliver-form .deliver-form in
+    let if1 = else1 .if1 in
+    let has-given-vote = after-has-given-vote .has-given-vote in
     let if2 = c .if2 in
     not-given (now (args .c)) pre (args .receiver) (args .sender) (args .verdict) (args .t) (deliver-form .ensures) (if1 .left)
     (has-given-vote .ensures) (if2 .taken)
@@ -53,20 +64,27 @@ mul-hear-formed c = search needs
 
 index-1-hear-formed : tie.Need-index-1-hear-formed
 index-1-hear-formed c =
-    let args = c .before .before .before .before .before .args in
-    let pre = c .before .before .before .before .before .pre in
-    let deliver-form = c .before .before .before .before .deliver-form in
-    let if1 = c .before .before .before .if1 in
+    let else1 : tie.Else1 = search in
+    let after-deliver-form : tie.After-deliver-form = search in
+    let entry : tie.Start = search in
+    let args = entry .args in
+    let pre = entry .pre in
+    let deliver-form = after-deliver-form .deliver-form in
+    let if1 = else1 .if1 in
     let below = receiver-below (now (args .c)) pre (args .receiver) (args .sender) (args .verdict) (args .t) (deliver-form .ensures) (if1 .left) in
     omega (arith, below, pre .eight)
 
 hear-formed-requires : tie.Need-hear-formed-requires
 hear-formed-requires c κs =
-    let args = c .before .before .before .before .before .before .args in
-    let pre = c .before .before .before .before .before .before .pre in
-    let deliver-form = c .before .before .before .before .before .deliver-form in
-    let if1 = c .before .before .before .before .if1 in
-    let has-given-vote = c .before .before .has-given-vote in
+    let after-has-given-vote : tie.After-has-given-vote = search in
+    let else1 : tie.Else1 = search in
+    let after-deliver-form : tie.After-deliver-form = search in
+    let entry : tie.Start = search in
+    let args = entry .args in
+    let pre = entry .pre in
+    let deliver-form = after-deliver-form .deliver-form in
+    let if1 = else1 .if1 in
+    let has-given-vote = after-has-given-vote .has-given-vote in
     let below = receiver-below (now (args .c)) pre (args .receiver) (args .sender) (args .verdict) (args .t) (deliver-form .ensures) (if1 .left) in (
       lent (now (args .c)) pre (args .receiver) below,
       own-form (now (args .c)) pre (args .receiver) (args .sender) (args .verdict) (args .t) (deliver-form .ensures) (if1 .left) (has-given-vote .ensures),
@@ -74,12 +92,17 @@ hear-formed-requires c κs =
 
 returns-3 : tie.Need-returns-3
 returns-3 c =
-    let args = c .before .before .before .before .before .before .before .args in
-    let pre = c .before .before .before .before .before .before .before .pre in
-    let deliver-form = c .before .before .before .before .before .before .deliver-form in
-    let if1 = c .before .before .before .before .before .if1 in
-    let has-given-vote = c .before .before .before .has-given-vote in
-    let if2 = c .before .before .if2 in
+    let else2 : tie.Else2 = search in
+    let after-has-given-vote : tie.After-has-given-vote = search in
+    let else1 : tie.Else1 = search in
+    let after-deliver-form : tie.After-deliver-form = search in
+    let entry : tie.Start = search in
+    let args = entry .args in
+    let pre = entry .pre in
+    let deliver-form = after-deliver-form .deliver-form in
+    let if1 = else1 .if1 in
+    let has-given-vote = after-has-given-vote .has-given-vote in
+    let if2 = else2 .if2 in
     let hear-formed = c .hear-formed in
     heard (now (args .c)) pre (args .receiver) (args .sender) (args .verdict) (args .t) (deliver-form .ensures) (if1 .left)
     (has-given-vote .ensures) (if2 .left) (hear-formed .ensures)

@@ -23,7 +23,8 @@ mul-new c = search needs
 
 index-1-new : tie.Need-index-1-new Inv-loop μ-loop
 index-1-new c =
-    let loop = c .before .before .loop in
+    let at-loop : tie.At-loop Inv-loop μ-loop = search in
+    let loop = at-loop .loop in
     omega (arith, loop .inv .eight)
 
 new-requires : tie.Need-new-requires Inv-loop μ-loop
@@ -37,14 +38,17 @@ loop-less c = search needs
 
 loop-again : tie.Need-loop-again Inv-loop μ-loop
 loop-again c =
-    let loop = c .before .before .before .before .loop in
-    let narrow = c .before .before .narrow in
+    let after-narrow : tie.After-narrow Inv-loop μ-loop = search in
+    let at-loop : tie.At-loop Inv-loop μ-loop = search in
+    let loop = at-loop .loop in
+    let narrow = after-narrow .narrow in
     let new = c .new in
     freshen-next (loop .c) (loop .p) (narrow .result) _ (loop .inv) (search needs) (narrow .ensures) (new .ensures)
 
 returns : tie.Need-returns Inv-loop μ-loop
 returns c =
-    let loop = c .before .loop in
+    let at-loop : tie.At-loop Inv-loop μ-loop = search in
+    let loop = at-loop .loop in
     freshened (loop .c) (loop .p) (loop .inv) (search needs)
 
 pub new-spec : {M : Type 1} → statement M

@@ -21,13 +21,21 @@ same-length c = search needs
 
 returns : tie.Need-returns
 returns c =
-    let a = c .before .before .before .before .before .before .before .before .before .before .before .args in
-    copies (now (a .bytes)) (now (a .out)) (c .before .before .before .before .before .before .before .before .read .ensures .whole) (λ i. c .before .before .before .before .before .before .before .before .before .before .shared-slice-known .given i .fits) (c .before .before .before .before .before .answer .given .1) (c .before .before .write .ensures)
+    let after-write : tie.After-write = search in
+    let after-answer : tie.After-answer = search in
+    let after-read : tie.After-read = search in
+    let after-shared-slice-known : tie.After-shared-slice-known = search in
+    let entry : tie.Start = search in
+    let a = entry .args in
+    copies (now (a .bytes)) (now (a .out)) (after-read .read .ensures .whole) (λ i. after-shared-slice-known .shared-slice-known .given i .fits) (after-answer .answer .given .1) (after-write .write .ensures)
 
 returns-2 : tie.Need-returns-2
 returns-2 c =
-    let a = c .before .before .before .before .before .before .before .args in
-    copies-refused (now (a .bytes)) (now (a .out)) (c .before .before .before .before .read .ensures .whole) (c .before .answer2 .given .1)
+    let after-answer2 : tie.After-answer2 = search in
+    let after-read : tie.After-read = search in
+    let entry : tie.Start = search in
+    let a = entry .args in
+    copies-refused (now (a .bytes)) (now (a .out)) (after-read .read .ensures .whole) (after-answer2 .answer2 .given .1)
 
 pub copy-spec : {M : Type 1} → statement M
 copy-spec =

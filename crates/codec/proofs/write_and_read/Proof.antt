@@ -18,8 +18,10 @@ same-length c = search needs
 
 returns : tie.Need-returns
 returns c =
-    let a = c .before .before .before .before .before .before .before .args in
-    c .read .ensures .whole ∙ ap readingOf (c .before .before .before .before .write .ensures .lent) ∙ written-reads-back (a .fields) (a .t) (now (a .out)) (long-of (a .t) (c .before .before .before .before .before .before .before .good .1 .0))
+    let after-write : tie.After-write = search in
+    let entry : tie.Start = search in
+    let a = entry .args in
+    c .read .ensures .whole ∙ ap readingOf (after-write .write .ensures .lent) ∙ written-reads-back (a .fields) (a .t) (now (a .out)) (long-of (a .t) (entry .good .1 .0))
 
 pub write-and-read-spec : {M : Type 1} → statement M
 write-and-read-spec = tie.close (tie.spec write-requires read-requires same-length returns)

@@ -20,7 +20,8 @@ enum-told-4 c = search needs
 
 returns : tie.Need-returns
 returns c =
-    let answer = c .before .answer in
+    let after-answer : tie.After-answer = search in
+    let answer = after-answer .answer in
     rw (answer .given .1) refl
 
 returns-2 : tie.Need-returns-2

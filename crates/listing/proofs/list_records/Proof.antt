@@ -19,8 +19,9 @@ abbrev μ-loop : tie.MeasureT-loop
 
 loop-holds : tie.Need-loop-holds Inv-loop μ-loop
 loop-holds c =
-    let args = c .before .before .args in
-    let pre = c .before .before .pre in
+    let entry : tie.Start Inv-loop μ-loop = search in
+    let args = entry .args in
+    let pre = entry .pre in
     reached-start (now (args .c)) (args .number) (now (args .bytes)) (now (args .out)) (args .wanted) pre
 
 sub-goes-on : tie.Need-sub-goes-on Inv-loop μ-loop
@@ -38,72 +39,98 @@ goes-on-requires c κs = search needs
 
 sub-step : tie.Need-sub-step Inv-loop μ-loop
 sub-step c =
-    let loop = c .before .before .before .loop in
+    let at-loop : tie.At-loop Inv-loop μ-loop = search in
+    let loop = at-loop .loop in
     loop .inv .part
 
 part-step-start : tie.Need-part-step-start Inv-loop μ-loop
 part-step-start c =
-    let loop = c .before .before .before .loop in
+    let at-loop : tie.At-loop Inv-loop μ-loop = search in
+    let loop = at-loop .loop in
     let h = loop .inv .part in search needs
 
 part-step-end : tie.Need-part-step-end Inv-loop μ-loop
 part-step-end c =
-    let loop = c .before .before .before .loop in
+    let at-loop : tie.At-loop Inv-loop μ-loop = search in
+    let loop = at-loop .loop in
     let h = loop .inv .part in search needs
 
 step-requires : tie.Need-step-requires Inv-loop μ-loop
 step-requires c κs =
-    let loop = c .before .before .before .before .before .loop in
-    let goes-on = c .before .before .before .before .goes-on in
-    let if1 = c .before .before .before .if1 in
+    let then1 : tie.Then1 Inv-loop μ-loop = search in
+    let after-goes-on : tie.After-goes-on Inv-loop μ-loop = search in
+    let at-loop : tie.At-loop Inv-loop μ-loop = search in
+    let loop = at-loop .loop in
+    let goes-on = after-goes-on .goes-on in
+    let if1 = then1 .if1 in
     (loop .inv .sound, omega (arith, goes-told (loop .inv) (goes-on .ensures) (if1 .taken) .line))
 
 add-at : tie.Need-add-at Inv-loop μ-loop
 add-at c =
-    let loop = c .before .before .before .before .before .before .before .before .before .loop in
-    let goes-on = c .before .before .before .before .before .before .before .before .goes-on in
-    let if1 = c .before .before .before .before .before .before .before .if1 in
-    let step = c .before .before .before .step in
-    let good = c .before .before .before .before .before .before .before .before .before .before .before .before .good in
+    let after-step : tie.After-step Inv-loop μ-loop = search in
+    let then1 : tie.Then1 Inv-loop μ-loop = search in
+    let after-goes-on : tie.After-goes-on Inv-loop μ-loop = search in
+    let at-loop : tie.At-loop Inv-loop μ-loop = search in
+    let entry : tie.Start Inv-loop μ-loop = search in
+    let loop = at-loop .loop in
+    let goes-on = after-goes-on .goes-on in
+    let if1 = then1 .if1 in
+    let step = after-step .step in
+    let good = entry .good in
     let some = taken-part (loop .inv) (goes-on .ensures) (if1 .taken) (step .ensures) in
     let h : loop .at + step .result .taken < 9223372036854775808 = omega (arith, some, good .1 .1 .0) in
     search needs
 
 add-n : tie.Need-add-n Inv-loop μ-loop
 add-n c =
-    let loop = c .before .before .before .before .before .before .before .before .before .loop in
-    let goes-on = c .before .before .before .before .before .before .before .before .goes-on in
-    let if1 = c .before .before .before .before .before .before .before .if1 in
+    let then1 : tie.Then1 Inv-loop μ-loop = search in
+    let after-goes-on : tie.After-goes-on Inv-loop μ-loop = search in
+    let at-loop : tie.At-loop Inv-loop μ-loop = search in
+    let loop = at-loop .loop in
+    let goes-on = after-goes-on .goes-on in
+    let if1 = then1 .if1 in
     let h : loop .n < 18446744073709551615 = goes-told (loop .inv) (goes-on .ensures) (if1 .taken) .number in search needs
 
 loop-less : tie.Need-loop-less Inv-loop μ-loop
 loop-less c =
-    let goes-on = c .before .before .before .before .before .before .before .before .goes-on in
-    let loop = c .before .before .before .before .before .before .before .before .before .loop in
-    let if1 = c .before .before .before .before .before .before .before .if1 in
-    let step = c .before .before .before .step in
+    let after-step : tie.After-step Inv-loop μ-loop = search in
+    let then1 : tie.Then1 Inv-loop μ-loop = search in
+    let after-goes-on : tie.After-goes-on Inv-loop μ-loop = search in
+    let at-loop : tie.At-loop Inv-loop μ-loop = search in
+    let goes-on = after-goes-on .goes-on in
+    let loop = at-loop .loop in
+    let if1 = then1 .if1 in
+    let step = after-step .step in
     let on = goes-on .ensures in
     let inv = loop .inv in
     omega (arith, taken-one inv on (if1 .taken) (step .ensures), taken-part inv on (if1 .taken) (step .ensures))
 
 loop-again : tie.Need-loop-again Inv-loop μ-loop
 loop-again c =
-    let loop = c .before .before .before .before .before .before .before .before .before .loop in
-    let goes-on = c .before .before .before .before .before .before .before .before .goes-on in
-    let if1 = c .before .before .before .before .before .before .before .if1 in
-    let step = c .before .before .before .step in
+    let after-step : tie.After-step Inv-loop μ-loop = search in
+    let then1 : tie.Then1 Inv-loop μ-loop = search in
+    let after-goes-on : tie.After-goes-on Inv-loop μ-loop = search in
+    let at-loop : tie.At-loop Inv-loop μ-loop = search in
+    let loop = at-loop .loop in
+    let goes-on = after-goes-on .goes-on in
+    let if1 = then1 .if1 in
+    let step = after-step .step in
     reached-next (loop .inv) (goes-on .ensures) (if1 .taken) (step .ensures)
 
 same-length : tie.Need-same-length Inv-loop μ-loop
 same-length c =
-    let loop = c .before .before .loop in
+    let at-loop : tie.At-loop Inv-loop μ-loop = search in
+    let loop = at-loop .loop in
     long (loop .inv)
 
 returns : tie.Need-returns Inv-loop μ-loop
 returns c =
-    let loop = c .before .before .loop in
-    let goes-on = c .before .goes-on in
-    let args = c .before .before .before .before .before .args in
+    let after-goes-on : tie.After-goes-on Inv-loop μ-loop = search in
+    let at-loop : tie.At-loop Inv-loop μ-loop = search in
+    let entry : tie.Start Inv-loop μ-loop = search in
+    let loop = at-loop .loop in
+    let goes-on = after-goes-on .goes-on in
+    let args = entry .args in
     let if1 = c .if1 in
     reached-end (loop .inv) (goes-on .ensures) (now (args .c)) (args .number) refl (if1 .left)
 

@@ -24,12 +24,17 @@ same-length c = search needs
 
 returns : tie.Need-returns
 returns c =
-    let args = c .before .before .before .before .before .before .before .before .before .before .before .args in
-    let read = c .before .before .before .before .before .before .before .before .read in
-    let pre = c .before .before .before .before .before .before .before .before .before .before .before .pre in
-    let enum-told = c .before .before .before .before .before .enum-told in
-    let cause-of = c .before .before .before .before .cause-of in
-    let put-line = c .before .before .put-line in
+    let after-put-line : tie.After-put-line = search in
+    let after-cause-of : tie.After-cause-of = search in
+    let after-enum-told : tie.After-enum-told = search in
+    let after-read : tie.After-read = search in
+    let entry : tie.Start = search in
+    let args = entry .args in
+    let read = after-read .read in
+    let pre = entry .pre in
+    let enum-told = after-enum-told .enum-told in
+    let cause-of = after-cause-of .cause-of in
+    let put-line = after-put-line .put-line in
     refused (now (args .c)) (args .number) (now (args .bytes)) (now (args .out)) (args .at) (read .ensures) (pre .0) (enum-told .given .1)
     (cause-of .ensures) (put-line .ensures)
 
@@ -50,13 +55,20 @@ same-length-2 c = search needs
 
 returns-2 : tie.Need-returns-2
 returns-2 c =
-    let args = c .before .before .before .before .before .before .before .before .before .before .before .before .before .before .before .args in
-    let read = c .before .before .before .before .before .before .before .before .before .before .before .before .read in
-    let answer = c .before .before .before .before .before .before .before .before .before .answer in
-    let call = c .before .before .before .before .before .before .call in
-    let is-unplaced = c .before .before .before .before .is-unplaced in
-    let receiver-of = c .before .before .before .receiver-of in
-    let put-line2 = c .before .before .put-line2 in
+    let after-put-line2 : tie.After-put-line2 = search in
+    let after-receiver-of : tie.After-receiver-of = search in
+    let after-is-unplaced : tie.After-is-unplaced = search in
+    let after-call : tie.After-call = search in
+    let after-answer : tie.After-answer = search in
+    let after-read : tie.After-read = search in
+    let entry : tie.Start = search in
+    let args = entry .args in
+    let read = after-read .read in
+    let answer = after-answer .answer in
+    let call = after-call .call in
+    let is-unplaced = after-is-unplaced .is-unplaced in
+    let receiver-of = after-receiver-of .receiver-of in
+    let put-line2 = after-put-line2 .put-line2 in
     carried (now (args .c)) (args .number) (now (args .bytes)) (now (args .out)) (args .at) (read .ensures) (answer .given .1) (call .ensures)
     (is-unplaced .ensures) (receiver-of .ensures) (put-line2 .ensures)
 

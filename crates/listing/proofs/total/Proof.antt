@@ -11,7 +11,8 @@ put-total-requires c κs = search needs
 
 returns : tie.Need-returns
 returns c =
-    let total-amount = c .before .before .total-amount in
+    let after-total-amount : tie.After-total-amount = search in
+    let total-amount = after-total-amount .total-amount in
     let put-total = c .put-total in
     total-shown (search needs) (total-amount .ensures) (put-total .ensures)
 

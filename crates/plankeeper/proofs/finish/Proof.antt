@@ -13,12 +13,14 @@ print-requires c κs = search needs
 
 slice-aggregate-print : tie.Need-slice-aggregate-print
 slice-aggregate-print c =
-    let total = c .before .before .before .before .total in
+    let after-total : tie.After-total = search in
+    let total = after-total .total in
     sym (as-long 64 refl (search needs) (total .ensures))
 
 print-requires-2 : tie.Need-print-requires-2
 print-requires-2 c κs =
-    let total = c .before .before .before .before .total in
+    let after-total : tie.After-total = search in
+    let total = after-total .total in
     omega (arith, as-long 64 refl (search needs) (total .ensures), total .ensures .within)
 
 returns : tie.Need-returns

@@ -27,38 +27,47 @@ turns-after-requires c κs = search needs
 
 loop-holds : tie.Need-loop-holds Inv-loop μ-loop
 loop-holds c =
-    let new = c .before .before .before .new in
+    let after-new : tie.After-new Inv-loop μ-loop = search in
+    let new = after-new .new in
     (new .ensures .sound, search needs, search needs, search needs, search needs, search needs)
 
 slice-aggregate-listed : tie.Need-slice-aggregate-listed Inv-loop μ-loop
 slice-aggregate-listed c =
-    let loop = c .before .before .before .before .loop in
+    let at-loop : tie.At-loop Inv-loop μ-loop = search in
+    let loop = at-loop .loop in
     sym (loop .inv .5)
 
 listed-requires : tie.Need-listed-requires Inv-loop μ-loop
 listed-requires c κs =
-    let loop = c .before .before .before .before .loop in
+    let at-loop : tie.At-loop Inv-loop μ-loop = search in
+    let loop = at-loop .loop in
     (loop .inv .0, search needs, search needs, omega (arith, loop .inv .4, loop .inv .5))
 
 add-flushed : tie.Need-add-flushed Inv-loop μ-loop
 add-flushed c =
-    let loop = c .before .before .before .before .before .before .before .before .loop in
-    let listed = c .before .before .before .listed in
+    let after-listed : tie.After-listed Inv-loop μ-loop = search in
+    let at-loop : tie.At-loop Inv-loop μ-loop = search in
+    let loop = at-loop .loop in
+    let listed = after-listed .listed in
     let few : loop .used ≤ length (loop .out) = omega (arith, loop .inv .4, loop .inv .5) in
     let h : loop .used + listed .result .used ≤ 65536 = omega (arith, waiting (loop .used) (loop .out) (listed .ensures .room) few, loop .inv .5) in
     search needs
 
 flushed-requires : tie.Need-flushed-requires Inv-loop μ-loop
 flushed-requires c κs =
-    let loop = c .before .before .before .before .before .before .before .before .loop in
-    let listed = c .before .before .before .listed in
+    let after-listed : tie.After-listed Inv-loop μ-loop = search in
+    let at-loop : tie.At-loop Inv-loop μ-loop = search in
+    let loop = at-loop .loop in
+    let listed = after-listed .listed in
     let few : loop .used ≤ length (loop .out) = omega (arith, loop .inv .4, loop .inv .5) in
     omega (arith, waiting (loop .used) (loop .out) (listed .ensures .room) few, loop .inv .5)
 
 add-filled : tie.Need-add-filled Inv-loop μ-loop
 add-filled c =
-    let loop = c .before .before .before .before .before .before .before .before .before .before .before .loop in
-    let listed = c .before .before .before .before .before .before .listed in
+    let after-listed : tie.After-listed Inv-loop μ-loop = search in
+    let at-loop : tie.At-loop Inv-loop μ-loop = search in
+    let loop = at-loop .loop in
+    let listed = after-listed .listed in
     let some = unread (loop .at) (loop .end) (loop .buf) (listed .ensures .part) (loop .inv .1) in
     let h : loop .at + listed .result .taken ≤ 65536 = omega (arith, some, loop .inv .2) in
     search needs
@@ -68,8 +77,10 @@ wanted-after-requires c κs = search needs
 
 filled-requires-2 : tie.Need-filled-requires-2 Inv-loop μ-loop
 filled-requires-2 c κs =
-    let loop = c .before .before .before .before .before .before .before .before .before .before .before .before .loop in
-    let listed = c .before .before .before .before .before .before .before .listed in
+    let after-listed : tie.After-listed Inv-loop μ-loop = search in
+    let at-loop : tie.At-loop Inv-loop μ-loop = search in
+    let loop = at-loop .loop in
+    let listed = after-listed .listed in
     let wanted-after = c .wanted-after in
     let some = unread (loop .at) (loop .end) (loop .buf) (listed .ensures .part) (loop .inv .1) in
     omega (arith, some, loop .inv .2, loop .inv .3, wanted-after .ensures)
@@ -82,12 +93,13 @@ loop-less c = search needs
 
 loop-again : tie.Need-loop-again Inv-loop μ-loop
 loop-again c =
-    let listed = c .before .before .before .before .before .before .before .before .before .listed in
-    (listed .ensures .sound, search needs, search needs, search needs, search needs, search needs)
+    let sound = let after-listed : tie.After-listed Inv-loop μ-loop = search in after-listed .listed .ensures .sound in
+    (sound, search needs, search needs, search needs, search needs, search needs)
 
 finish-requires : tie.Need-finish-requires Inv-loop μ-loop
 finish-requires c κs =
-    let loop = c .before .before .before .before .loop in
+    let at-loop : tie.At-loop Inv-loop μ-loop = search in
+    let loop = at-loop .loop in
     (loop .inv .0, omega (arith, loop .inv .4))
 
 returns : tie.Need-returns Inv-loop μ-loop

@@ -14,12 +14,14 @@ taken-requires c κs = search needs
 
 sub-result : tie.Need-sub-result
 sub-result c =
-    let l = now (c .before .before .args .bytes) in
+    let entry : tie.Start = search in
+    let l = now (entry .args .bytes) in
     omega (arith, taken-within l)
 
 part-result-start : tie.Need-part-result-start
 part-result-start c =
-    let l = now (c .before .before .args .bytes) in
+    let entry : tie.Start = search in
+    let l = now (entry .args .bytes) in
     omega (arith, taken-within l)
 
 part-result-end : tie.Need-part-result-end
@@ -28,8 +30,10 @@ part-result-end c = search needs
 returns : tie.Need-returns
 unfolding restOf
 returns c =
-    let l = now (c .before .before .before .args .bytes) in
-    rw (c .before .taken .ensures) (take-all (length l - takenOf l) (drop (takenOf l) l) (rw (length-drop (takenOf l) l) (omega arith)))
+    let after-taken : tie.After-taken = search in
+    let entry : tie.Start = search in
+    let l = now (entry .args .bytes) in
+    rw (after-taken .taken .ensures) (take-all (length l - takenOf l) (drop (takenOf l) l) (rw (length-drop (takenOf l) l) (omega arith)))
 
 pub rest-spec : {M : Type 1} → statement M
 rest-spec =

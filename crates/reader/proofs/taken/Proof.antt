@@ -13,13 +13,18 @@ head-cause-requires c κs = search needs
 
 returns : tie.Need-returns
 returns c =
-    let l = now (c .before .before .before .args .bytes) in
-    sym (taken-all l (λ q. c .if1 .taken (c .before .head-cause .ensures ∙ q)))
+    let after-head-cause : tie.After-head-cause = search in
+    let entry : tie.Start = search in
+    let l = now (entry .args .bytes) in
+    sym (taken-all l (λ q. c .if1 .taken (after-head-cause .head-cause .ensures ∙ q)))
 
 shared-slice-read-body-length : tie.Need-shared-slice-read-body-length
 shared-slice-read-body-length c =
-    let l = now (c .before .before .before .before .args .bytes) in
-    let h : headCause l ≡ 0 = sym (c .before .before .head-cause .ensures) ∙ c .before .if1 .left in
+    let else1 : tie.Else1 = search in
+    let after-head-cause : tie.After-head-cause = search in
+    let entry : tie.Start = search in
+    let l = now (entry .args .bytes) in
+    let h : headCause l ≡ 0 = sym (after-head-cause .head-cause .ensures) ∙ else1 .if1 .left in
     omega (arith, whole l h)
 
 body-length-requires : tie.Need-body-length-requires
@@ -27,14 +32,20 @@ body-length-requires c κs = search needs
 
 add-result : tie.Need-add-result
 add-result c =
-    let l = now (c .before .before .before .before .before .args .bytes) in
-    let h : headCause l ≡ 0 = sym (c .before .before .before .head-cause .ensures) ∙ c .before .before .if1 .left in
+    let else1 : tie.Else1 = search in
+    let after-head-cause : tie.After-head-cause = search in
+    let entry : tie.Start = search in
+    let l = now (entry .args .bytes) in
+    let h : headCause l ≡ 0 = sym (after-head-cause .head-cause .ensures) ∙ else1 .if1 .left in
     omega (arith, whole l h)
 
 returns-2 : tie.Need-returns-2
 returns-2 c =
-    let l = now (c .before .before .before .before .before .args .bytes) in
-    let h : headCause l ≡ 0 = sym (c .before .before .before .head-cause .ensures) ∙ c .before .before .if1 .left in
+    let else1 : tie.Else1 = search in
+    let after-head-cause : tie.After-head-cause = search in
+    let entry : tie.Start = search in
+    let l = now (entry .args .bytes) in
+    let h : headCause l ≡ 0 = sym (after-head-cause .head-cause .ensures) ∙ else1 .if1 .left in
     ap (λ (n : ℕ). n + 1) (c .body-length .ensures) ∙ sym (taken-record l h)
 
 pub taken-spec : {M : Type 1} → statement M

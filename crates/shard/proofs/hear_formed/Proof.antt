@@ -12,19 +12,25 @@ deliver-ledger-requires c κs = search needs
 
 returns : tie.Need-returns
 returns c =
-    let args = c .before .before .before .before .before .args in
-    let pre = c .before .before .before .before .before .pre in
-    let deliver-ledger = c .before .deliver-ledger in
+    let after-deliver-ledger : tie.After-deliver-ledger = search in
+    let entry : tie.Start = search in
+    let args = entry .args in
+    let pre = entry .pre in
+    let deliver-ledger = after-deliver-ledger .deliver-ledger in
     let if1 = c .if1 in
     ledger-refused (now (args .s)) (pre .0) (args .sender) (args .verdict) (args .t) (pre .1) (deliver-ledger .ensures) (if1 .taken)
 
 carry-vote-requires : tie.Need-carry-vote-requires
 carry-vote-requires c κs =
-    let args = c .before .before .before .before .before .before .args in
-    let pre = c .before .before .before .before .before .before .pre in
-    let deliver-ledger = c .before .before .deliver-ledger in
-    let if1 = c .before .if1 in
-    let place-of-number = c .before .before .before .before .place-of-number in
+    let else1 : tie.Else1 = search in
+    let after-deliver-ledger : tie.After-deliver-ledger = search in
+    let after-place-of-number : tie.After-place-of-number = search in
+    let entry : tie.Start = search in
+    let args = entry .args in
+    let pre = entry .pre in
+    let deliver-ledger = after-deliver-ledger .deliver-ledger in
+    let if1 = else1 .if1 in
+    let place-of-number = after-place-of-number .place-of-number in
     let pass = ledger-passes (now (args .s)) (pre .0) (args .sender) (args .verdict) (args .t) (pre .1) (deliver-ledger .ensures) (if1 .left) in
     (pre .0, (place-of-number .ensures .0, pass))
 

@@ -8,7 +8,8 @@ clear-requires c κs = search needs
 
 returns : tie.Need-returns
 returns c =
-    let args = c .before .before .args in
+    let entry : tie.Start = search in
+    let args = entry .args in
     let clear = c .clear in
     fresh _ (args .me) (clear .ensures)
 

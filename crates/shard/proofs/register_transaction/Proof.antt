@@ -10,25 +10,33 @@ register-refusal-requires c κs = search needs
 
 returns : tie.Need-returns
 returns c =
-    let args = c .before .before .before .args in
-    let pre = c .before .before .before .pre in
+    let after-register-refusal : tie.After-register-refusal = search in
+    let entry : tie.Start = search in
+    let args = entry .args in
+    let pre = entry .pre in
     let if1 = c .if1 in
-    let register-refusal = c .before .register-refusal in
+    let register-refusal = after-register-refusal .register-refusal in
     register-refused (now (args .s)) pre (if1 .taken) (args .receiver) (args .t) (register-refusal .ensures)
 
 carry-registration-requires : tie.Need-carry-registration-requires
 carry-registration-requires c κs =
-    let pre = c .before .before .before .before .pre in
-    let args = c .before .before .before .before .args in
-    let register-refusal = c .before .before .register-refusal in
-    let if1 = c .before .if1 in
+    let else1 : tie.Else1 = search in
+    let after-register-refusal : tie.After-register-refusal = search in
+    let entry : tie.Start = search in
+    let pre = entry .pre in
+    let args = entry .args in
+    let register-refusal = after-register-refusal .register-refusal in
+    let if1 = else1 .if1 in
     (pre, register-own (now (args .s)) (args .receiver) (args .t) (sym (register-refusal .ensures) ∙ if1 .left))
 
 returns-2 : tie.Need-returns-2
 returns-2 c =
-    let args = c .before .before .before .before .before .args in
-    let register-refusal = c .before .before .before .register-refusal in
-    let if1 = c .before .before .if1 in
+    let else1 : tie.Else1 = search in
+    let after-register-refusal : tie.After-register-refusal = search in
+    let entry : tie.Start = search in
+    let args = entry .args in
+    let register-refusal = after-register-refusal .register-refusal in
+    let if1 = else1 .if1 in
     let carry-registration = c .carry-registration in
     register-back (now (args .s)) (args .receiver) (args .t) (sym (register-refusal .ensures) ∙ if1 .left) (carry-registration .ensures)
 

@@ -15,22 +15,31 @@ mint-cause-requires c κs = search needs
 
 returns : tie.Need-returns
 returns c =
-    let a = c .before .before .before .args in
-    refuses (mintCause (a .receiver) (a .index) (a .owner) (a .amount) (length (now (a .out)))) (mintBytes (a .receiver) (a .index) (a .owner) (a .amount)) (now (a .out)) (c .before .mint-cause .ensures) (c .if1 .taken)
+    let after-mint-cause : tie.After-mint-cause = search in
+    let entry : tie.Start = search in
+    let a = entry .args in
+    refuses (mintCause (a .receiver) (a .index) (a .owner) (a .amount) (length (now (a .out)))) (mintBytes (a .receiver) (a .index) (a .owner) (a .amount)) (now (a .out)) (after-mint-cause .mint-cause .ensures) (c .if1 .taken)
 
 put-mint-requires : tie.Need-put-mint-requires
 unfolding mintCause
 put-mint-requires c κs =
-    let a = c .before .before .before .before .args in
-    room-there (mintChecks house (a .receiver) (a .index) (a .owner) (a .amount)) 11 (length (now (a .out))) refl (sym (c .before .before .mint-cause .ensures) ∙ c .before .if1 .left)
+    let else1 : tie.Else1 = search in
+    let after-mint-cause : tie.After-mint-cause = search in
+    let entry : tie.Start = search in
+    let a = entry .args in
+    room-there (mintChecks house (a .receiver) (a .index) (a .owner) (a .amount)) 11 (length (now (a .out))) refl (sym (after-mint-cause .mint-cause .ensures) ∙ else1 .if1 .left)
 
 same-length : tie.Need-same-length
 same-length c = search needs
 
 returns-2 : tie.Need-returns-2
 returns-2 c =
-    let a = c .before .before .before .before .before .before .before .args in
-    writes (mintCause (a .receiver) (a .index) (a .owner) (a .amount) (length (now (a .out)))) (mintBytes (a .receiver) (a .index) (a .owner) (a .amount)) (now (a .out)) (c .before .before .before .before .before .mint-cause .ensures) (c .before .before .before .before .if1 .left) (length-mint (a .receiver) (a .index) (a .owner) (a .amount)) (c .before .before .put-mint .ensures)
+    let after-put-mint : tie.After-put-mint = search in
+    let else1 : tie.Else1 = search in
+    let after-mint-cause : tie.After-mint-cause = search in
+    let entry : tie.Start = search in
+    let a = entry .args in
+    writes (mintCause (a .receiver) (a .index) (a .owner) (a .amount) (length (now (a .out)))) (mintBytes (a .receiver) (a .index) (a .owner) (a .amount)) (now (a .out)) (after-mint-cause .mint-cause .ensures) (else1 .if1 .left) (length-mint (a .receiver) (a .index) (a .owner) (a .amount)) (after-put-mint .put-mint .ensures)
 
 pub write-mint-spec : {M : Type 1} → statement M
 write-mint-spec =

@@ -15,22 +15,31 @@ register-cause-requires c κs = search needs
 
 returns : tie.Need-returns
 returns c =
-    let a = c .before .before .before .args in
-    refuses (registerCause (a .receiver) (a .t) (length (now (a .out)))) (registerBytes (a .receiver) (a .t)) (now (a .out)) (c .before .register-cause .ensures) (c .if1 .taken)
+    let after-register-cause : tie.After-register-cause = search in
+    let entry : tie.Start = search in
+    let a = entry .args in
+    refuses (registerCause (a .receiver) (a .t) (length (now (a .out)))) (registerBytes (a .receiver) (a .t)) (now (a .out)) (after-register-cause .register-cause .ensures) (c .if1 .taken)
 
 put-register-requires : tie.Need-put-register-requires
 unfolding registerCause
 put-register-requires c κs =
-    let a = c .before .before .before .before .args in
-    room-there (registerChecks house (a .receiver) (a .t)) 100 (length (now (a .out))) refl (sym (c .before .before .register-cause .ensures) ∙ c .before .if1 .left)
+    let else1 : tie.Else1 = search in
+    let after-register-cause : tie.After-register-cause = search in
+    let entry : tie.Start = search in
+    let a = entry .args in
+    room-there (registerChecks house (a .receiver) (a .t)) 100 (length (now (a .out))) refl (sym (after-register-cause .register-cause .ensures) ∙ else1 .if1 .left)
 
 same-length : tie.Need-same-length
 same-length c = search needs
 
 returns-2 : tie.Need-returns-2
 returns-2 c =
-    let a = c .before .before .before .before .before .before .before .args in
-    writes (registerCause (a .receiver) (a .t) (length (now (a .out)))) (registerBytes (a .receiver) (a .t)) (now (a .out)) (c .before .before .before .before .before .register-cause .ensures) (c .before .before .before .before .if1 .left) (length-register (a .receiver) (a .t)) (c .before .before .put-register .ensures)
+    let after-put-register : tie.After-put-register = search in
+    let else1 : tie.Else1 = search in
+    let after-register-cause : tie.After-register-cause = search in
+    let entry : tie.Start = search in
+    let a = entry .args in
+    writes (registerCause (a .receiver) (a .t) (length (now (a .out)))) (registerBytes (a .receiver) (a .t)) (now (a .out)) (after-register-cause .register-cause .ensures) (else1 .if1 .left) (length-register (a .receiver) (a .t)) (after-put-register .put-register .ensures)
 
 pub write-register-spec : {M : Type 1} → statement M
 write-register-spec =

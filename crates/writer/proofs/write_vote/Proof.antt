@@ -15,22 +15,31 @@ vote-cause-requires c κs = search needs
 
 returns : tie.Need-returns
 returns c =
-    let a = c .before .before .before .args in
-    refuses (voteCause (a .receiver) (a .sender) (a .verdict) (a .t) (length (now (a .out)))) (voteBytes (a .receiver) (a .sender) (a .verdict) (a .t)) (now (a .out)) (c .before .vote-cause .ensures) (c .if1 .taken)
+    let after-vote-cause : tie.After-vote-cause = search in
+    let entry : tie.Start = search in
+    let a = entry .args in
+    refuses (voteCause (a .receiver) (a .sender) (a .verdict) (a .t) (length (now (a .out)))) (voteBytes (a .receiver) (a .sender) (a .verdict) (a .t)) (now (a .out)) (after-vote-cause .vote-cause .ensures) (c .if1 .taken)
 
 put-vote-requires : tie.Need-put-vote-requires
 unfolding voteCause
 put-vote-requires c κs =
-    let a = c .before .before .before .before .args in
-    room-there (voteChecks house (a .receiver) (a .sender) (a .verdict) (a .t)) 102 (length (now (a .out))) refl (sym (c .before .before .vote-cause .ensures) ∙ c .before .if1 .left)
+    let else1 : tie.Else1 = search in
+    let after-vote-cause : tie.After-vote-cause = search in
+    let entry : tie.Start = search in
+    let a = entry .args in
+    room-there (voteChecks house (a .receiver) (a .sender) (a .verdict) (a .t)) 102 (length (now (a .out))) refl (sym (after-vote-cause .vote-cause .ensures) ∙ else1 .if1 .left)
 
 same-length : tie.Need-same-length
 same-length c = search needs
 
 returns-2 : tie.Need-returns-2
 returns-2 c =
-    let a = c .before .before .before .before .before .before .before .args in
-    writes (voteCause (a .receiver) (a .sender) (a .verdict) (a .t) (length (now (a .out)))) (voteBytes (a .receiver) (a .sender) (a .verdict) (a .t)) (now (a .out)) (c .before .before .before .before .before .vote-cause .ensures) (c .before .before .before .before .if1 .left) (length-vote (a .receiver) (a .sender) (a .verdict) (a .t)) (c .before .before .put-vote .ensures)
+    let after-put-vote : tie.After-put-vote = search in
+    let else1 : tie.Else1 = search in
+    let after-vote-cause : tie.After-vote-cause = search in
+    let entry : tie.Start = search in
+    let a = entry .args in
+    writes (voteCause (a .receiver) (a .sender) (a .verdict) (a .t) (length (now (a .out)))) (voteBytes (a .receiver) (a .sender) (a .verdict) (a .t)) (now (a .out)) (after-vote-cause .vote-cause .ensures) (else1 .if1 .left) (length-vote (a .receiver) (a .sender) (a .verdict) (a .t)) (after-put-vote .put-vote .ensures)
 
 pub write-vote-spec : {M : Type 1} → statement M
 write-vote-spec =

@@ -10,7 +10,7 @@ use Rattle.cluster.proofs.queries.amount_at.Tie as tie
 returns : tie.Need-returns
 unfolding heldIn totalAmount
 returns c =
-    let entry = c .before in
+    let entry : tie.Start = search in
     rw (ledger-none (now (entry .args .c)) (entry .pre) (entry .args .number) (c .if1 .taken)) refl
 
 mul-total-amount : tie.Need-mul-total-amount
@@ -21,13 +21,13 @@ index-1-total-amount c = search needs
 
 total-amount-requires : tie.Need-total-amount-requires
 total-amount-requires c κs =
-    let entry = c .before .before in
+    let entry : tie.Start = search in
     entry .pre .each (entry .args .number) (search needs) .sound
 
 returns-2 : tie.Need-returns-2
 unfolding heldIn
 returns-2 c =
-    let entry = c .before .before .before in
+    let entry : tie.Start = search in
     rw (← ledger-there (now (entry .args .c)) (entry .pre) (entry .args .number) (search needs)) (c .total-amount .ensures .0)
 
 pub amount-at-spec : {M : Type 1} → statement M

@@ -10,8 +10,9 @@ blank-known-requires c κs = search needs
 
 returns : tie.Need-returns
 returns c =
-    let entry = c .before .before in
-    let if1 = c .before .if1 in
+    let then1 : tie.Then1 = search in
+    let entry : tie.Start = search in
+    let if1 = then1 .if1 in
     rw (ledger-none (now (entry .args .c)) (entry .pre) (entry .args .number) (if1 .taken)) (c .blank-known .ensures)
 
 mul-known-at : tie.Need-mul-known-at
@@ -22,12 +23,12 @@ index-1-known-at c = search needs
 
 known-at-requires : tie.Need-known-at-requires
 known-at-requires c κs =
-    let entry = c .before .before in
+    let entry : tie.Start = search in
     entry .pre .each (entry .args .number) (search needs) .sound
 
 returns-2 : tie.Need-returns-2
 returns-2 c =
-    let entry = c .before .before .before in
+    let entry : tie.Start = search in
     rw (← ledger-there (now (entry .args .c)) (entry .pre) (entry .args .number) (search needs)) (c .known-at .ensures)
 
 pub known-at-spec : {M : Type 1} → statement M

@@ -9,7 +9,7 @@ use Rattle.cluster.proofs.queries.outcome_at.Tie as tie
 
 returns : tie.Need-returns
 returns c =
-    let entry = c .before in
+    let entry : tie.Start = search in
     rw (ledger-none (now (entry .args .c)) (entry .pre) (entry .args .number) (c .if1 .taken)) (none-known [] (entry .args .place) (omega arith))
 
 mul-outcome-at : tie.Need-mul-outcome-at
@@ -20,12 +20,12 @@ index-1-outcome-at c = search needs
 
 outcome-at-requires : tie.Need-outcome-at-requires
 outcome-at-requires c κs =
-    let entry = c .before .before in
+    let entry : tie.Start = search in
     entry .pre .each (entry .args .number) (search needs) .sound
 
 returns-2 : tie.Need-returns-2
 returns-2 c =
-    let entry = c .before .before .before in
+    let entry : tie.Start = search in
     rw (← ledger-there (now (entry .args .c)) (entry .pre) (entry .args .number) (search needs)) (c .outcome-at .ensures)
 
 pub outcome-at-spec : {M : Type 1} → statement M

@@ -9,7 +9,7 @@ use Rattle.cluster.proofs.queries.outcome_of.Tie as tie
 returns : tie.Need-returns
 unfolding outcomeOfNumber outcomeAt
 returns c =
-    let entry = c .before in
+    let entry : tie.Start = search in
     rw (ledger-none (now (entry .args .c)) (entry .pre) (entry .args .number) (c .if1 .taken)) refl
 
 mul-outcome-of : tie.Need-mul-outcome-of
@@ -20,12 +20,12 @@ index-1-outcome-of c = search needs
 
 outcome-of-requires : tie.Need-outcome-of-requires
 outcome-of-requires c κs =
-    let entry = c .before .before in
+    let entry : tie.Start = search in
     entry .pre .each (entry .args .number) (search needs) .sound
 
 returns-2 : tie.Need-returns-2
 returns-2 c =
-    let entry = c .before .before .before in
+    let entry : tie.Start = search in
     rw (← ledger-there (now (entry .args .c)) (entry .pre) (entry .args .number) (search needs)) (c .outcome-of .ensures)
 
 pub outcome-of-spec : {M : Type 1} → statement M

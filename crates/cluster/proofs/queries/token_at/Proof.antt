@@ -9,7 +9,7 @@ use Rattle.cluster.proofs.queries.token_at.Tie as tie
 
 returns : tie.Need-returns
 returns c =
-    let entry = c .before in
+    let entry : tie.Start = search in
     rw (ledger-none (now (entry .args .c)) (entry .pre) (entry .args .number) (c .if1 .taken)) (none-held [] (entry .args .place) (omega arith))
 
 mul-token-at : tie.Need-mul-token-at
@@ -20,12 +20,12 @@ index-1-token-at c = search needs
 
 token-at-requires : tie.Need-token-at-requires
 token-at-requires c κs =
-    let entry = c .before .before in
+    let entry : tie.Start = search in
     entry .pre .each (entry .args .number) (search needs) .sound
 
 returns-2 : tie.Need-returns-2
 returns-2 c =
-    let entry = c .before .before .before in
+    let entry : tie.Start = search in
     rw (← ledger-there (now (entry .args .c)) (entry .pre) (entry .args .number) (search needs)) (c .token-at .ensures)
 
 pub token-at-spec : {M : Type 1} → statement M

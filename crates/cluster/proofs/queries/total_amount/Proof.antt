@@ -26,14 +26,17 @@ index-1-total-amount c = search needs
 
 total-amount-requires : tie.Need-total-amount-requires Inv-loop μ-loop
 total-amount-requires c κs =
-    let pre = c .before .before .before .pre in
-    let loop = c .before .before .loop in
+    let at-loop : tie.At-loop Inv-loop μ-loop = search in
+    let entry : tie.Start Inv-loop μ-loop = search in
+    let pre = entry .pre in
+    let loop = at-loop .loop in
     pre .each (loop .i) (search needs) .sound
 
 add-sum : tie.Need-add-sum Inv-loop μ-loop
 add-sum c =
+    let at-loop : tie.At-loop Inv-loop μ-loop = search in
     let total-amount = c .total-amount in
-    let loop = c .before .before .before .loop in
+    let loop = at-loop .loop in
     omega (arith, total-amount .ensures .1, loop .inv .0, loop .inv .1 .within)
 
 add-i : tie.Need-add-i Inv-loop μ-loop
@@ -45,17 +48,21 @@ loop-less c = search needs
 loop-again : tie.Need-loop-again Inv-loop μ-loop
 unfolding heldIn
 loop-again c =
-    let loop = c .before .before .before .loop in
-    let pre = c .before .before .before .before .pre in
+    let at-loop : tie.At-loop Inv-loop μ-loop = search in
+    let entry : tie.Start Inv-loop μ-loop = search in
+    let loop = at-loop .loop in
+    let pre = entry .pre in
     let total-amount = c .total-amount in
     let next = sum-next [] _ (loop .inv .1) (search needs) (omega (arith, pre .eight)) (total-amount .ensures .0) in
     (omega (arith, total-amount .ensures .1, loop .inv .0), next)
 
 returns : tie.Need-returns Inv-loop μ-loop
 returns c =
-    let args = c .before .before .args in
-    let pre = c .before .before .pre in
-    let loop = c .before .loop in
+    let at-loop : tie.At-loop Inv-loop μ-loop = search in
+    let entry : tie.Start Inv-loop μ-loop = search in
+    let args = entry .args in
+    let pre = entry .pre in
+    let loop = at-loop .loop in
     held-in-all (now (args .c)) pre (sum-end (loop .inv .1) (omega arith))
 
 pub total-amount-spec : {M : Type 1} → statement M

@@ -17,9 +17,12 @@ held-code-requires c κs = search needs
 
 returns : tie.Need-returns
 returns c =
-    let narrow = c .before .before .before .narrow in
-    let token-at = c .before .before .token-at in
-    let token-words = c .before .token-words in
+    let after-token-words : tie.After-token-words = search in
+    let after-token-at : tie.After-token-at = search in
+    let after-narrow : tie.After-narrow = search in
+    let narrow = after-narrow .narrow in
+    let token-at = after-token-at .token-at in
+    let token-words = after-token-words .token-words in
     rw (← narrow .ensures) (tells-token (token-at .ensures) (c .held-code .ensures) (token-words .ensures))
 
 pub plankeeper-token-at-spec : {M : Type 1} → statement M

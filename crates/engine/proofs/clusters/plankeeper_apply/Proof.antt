@@ -24,19 +24,26 @@ wide-requires c κs = search needs
 
 returns : tie.Need-returns
 returns c =
-    let args = c .before .before .before .before .before .before .before .before .before .args in
-    let read = c .before .before .before .before .before .before .before .read in
-    let answer = c .before .before .before .before .answer in
+    let after-call : tie.After-call = search in
+    let after-answer : tie.After-answer = search in
+    let after-read : tie.After-read = search in
+    let entry : tie.Start = search in
+    let args = entry .args in
+    let read = after-read .read in
+    let answer = after-answer .answer in
     let answer-code = c .answer-code in
-    let call = c .before .call in
+    let call = after-call .call in
     does-read (now (args .c)) (read .ensures) (answer .given .1) (cluster-does (answer-code .ensures) (call .ensures))
 
 returns-2 : tie.Need-returns-2
 returns-2 c =
-    let args = c .before .before .before .before .before .before .before .args in
-    let read = c .before .before .before .before .before .read in
-    let pre = c .before .before .before .before .before .before .before .pre in
-    let answer2 = c .before .before .answer2 in
+    let after-answer2 : tie.After-answer2 = search in
+    let after-read : tie.After-read = search in
+    let entry : tie.Start = search in
+    let args = entry .args in
+    let read = after-read .read in
+    let pre = entry .pre in
+    let answer2 = after-answer2 .answer2 in
     let wide = c .wide in
     does-refused (now (args .c)) (read .ensures) pre (answer2 .given .1) (wide .ensures .0)
 

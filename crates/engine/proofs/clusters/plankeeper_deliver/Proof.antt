@@ -23,12 +23,17 @@ answer-code-requires c κs = search needs
 
 returns : tie.Need-returns
 returns c =
-    let narrow = c .before .before .before .before .before .before .narrow in
-    let narrow2 = c .before .before .before .before .before .narrow2 in
-    let narrow3 = c .before .before .before .before .narrow3 in
-    let transaction-from = c .before .before .before .transaction-from in
+    let after-deliver-vote : tie.After-deliver-vote = search in
+    let after-transaction-from : tie.After-transaction-from = search in
+    let after-narrow3 : tie.After-narrow3 = search in
+    let after-narrow2 : tie.After-narrow2 = search in
+    let after-narrow : tie.After-narrow = search in
+    let narrow = after-narrow .narrow in
+    let narrow2 = after-narrow2 .narrow2 in
+    let narrow3 = after-narrow3 .narrow3 in
+    let transaction-from = after-transaction-from .transaction-from in
     let answer-code = c .answer-code in
-    let deliver-vote = c .before .deliver-vote in
+    let deliver-vote = after-deliver-vote .deliver-vote in
     rw (← narrow .ensures, ← narrow2 .ensures, ← narrow3 .ensures, ← transaction-from .ensures)
     (cluster-does (answer-code .ensures) (deliver-vote .ensures))
 

@@ -17,10 +17,13 @@ answer-code-requires c κs = search needs
 
 returns : tie.Need-returns
 returns c =
-    let narrow = c .before .before .before .before .narrow in
-    let transaction-from = c .before .before .before .transaction-from in
+    let after-register-transaction : tie.After-register-transaction = search in
+    let after-transaction-from : tie.After-transaction-from = search in
+    let after-narrow : tie.After-narrow = search in
+    let narrow = after-narrow .narrow in
+    let transaction-from = after-transaction-from .transaction-from in
     let answer-code = c .answer-code in
-    let register-transaction = c .before .register-transaction in
+    let register-transaction = after-register-transaction .register-transaction in
     rw (← narrow .ensures, ← transaction-from .ensures) (cluster-does (answer-code .ensures) (register-transaction .ensures))
 
 pub plankeeper-register-spec : {M : Type 1} → statement M

@@ -15,7 +15,9 @@ enum-told c = search needs
 
 returns : tie.Need-returns
 unfolding answerWords
-returns c = rw (c .before .before .answer .given .1) (c .record-words .ensures)
+returns c =
+    let after-answer : tie.After-answer = search in
+    rw (after-answer .answer .given .1) (c .record-words .ensures)
 
 returns-2 : tie.Need-returns-2
 unfolding answerWords

@@ -33,7 +33,7 @@ loop-less c = search needs
 
 loop-again : tie.Need-loop-again Inv-loop μ-loop
 loop-again c =
-    let turn = c .before in
+    let turn : tie.In-loop Inv-loop μ-loop = search in
     from-first _ _ 7 35 _ _ (turn .before .loop .inv) (c .if1 .taken)
 
 mul-all-3 : tie.Need-mul-all-3 Inv-loop μ-loop
@@ -53,11 +53,13 @@ loop-less-2 c = search needs
 
 loop-again-2 : tie.Need-loop-again-2 Inv-loop μ-loop
 loop-again-2 c =
-    let turn = c .before in
+    let turn : tie.In-loop Inv-loop μ-loop = search in
     from-second _ _ 7 35 _ _ (turn .before .loop .inv) (c .if1 .left) (turn .loop-test .taken)
 
 returns : tie.Need-returns Inv-loop μ-loop
-returns c = joins _ _ 7 35 _ _ (c .before .loop .inv) (c .loop-test .left)
+returns c =
+    let at-loop : tie.At-loop Inv-loop μ-loop = search in
+    joins _ _ 7 35 _ _ (at-loop .loop .inv) (c .loop-test .left)
 
 pub joined-spec : {M : Type 1} → statement M
 joined-spec =

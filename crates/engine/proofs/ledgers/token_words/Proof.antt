@@ -16,7 +16,8 @@ enum-told c = search needs
 returns : tie.Need-returns
 unfolding tokenWords
 returns c =
-    let token = c .before .before .token in
+    let after-token : tie.After-token = search in
+    let token = after-token .token in
     rw (token .given .1, c .wide .ensures .0) refl
 
 returns-2 : tie.Need-returns-2

@@ -34,7 +34,8 @@ loop-less c = search needs
 
 loop-again : tie.Need-loop-again Inv-loop μ-loop
 loop-again c =
-    let loop = c .before .before .loop in
+    let at-loop : tie.At-loop Inv-loop μ-loop = search in
+    let loop = at-loop .loop in
     from-first _ _ 35 8 _ _ (loop .inv) (c .if1 .taken)
 
 array-read-wide : tie.Need-array-read-wide Inv-loop μ-loop
@@ -54,14 +55,18 @@ loop-less-2 c = search needs
 
 loop-again-2 : tie.Need-loop-again-2 Inv-loop μ-loop
 loop-again-2 c =
-    let loop = c .before .before .before .loop in
-    let if1 = c .before .if1 in
-    let loop-test = c .before .before .loop-test in
+    let else1 : tie.Else1 Inv-loop μ-loop = search in
+    let in-loop : tie.In-loop Inv-loop μ-loop = search in
+    let at-loop : tie.At-loop Inv-loop μ-loop = search in
+    let loop = at-loop .loop in
+    let if1 = else1 .if1 in
+    let loop-test = in-loop .loop-test in
     rw (c .wide .ensures .0) (from-second _ _ 35 8 _ _ (loop .inv) (if1 .left) (loop-test .taken))
 
 returns : tie.Need-returns Inv-loop μ-loop
 returns c =
-    let loop = c .before .loop in
+    let at-loop : tie.At-loop Inv-loop μ-loop = search in
+    let loop = at-loop .loop in
     joins _ _ 35 8 _ _ (loop .inv) (c .loop-test .left)
 
 pub with-heard-spec : {M : Type 1} → statement M

@@ -21,11 +21,15 @@ cast-result c = search needs
 
 returns : tie.Need-returns
 unfolding codeOf
-returns c = rw (c .before .answer .given .1) refl
+returns c =
+    let after-answer : tie.After-answer = search in
+    rw (after-answer .answer .given .1) refl
 
 returns-2 : tie.Need-returns-2
 unfolding codeOf
-returns-2 c = rw (c .before .before .answer2 .given .1, c .wide .ensures .0) refl
+returns-2 c =
+    let after-answer2 : tie.After-answer2 = search in
+    rw (after-answer2 .answer2 .given .1, c .wide .ensures .0) refl
 
 pub code-spec : {M : Type 1} → statement M
 code-spec =

@@ -13,7 +13,10 @@ number-of-requires : tie.Need-number-of-requires
 number-of-requires c κs = search needs
 
 returns : tie.Need-returns
-returns c = fills (c .before .before .read .ensures) (c .number-of .ensures) (c .before .fields-of .ensures)
+returns c =
+    let after-fields-of : tie.After-fields-of = search in
+    let after-read : tie.After-read = search in
+    fills (after-read .read .ensures) (c .number-of .ensures) (after-fields-of .fields-of .ensures)
 
 pub plankeeper-read-spec : {M : Type 1} → statement M
 plankeeper-read-spec =

@@ -10,12 +10,14 @@ rest-requires c κs = search needs
 
 sub-result : tie.Need-sub-result
 sub-result c =
-    let l = now (c .before .before .args .bytes) in
+    let entry : tie.Start = search in
+    let l = now (entry .args .bytes) in
     omega (arith, rest-length l (c .rest .ensures))
 
 returns : tie.Need-returns
 returns c =
-    let l = now (c .before .before .args .bytes) in
+    let entry : tie.Start = search in
+    let l = now (entry .args .bytes) in
     omega (arith, rest-length l (c .rest .ensures))
 
 pub plankeeper-taken-spec : {M : Type 1} → statement M

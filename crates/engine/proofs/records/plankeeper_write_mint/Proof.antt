@@ -20,7 +20,7 @@ same-length c = search needs
 
 returns : tie.Need-returns
 returns c =
-    let wrote = c .before .before .before in
+    let wrote : tie.After-write-mint = search in
     let narrowed = wrote .before .before in
     rw (← narrowed .before .narrow .ensures, ← narrowed .narrow2 .ensures) (encodes (wrote .write-mint .ensures) (c .code .ensures))
 

@@ -20,7 +20,7 @@ same-length c = search needs
 
 returns : tie.Need-returns
 returns c =
-    let wrote = c .before .before .before in
+    let wrote : tie.After-write-register = search in
     let told = wrote .before .before in
     rw (← told .before .narrow .ensures, ← told .transaction-from .ensures) (encodes (wrote .write-register .ensures) (c .code .ensures))
 

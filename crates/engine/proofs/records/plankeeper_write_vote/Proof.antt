@@ -26,7 +26,7 @@ same-length c = search needs
 
 returns : tie.Need-returns
 returns c =
-    let wrote = c .before .before .before in
+    let wrote : tie.After-write-vote = search in
     let told = wrote .before .before in
     let said = told .before in
     rw (← said .before .before .narrow .ensures, ← said .before .narrow2 .ensures, ← said .narrow3 .ensures, ← told .transaction-from .ensures)

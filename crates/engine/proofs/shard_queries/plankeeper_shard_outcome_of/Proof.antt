@@ -12,7 +12,8 @@ known-code-requires c κs = search needs
 
 returns : tie.Need-returns
 returns c =
-    let outcome-of = c .before .outcome-of in
+    let after-outcome-of : tie.After-outcome-of = search in
+    let outcome-of = after-outcome-of .outcome-of in
     c .known-code .ensures ∙ ap knownCode (outcome-of .ensures)
 
 pub plankeeper-shard-outcome-of-spec : {M : Type 1} → statement M

@@ -60,7 +60,7 @@ element-copy-out-t30 c = search needs
 returns : tie.Need-returns
 unfolding inputAt
 returns c =
-    let read = c .before .before in
+    let read : tie.After-narrow2 = search in
     rw (read .before .before .before .narrow .ensures, read .narrow2 .ensures)
 
 pub input-from-spec : {M : Type 1} → statement M

@@ -38,7 +38,9 @@ element-copy-out-t18 c = search needs
 
 returns : tie.Need-returns
 unfolding outputAt
-returns c = rw (c .before .before .narrow .ensures)
+returns c =
+    let after-narrow : tie.After-narrow = search in
+    rw (after-narrow .narrow .ensures)
 
 pub output-from-spec : {M : Type 1} → statement M
 output-from-spec =

@@ -45,7 +45,7 @@ narrow-requires-2 c κs = search needs
 returns : tie.Need-returns
 unfolding transactionFrom
 returns c =
-    let count = c .before .before in
+    let count : tie.After-narrow = search in
     let out4 = count .before .before .before in
     let out2 = out4 .before .before in
     let in4 = out2 .before .before in

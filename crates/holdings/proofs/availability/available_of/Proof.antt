@@ -38,12 +38,17 @@ push-available-requires-4 c κs = search needs
 
 returns : tie.Need-returns
 returns c =
-    let args = c .before .before .before .before .before .before .before .before .before .before .args in
-    let good = c .before .before .before .before .before .before .before .before .before .before .good in
-    let no-inputs = c .before .before .before .before .before .before .before .before .no-inputs in
-    let push-available = c .before .before .before .before .before .before .push-available in
-    let push-available2 = c .before .before .before .before .push-available2 in
-    let push-available3 = c .before .before .push-available3 in
+    let after-push-available3 : tie.After-push-available3 = search in
+    let after-push-available2 : tie.After-push-available2 = search in
+    let after-push-available : tie.After-push-available = search in
+    let after-no-inputs : tie.After-no-inputs = search in
+    let entry : tie.Start = search in
+    let args = entry .args in
+    let good = entry .good in
+    let no-inputs = after-no-inputs .no-inputs in
+    let push-available = after-push-available .push-available in
+    let push-available2 = after-push-available2 .push-available2 in
+    let push-available3 = after-push-available3 .push-available3 in
     let push-available4 = c .push-available4 in
     let here = args .here in
     let long = inputs-long here (good .1 .0) in

@@ -36,12 +36,18 @@ push-if-requires-4 c κs = search needs
 returns : tie.Need-returns
 unfolding inputsHere
 returns c =
-    let args = c .before .before .before .before .before .before .before .before .before .before .before .before .before .before .args in
-    let good = c .before .before .before .before .before .before .before .before .before .before .before .before .before .before .good in
-    let no-inputs = c .before .before .before .before .before .before .before .before .no-inputs in
-    let push-if = c .before .before .before .before .before .before .push-if in
-    let push-if2 = c .before .before .before .before .push-if2 in
-    let push-if3 = c .before .before .push-if3 in
+    let after-push-if3 : tie.After-push-if3 = search in
+    let after-push-if2 : tie.After-push-if2 = search in
+    let after-push-if : tie.After-push-if = search in
+    let after-no-inputs : tie.After-no-inputs = search in
+    let after-a : tie.After-a = search in
+    let entry : tie.Start = search in
+    let args = entry .args in
+    let good = entry .good in
+    let no-inputs = after-no-inputs .no-inputs in
+    let push-if = after-push-if .push-if in
+    let push-if2 = after-push-if2 .push-if2 in
+    let push-if3 = after-push-if3 .push-if3 in
     let push-if4 = c .push-if4 in
     let t = args .t in
     let long = long-of t (good .1 .0) .inputs in

@@ -31,11 +31,15 @@ is-free-for-requires c κs = search needs
 returns : tie.Need-returns Inv-loop μ-loop
 unfolding view available
 returns c =
-    let args = c .before .before .before .before .before .before .args in
-    let token-at = c .before .before .token-at in
-    let is-free-for = c .before .is-free-for in
+    let after-is-free-for : tie.After-is-free-for Inv-loop μ-loop = search in
+    let after-token-at : tie.After-token-at Inv-loop μ-loop = search in
+    let at-loop : tie.At-loop Inv-loop μ-loop = search in
+    let entry : tie.Start Inv-loop μ-loop = search in
+    let args = entry .args in
+    let token-at = after-token-at .token-at in
+    let is-free-for = after-is-free-for .is-free-for in
     let if1 = c .if1 in
-    let loop = c .before .before .before .before .loop in
+    let loop = at-loop .loop in
     let free = ap (freeFor (args .x)) (sym (token-at .ensures)) ∙ sym (is-free-for .ensures) ∙ if1 .taken in
     sym (seek-hit noToken (loop .inv .1) (omega arith) (omega (arith, length-tokens (now (args .s)))) free)
 
@@ -47,18 +51,23 @@ loop-less c = search needs
 
 loop-again : tie.Need-loop-again Inv-loop μ-loop
 loop-again c =
-    let args = c .before .before .before .before .before .before .args in
-    let token-at = c .before .before .token-at in
-    let is-free-for = c .before .is-free-for in
+    let after-is-free-for : tie.After-is-free-for Inv-loop μ-loop = search in
+    let after-token-at : tie.After-token-at Inv-loop μ-loop = search in
+    let at-loop : tie.At-loop Inv-loop μ-loop = search in
+    let entry : tie.Start Inv-loop μ-loop = search in
+    let args = entry .args in
+    let token-at = after-token-at .token-at in
+    let is-free-for = after-is-free-for .is-free-for in
     let if1 = c .if1 in
-    let loop = c .before .before .before .before .loop in
+    let loop = at-loop .loop in
     let free = ap (freeFor (args .x)) (sym (token-at .ensures)) ∙ sym (is-free-for .ensures) ∙ if1 .left in
     (loop .inv .0, seek-next noToken (loop .inv .1) (omega arith) (omega (arith, length-tokens (now (args .s)))) free)
 
 returns-2 : tie.Need-returns-2 Inv-loop μ-loop
 unfolding view available
 returns-2 c =
-    let loop = c .before .loop in
+    let at-loop : tie.At-loop Inv-loop μ-loop = search in
+    let loop = at-loop .loop in
     sym (seek-end (loop .inv .1) (omega arith))
 
 pub is-available-spec : {M : Type 1} → statement M

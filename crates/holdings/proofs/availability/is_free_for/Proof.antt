@@ -9,14 +9,17 @@ names-token-requires c κs = search needs
 
 returns : tie.Need-returns
 returns c =
-    let names-token = c .before .names-token in
+    let after-names-token : tie.After-names-token = search in
+    let names-token = after-names-token .names-token in
     let if1 = c .if1 in
     rw (sym (names-token .ensures) ∙ not-true _ (if1 .taken)) refl
 
 returns-2 : tie.Need-returns-2
 returns-2 c =
-    let names-token = c .before .before .before .before .before .before .names-token in
-    let if1 = c .before .before .before .before .before .if1 in
+    let else1 : tie.Else1 = search in
+    let after-names-token : tie.After-names-token = search in
+    let names-token = after-names-token .names-token in
+    let if1 = else1 .if1 in
     rw (sym (names-token .ensures) ∙ not-false _ (if1 .left)) refl
 
 pub is-free-for-spec : {M : Type 1} → statement M

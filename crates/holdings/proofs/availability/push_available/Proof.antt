@@ -9,7 +9,8 @@ use Rattle.holdings.proofs.availability.push_available.Tie as tie
 
 returns : tie.Need-returns
 returns c =
-    let args = c .before .args in
+    let entry : tie.Start = search in
+    let args = entry .args in
     let if1 = c .if1 in
     let wanted = available (ledgerOf (now (args .s)) .tokens) (args .x) in
     (unused (args .used) wanted (inputsOf (args .before)) (args .x) (if1 .taken), search needs)
@@ -22,9 +23,12 @@ push-if-requires c κs = search needs
 
 returns-2 : tie.Need-returns-2
 returns-2 c =
-    let args = c .before .before .before .args in
-    let if1 = c .before .before .if1 in
-    let is-available = c .before .is-available in
+    let after-is-available : tie.After-is-available = search in
+    let else1 : tie.Else1 = search in
+    let entry : tie.Start = search in
+    let args = entry .args in
+    let if1 = else1 .if1 in
+    let is-available = after-is-available .is-available in
     let push-if = c .push-if in
     let wanted = available (ledgerOf (now (args .s)) .tokens) (args .x) in
     let one = used-if (args .used) wanted (inputsOf (args .before)) (args .x) (if1 .left) (is-available .ensures) (push-if .ensures .0) in

@@ -7,7 +7,8 @@ use Rattle.holdings.proofs.availability.push_if.Tie as tie
 
 returns : tie.Need-returns
 returns c =
-    let args = c .before .args in
+    let entry : tie.Start = search in
+    let args = entry .args in
     let if1 = c .if1 in
     let b = args .before in
     (push-none (args .wanted) (b .list) (b .count) (args .x) (if1 .taken), search needs)
@@ -23,10 +24,12 @@ add-t7 c = search needs
 
 returns-2 : tie.Need-returns-2
 returns-2 c =
-    let args = c .before .before .args in
-    let good = c .before .before .good in
-    let if1 = c .before .if1 in
-    let pre = c .before .before .pre in
+    let else1 : tie.Else1 = search in
+    let entry : tie.Start = search in
+    let args = entry .args in
+    let good = entry .good in
+    let if1 = else1 .if1 in
+    let pre = entry .pre in
     let b = args .before in
     let long = inputs-long b (good .0) in
     (push-one (args .wanted) (b .list) (b .count) (args .x) (if1 .left) (omega (arith, pre, long)), search needs)

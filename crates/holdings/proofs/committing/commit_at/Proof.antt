@@ -12,17 +12,23 @@ transaction-at-requires c κs = search needs
 
 commit-here-requires : tie.Need-commit-here-requires
 commit-here-requires c κs =
-    let args = c .before .before .before .before .before .args in
-    let own-number = c .before .before .before .own-number in
-    let transaction-at = c .before .transaction-at in
-    let pre = c .before .before .before .before .before .pre in
+    let after-transaction-at : tie.After-transaction-at = search in
+    let after-own-number : tie.After-own-number = search in
+    let entry : tie.Start = search in
+    let args = entry .args in
+    let own-number = after-own-number .own-number in
+    let transaction-at = after-transaction-at .transaction-at in
+    let pre = entry .pre in
     settle-room (args .place) (now (args .s)) (own-number .ensures) (transaction-at .ensures) pre
 
 returns : tie.Need-returns
 returns c =
-    let args = c .before .before .before .before .before .before .args in
-    let own-number = c .before .before .before .before .own-number in
-    let transaction-at = c .before .before .transaction-at in
+    let after-transaction-at : tie.After-transaction-at = search in
+    let after-own-number : tie.After-own-number = search in
+    let entry : tie.Start = search in
+    let args = entry .args in
+    let own-number = after-own-number .own-number in
+    let transaction-at = after-transaction-at .transaction-at in
     let commit-here = c .commit-here in
     settled (args .place) (now (args .s)) (own-number .ensures) (transaction-at .ensures) (commit-here .ensures)
 

@@ -13,20 +13,26 @@ destroy-requires c κs = search needs
 
 make-requires : tie.Need-make-requires
 make-requires c κs =
-    let inputs-here = c .before .before .before .inputs-here in
-    let args = c .before .before .before .before .args in
-    let pre = c .before .before .before .before .pre in
-    let destroy = c .before .destroy in
+    let after-destroy : tie.After-destroy = search in
+    let after-inputs-here : tie.After-inputs-here = search in
+    let entry : tie.Start = search in
+    let inputs-here = after-inputs-here .inputs-here in
+    let args = entry .args in
+    let pre = entry .pre in
+    let destroy = after-destroy .destroy in
     let here = inputsOf (inputs-here .result) in
     let law = commit-room (args .me) (args .t) here (inputs-here .ensures .0) (now (args .s)) _ (pre .0) (destroy .ensures) in
     law (pre .1)
 
 returns : tie.Need-returns
 returns c =
-    let inputs-here = c .before .before .before .before .inputs-here in
-    let args = c .before .before .before .before .before .args in
-    let pre = c .before .before .before .before .before .pre in
-    let destroy = c .before .before .destroy in
+    let after-destroy : tie.After-destroy = search in
+    let after-inputs-here : tie.After-inputs-here = search in
+    let entry : tie.Start = search in
+    let inputs-here = after-inputs-here .inputs-here in
+    let args = entry .args in
+    let pre = entry .pre in
+    let destroy = after-destroy .destroy in
     let make = c .make in
     let here = inputsOf (inputs-here .result) in
     let law = committed (args .me) (args .t) here (inputs-here .ensures .0) (now (args .s)) _ (pre .0) (destroy .ensures) in

@@ -16,9 +16,11 @@ array-copy-out-destroy-if-2 c = search needs
 
 destroy-if-requires-2 : tie.Need-destroy-if-requires-2
 destroy-if-requires-2 c κs =
-    let args = c .before .before .before .before .before .before .args in
-    let pre = c .before .before .before .before .before .before .pre in
-    let destroy-if = c .before .before .destroy-if in
+    let after-destroy-if : tie.After-destroy-if = search in
+    let entry : tie.Start = search in
+    let args = entry .args in
+    let pre = entry .pre in
+    let destroy-if = after-destroy-if .destroy-if in
     turn-room destroying-in-turn (now (args .s)) _ pre (destroy-if .ensures)
 
 array-copy-out-destroy-if-3 : tie.Need-array-copy-out-destroy-if-3
@@ -26,10 +28,13 @@ array-copy-out-destroy-if-3 c = search needs
 
 destroy-if-requires-3 : tie.Need-destroy-if-requires-3
 destroy-if-requires-3 c κs =
-    let args = c .before .before .before .before .before .before .before .before .before .args in
-    let pre = c .before .before .before .before .before .before .before .before .before .pre in
-    let destroy-if = c .before .before .before .before .before .destroy-if in
-    let destroy-if2 = c .before .before .destroy-if2 in
+    let after-destroy-if2 : tie.After-destroy-if2 = search in
+    let after-destroy-if : tie.After-destroy-if = search in
+    let entry : tie.Start = search in
+    let args = entry .args in
+    let pre = entry .pre in
+    let destroy-if = after-destroy-if .destroy-if in
+    let destroy-if2 = after-destroy-if2 .destroy-if2 in
     let room = turn-room destroying-in-turn (now (args .s)) _ pre (destroy-if .ensures) in
     turn-room destroying-in-turn _ _ room (destroy-if2 .ensures)
 
@@ -38,22 +43,30 @@ array-copy-out-destroy-if-4 c = search needs
 
 destroy-if-requires-4 : tie.Need-destroy-if-requires-4
 destroy-if-requires-4 c κs =
-    let args = c .before .before .before .before .before .before .before .before .before .before .before .before .args in
-    let pre = c .before .before .before .before .before .before .before .before .before .before .before .before .pre in
-    let destroy-if = c .before .before .before .before .before .before .before .before .destroy-if in
-    let destroy-if2 = c .before .before .before .before .before .destroy-if2 in
-    let destroy-if3 = c .before .before .destroy-if3 in
+    let after-destroy-if3 : tie.After-destroy-if3 = search in
+    let after-destroy-if2 : tie.After-destroy-if2 = search in
+    let after-destroy-if : tie.After-destroy-if = search in
+    let entry : tie.Start = search in
+    let args = entry .args in
+    let pre = entry .pre in
+    let destroy-if = after-destroy-if .destroy-if in
+    let destroy-if2 = after-destroy-if2 .destroy-if2 in
+    let destroy-if3 = after-destroy-if3 .destroy-if3 in
     let room = turn-room destroying-in-turn (now (args .s)) _ pre (destroy-if .ensures) in
     let room2 = turn-room destroying-in-turn _ _ room (destroy-if2 .ensures) in
     turn-room destroying-in-turn _ _ room2 (destroy-if3 .ensures)
 
 returns : tie.Need-returns
 returns c =
-    let args = c .before .before .before .before .before .before .before .before .before .before .before .before .before .args in
-    let good = c .before .before .before .before .before .before .before .before .before .before .before .before .before .good in
-    let destroy-if = c .before .before .before .before .before .before .before .before .before .destroy-if in
-    let destroy-if2 = c .before .before .before .before .before .before .destroy-if2 in
-    let destroy-if3 = c .before .before .before .destroy-if3 in
+    let after-destroy-if3 : tie.After-destroy-if3 = search in
+    let after-destroy-if2 : tie.After-destroy-if2 = search in
+    let after-destroy-if : tie.After-destroy-if = search in
+    let entry : tie.Start = search in
+    let args = entry .args in
+    let good = entry .good in
+    let destroy-if = after-destroy-if .destroy-if in
+    let destroy-if2 = after-destroy-if2 .destroy-if2 in
+    let destroy-if3 = after-destroy-if3 .destroy-if3 in
     let destroy-if4 = c .destroy-if4 in
     let x = args .inputs in
     let law = four-turns destroying-in-turn (x .list) (x .count) (inputs-long x (good .1 .0)) (now (args .s)) _ _ _ _ in

@@ -10,15 +10,17 @@ destroy-named-requires c κs = search needs
 
 returns : tie.Need-returns
 returns c =
-    let if1 = c .before .before .if1 in
+    let then1 : tie.Then1 = search in
+    let if1 = then1 .if1 in
     let destroy-named = c .destroy-named in
     rw (if1 .taken) (destroy-named .ensures)
 
 returns-2 : tie.Need-returns-2
 returns-2 c =
-    let args = c .before .args in
+    let entry : tie.Start = search in
+    let args = entry .args in
     let if1 = c .if1 in
-    let pre = c .before .pre in
+    let pre = entry .pre in
     turn-none destroying-in-turn (now (args .s)) (args .used) (args .x) (if1 .left) (pre)
 
 pub destroy-if-spec : {M : Type 1} → statement M

@@ -26,7 +26,8 @@ held-requires c κs = search needs
 
 loop-holds : tie.Need-loop-holds Inv-loop μ-loop
 loop-holds c =
-    let args = c .before .before .args in
+    let entry : tie.Start Inv-loop μ-loop = search in
+    let args = entry .args in
     (search needs, (record { is = refl; long = search needs }, pack-start (omega (arith, length-tokens (now (args .s))))))
 
 token-at-requires : tie.Need-token-at-requires Inv-loop μ-loop
@@ -49,12 +50,18 @@ loop-less c = search needs
 
 loop-again : tie.Need-loop-again Inv-loop μ-loop
 loop-again c =
-    let args = c .before .before .before .before .before .before .before .before .before .before .args in
-    let names-token = c .before .before .before .names-token in
-    let token-at = c .before .before .before .before .token-at in
-    let if1 = c .before .before .if1 in
-    let held = c .before .before .before .before .before .before .before .before .held in
-    let loop = c .before .before .before .before .before .before .before .loop in
+    let then1 : tie.Then1 Inv-loop μ-loop = search in
+    let after-names-token : tie.After-names-token Inv-loop μ-loop = search in
+    let after-token-at : tie.After-token-at Inv-loop μ-loop = search in
+    let at-loop : tie.At-loop Inv-loop μ-loop = search in
+    let after-held : tie.After-held Inv-loop μ-loop = search in
+    let entry : tie.Start Inv-loop μ-loop = search in
+    let args = entry .args in
+    let names-token = after-names-token .names-token in
+    let token-at = after-token-at .token-at in
+    let if1 = then1 .if1 in
+    let held = after-held .held in
+    let loop = at-loop .loop in
     let put-token = c .put-token in
     let stay = stays-if (args .x) (names-token .ensures) (token-at .ensures) (if1 .taken) in
     let before = tokensOf (now (args .s)) in
@@ -66,11 +73,15 @@ loop-less-2 c = search needs
 
 loop-again-2 : tie.Need-loop-again-2 Inv-loop μ-loop
 loop-again-2 c =
-    let args = c .before .before .before .before .before .before .before .before .args in
-    let names-token = c .before .names-token in
-    let token-at = c .before .before .token-at in
+    let after-names-token : tie.After-names-token Inv-loop μ-loop = search in
+    let after-token-at : tie.After-token-at Inv-loop μ-loop = search in
+    let at-loop : tie.At-loop Inv-loop μ-loop = search in
+    let entry : tie.Start Inv-loop μ-loop = search in
+    let args = entry .args in
+    let names-token = after-names-token .names-token in
+    let token-at = after-token-at .token-at in
     let if1 = c .if1 in
-    let loop = c .before .before .before .before .before .loop in
+    let loop = at-loop .loop in
     let goes = stays-not (args .x) (names-token .ensures) (token-at .ensures) (if1 .left) in
     (loop .inv .0, (loop .inv .1 .0, pack-out noToken (loop .inv .1 .1) (search needs) goes))
 
@@ -80,8 +91,10 @@ set-held-requires c κs = search needs
 returns : tie.Need-returns Inv-loop μ-loop
 unfolding view destroying
 returns c =
-    let loop = c .before .before .before .loop in
-    let args = c .before .before .before .before .before .before .args in
+    let at-loop : tie.At-loop Inv-loop μ-loop = search in
+    let entry : tie.Start Inv-loop μ-loop = search in
+    let loop = at-loop .loop in
+    let args = entry .args in
     let set-held = c .set-held in
     let packed = pack-end (loop .inv .1 .1) (search needs) in
     counted (now (args .s)) (loop .s) (loop .inv .1 .0) _ (loop .count) (set-held .ensures) (omega arith) (rw (← loop .inv .0) packed)

@@ -12,9 +12,10 @@ array-copy-out-make-one c = search needs
 
 make-one-requires : tie.Need-make-one-requires
 make-one-requires c κs =
-    let args = c .before .before .before .args in
-    let good = c .before .before .before .good in
-    let pre = c .before .before .before .pre in
+    let entry : tie.Start = search in
+    let args = entry .args in
+    let good = entry .good in
+    let pre = entry .pre in
     let long = long-of (args .t) (good .1 .1 .0) .outputs in
     (pre .0, omega (arith, made-length (args .me) (args .t) long))
 
@@ -23,10 +24,12 @@ array-copy-out-make-one-2 c = search needs
 
 make-one-requires-2 : tie.Need-make-one-requires-2
 make-one-requires-2 c κs =
-    let args = c .before .before .before .before .before .before .args in
-    let good = c .before .before .before .before .before .before .good in
-    let pre = c .before .before .before .before .before .before .pre in
-    let make-one = c .before .before .make-one in
+    let after-make-one : tie.After-make-one = search in
+    let entry : tie.Start = search in
+    let args = entry .args in
+    let good = entry .good in
+    let pre = entry .pre in
+    let make-one = after-make-one .make-one in
     let long = long-of (args .t) (good .1 .1 .0) .outputs in
     let all = made-length (args .me) (args .t) long in
     let a = now (args .s) in
@@ -39,11 +42,14 @@ array-copy-out-make-one-3 c = search needs
 
 make-one-requires-3 : tie.Need-make-one-requires-3
 make-one-requires-3 c κs =
-    let args = c .before .before .before .before .before .before .before .before .before .args in
-    let good = c .before .before .before .before .before .before .before .before .before .good in
-    let make-one = c .before .before .before .before .before .make-one in
-    let pre = c .before .before .before .before .before .before .before .before .before .pre in
-    let make-one2 = c .before .before .make-one2 in
+    let after-make-one2 : tie.After-make-one2 = search in
+    let after-make-one : tie.After-make-one = search in
+    let entry : tie.Start = search in
+    let args = entry .args in
+    let good = entry .good in
+    let make-one = after-make-one .make-one in
+    let pre = entry .pre in
+    let make-one2 = after-make-one2 .make-one2 in
     let long = long-of (args .t) (good .1 .1 .0) .outputs in
     let all = made-length (args .me) (args .t) long in
     let a = now (args .s) in
@@ -59,12 +65,16 @@ array-copy-out-make-one-4 c = search needs
 
 make-one-requires-4 : tie.Need-make-one-requires-4
 make-one-requires-4 c κs =
-    let args = c .before .before .before .before .before .before .before .before .before .before .before .before .args in
-    let good = c .before .before .before .before .before .before .before .before .before .before .before .before .good in
-    let make-one = c .before .before .before .before .before .before .before .before .make-one in
-    let make-one2 = c .before .before .before .before .before .make-one2 in
-    let pre = c .before .before .before .before .before .before .before .before .before .before .before .before .pre in
-    let make-one3 = c .before .before .make-one3 in
+    let after-make-one3 : tie.After-make-one3 = search in
+    let after-make-one2 : tie.After-make-one2 = search in
+    let after-make-one : tie.After-make-one = search in
+    let entry : tie.Start = search in
+    let args = entry .args in
+    let good = entry .good in
+    let make-one = after-make-one .make-one in
+    let make-one2 = after-make-one2 .make-one2 in
+    let pre = entry .pre in
+    let make-one3 = after-make-one3 .make-one3 in
     let long = long-of (args .t) (good .1 .1 .0) .outputs in
     let all = made-length (args .me) (args .t) long in
     let a = now (args .s) in
@@ -80,11 +90,15 @@ make-one-requires-4 c κs =
 
 returns : tie.Need-returns
 returns c =
-    let args = c .before .before .before .before .before .before .before .before .before .before .before .before .before .args in
-    let good = c .before .before .before .before .before .before .before .before .before .before .before .before .before .good in
-    let make-one = c .before .before .before .before .before .before .before .before .before .make-one in
-    let make-one2 = c .before .before .before .before .before .before .make-one2 in
-    let make-one3 = c .before .before .before .make-one3 in
+    let after-make-one3 : tie.After-make-one3 = search in
+    let after-make-one2 : tie.After-make-one2 = search in
+    let after-make-one : tie.After-make-one = search in
+    let entry : tie.Start = search in
+    let args = entry .args in
+    let good = entry .good in
+    let make-one = after-make-one .make-one in
+    let make-one2 = after-make-one2 .make-one2 in
+    let make-one3 = after-make-one3 .make-one3 in
     let make-one4 = c .make-one4 in
     let long = long-of (args .t) (good .1 .1 .0) .outputs in
     let law = four-made (args .me) (args .t) long (now (args .s)) _ _ _ _ in

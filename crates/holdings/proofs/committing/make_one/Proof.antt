@@ -13,8 +13,10 @@ held-requires c κs = search needs
 
 put-token-requires : tie.Need-put-token-requires
 put-token-requires c κs =
-    let args = c .before .before .before .before .before .args in
-    let if1 = c .before .before .before .if1 in
+    let then1 : tie.Then1 = search in
+    let entry : tie.Start = search in
+    let args = entry .args in
+    let if1 = then1 .if1 in
     let wanted = args .used && outputHere (args .me) (args .y) in
     let one = one-room wanted (tokenOf (args .number) (args .index) (args .y)) (if1 .taken) in
     (omega (arith, one), search needs)
@@ -24,19 +26,26 @@ add-set-held c = search needs
 
 set-held-requires : tie.Need-set-held-requires
 set-held-requires c κs =
-    let args = c .before .before .before .before .before .before .before .args in
-    let if1 = c .before .before .before .before .before .if1 in
-    let put-token = c .before .put-token in
+    let after-put-token : tie.After-put-token = search in
+    let then1 : tie.Then1 = search in
+    let entry : tie.Start = search in
+    let args = entry .args in
+    let if1 = then1 .if1 in
+    let put-token = after-put-token .put-token in
     let wanted = args .used && outputHere (args .me) (args .y) in
     let one = one-room wanted (tokenOf (args .number) (args .index) (args .y)) (if1 .taken) in
     (omega (arith, one), put-token .ensures .long)
 
 returns : tie.Need-returns
 returns c =
-    let args = c .before .before .before .before .before .before .before .before .args in
-    let if1 = c .before .before .before .before .before .before .if1 in
-    let held = c .before .before .before .before .held in
-    let put-token = c .before .before .put-token in
+    let after-put-token : tie.After-put-token = search in
+    let after-held : tie.After-held = search in
+    let then1 : tie.Then1 = search in
+    let entry : tie.Start = search in
+    let args = entry .args in
+    let if1 = then1 .if1 in
+    let held = after-held .held in
+    let put-token = after-put-token .put-token in
     let set-held = c .set-held in
     let wanted = args .used && outputHere (args .me) (args .y) in
     let token = tokenOf (args .number) (args .index) (args .y) in
@@ -45,9 +54,10 @@ returns c =
 
 returns-2 : tie.Need-returns-2
 returns-2 c =
-    let args = c .before .before .args in
+    let entry : tie.Start = search in
+    let args = entry .args in
     let if1 = c .if1 in
-    let pre = c .before .before .pre in
+    let pre = entry .pre in
     let wanted = args .used && outputHere (args .me) (args .y) in
     none-made (now (args .s)) wanted (tokenOf (args .number) (args .index) (args .y)) (if1 .left) (pre .0)
 

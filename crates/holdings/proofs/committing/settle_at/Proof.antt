@@ -10,8 +10,10 @@ enum-told c = search needs
 
 commit-at-requires : tie.Need-commit-at-requires
 commit-at-requires c κs =
-    let enum-told = c .before .enum-told in
-    let pre = c .before .before .before .pre in
+    let after-enum-told : tie.After-enum-told = search in
+    let entry : tie.Start = search in
+    let enum-told = after-enum-told .enum-told in
+    let pre = entry .pre in
     rw (enum-told .given .1) at pre
 
 enum-told-2 : tie.Need-enum-told-2
@@ -22,22 +24,25 @@ enum-told-3 c = search needs
 
 returns : tie.Need-returns
 returns c =
-    let enum-told = c .before .before .enum-told in
+    let after-enum-told : tie.After-enum-told = search in
+    let enum-told = after-enum-told .enum-told in
     let commit-at = c .commit-at in
     rw (enum-told .given .1) (commit-at .ensures)
 
 returns-2 : tie.Need-returns-2
 returns-2 c =
+    let entry : tie.Start = search in
     let enum-told2 = c .enum-told2 in
-    let args = c .before .before .args in
-    let pre = c .before .before .pre in
+    let args = entry .args in
+    let pre = entry .pre in
     rw (enum-told2 .given .1) (holds-same (now (args .s)) (pre .room))
 
 returns-3 : tie.Need-returns-3
 returns-3 c =
+    let entry : tie.Start = search in
     let enum-told3 = c .enum-told3 in
-    let args = c .before .before .args in
-    let pre = c .before .before .pre in
+    let args = entry .args in
+    let pre = entry .pre in
     rw (enum-told3 .given .1) (holds-same (now (args .s)) (pre .room))
 
 pub settle-at-spec : {M : Type 1} → statement M

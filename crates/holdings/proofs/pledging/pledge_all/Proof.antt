@@ -16,9 +16,11 @@ array-copy-out-pledge-if-2 c = search needs
 
 pledge-if-requires-2 : tie.Need-pledge-if-requires-2
 pledge-if-requires-2 c κs =
-    let args = c .before .before .before .before .before .before .args in
-    let pre = c .before .before .before .before .before .before .pre in
-    let pledge-if = c .before .before .pledge-if in
+    let after-pledge-if : tie.After-pledge-if = search in
+    let entry : tie.Start = search in
+    let args = entry .args in
+    let pre = entry .pre in
+    let pledge-if = after-pledge-if .pledge-if in
     turn-room (pledges-in-turn (args .number)) (now (args .s)) _ pre (pledge-if .ensures)
 
 array-copy-out-pledge-if-3 : tie.Need-array-copy-out-pledge-if-3
@@ -26,10 +28,13 @@ array-copy-out-pledge-if-3 c = search needs
 
 pledge-if-requires-3 : tie.Need-pledge-if-requires-3
 pledge-if-requires-3 c κs =
-    let args = c .before .before .before .before .before .before .before .before .before .args in
-    let pre = c .before .before .before .before .before .before .before .before .before .pre in
-    let pledge-if = c .before .before .before .before .before .pledge-if in
-    let pledge-if2 = c .before .before .pledge-if2 in
+    let after-pledge-if2 : tie.After-pledge-if2 = search in
+    let after-pledge-if : tie.After-pledge-if = search in
+    let entry : tie.Start = search in
+    let args = entry .args in
+    let pre = entry .pre in
+    let pledge-if = after-pledge-if .pledge-if in
+    let pledge-if2 = after-pledge-if2 .pledge-if2 in
     let turn = pledges-in-turn (args .number) in
     let room = turn-room turn (now (args .s)) _ pre (pledge-if .ensures) in
     turn-room turn _ _ room (pledge-if2 .ensures)
@@ -39,11 +44,15 @@ array-copy-out-pledge-if-4 c = search needs
 
 pledge-if-requires-4 : tie.Need-pledge-if-requires-4
 pledge-if-requires-4 c κs =
-    let args = c .before .before .before .before .before .before .before .before .before .before .before .before .args in
-    let pre = c .before .before .before .before .before .before .before .before .before .before .before .before .pre in
-    let pledge-if = c .before .before .before .before .before .before .before .before .pledge-if in
-    let pledge-if2 = c .before .before .before .before .before .pledge-if2 in
-    let pledge-if3 = c .before .before .pledge-if3 in
+    let after-pledge-if3 : tie.After-pledge-if3 = search in
+    let after-pledge-if2 : tie.After-pledge-if2 = search in
+    let after-pledge-if : tie.After-pledge-if = search in
+    let entry : tie.Start = search in
+    let args = entry .args in
+    let pre = entry .pre in
+    let pledge-if = after-pledge-if .pledge-if in
+    let pledge-if2 = after-pledge-if2 .pledge-if2 in
+    let pledge-if3 = after-pledge-if3 .pledge-if3 in
     let turn = pledges-in-turn (args .number) in
     let room = turn-room turn (now (args .s)) _ pre (pledge-if .ensures) in
     let room2 = turn-room turn _ _ room (pledge-if2 .ensures) in
@@ -51,11 +60,15 @@ pledge-if-requires-4 c κs =
 
 returns : tie.Need-returns
 returns c =
-    let args = c .before .before .before .before .before .before .before .before .before .before .before .before .before .args in
-    let good = c .before .before .before .before .before .before .before .before .before .before .before .before .before .good in
-    let pledge-if = c .before .before .before .before .before .before .before .before .before .pledge-if in
-    let pledge-if2 = c .before .before .before .before .before .before .pledge-if2 in
-    let pledge-if3 = c .before .before .before .pledge-if3 in
+    let after-pledge-if3 : tie.After-pledge-if3 = search in
+    let after-pledge-if2 : tie.After-pledge-if2 = search in
+    let after-pledge-if : tie.After-pledge-if = search in
+    let entry : tie.Start = search in
+    let args = entry .args in
+    let good = entry .good in
+    let pledge-if = after-pledge-if .pledge-if in
+    let pledge-if2 = after-pledge-if2 .pledge-if2 in
+    let pledge-if3 = after-pledge-if3 .pledge-if3 in
     let pledge-if4 = c .pledge-if4 in
     let x = args .inputs in
     let law = four-turns (pledges-in-turn (args .number)) (x .list) (x .count) (inputs-long x (good .1 .1 .0)) (now (args .s)) _ _ _ _ in

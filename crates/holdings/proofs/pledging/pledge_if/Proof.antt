@@ -9,15 +9,17 @@ pledge-named-requires c κs = search needs
 
 returns : tie.Need-returns
 returns c =
-    let if1 = c .before .before .if1 in
+    let then1 : tie.Then1 = search in
+    let if1 = then1 .if1 in
     let pledge-named = c .pledge-named in
     rw (if1 .taken) (pledge-named .ensures)
 
 returns-2 : tie.Need-returns-2
 returns-2 c =
-    let args = c .before .args in
+    let entry : tie.Start = search in
+    let args = entry .args in
     let if1 = c .if1 in
-    let pre = c .before .pre in
+    let pre = entry .pre in
     turn-none (pledges-in-turn (args .number)) (now (args .s)) (args .used) (args .x) (if1 .left) (pre)
 
 pub pledge-if-spec : {M : Type 1} → statement M

@@ -25,7 +25,8 @@ held-requires c κs = search needs
 
 loop-holds : tie.Need-loop-holds Inv-loop μ-loop
 loop-holds c =
-    let args = c .before .before .args in
+    let entry : tie.Start Inv-loop μ-loop = search in
+    let args = entry .args in
     (search needs, (record { is = refl; long = search needs }, place-start (omega (arith, length-tokens (now (args .s))))))
 
 token-at-requires : tie.Need-token-at-requires Inv-loop μ-loop
@@ -45,12 +46,18 @@ loop-less c = search needs
 
 loop-again : tie.Need-loop-again Inv-loop μ-loop
 loop-again c =
-    let args = c .before .before .before .before .before .before .before .before .before .before .args in
-    let names-token = c .before .before .before .names-token in
-    let token-at = c .before .before .before .before .token-at in
-    let if1 = c .before .before .if1 in
-    let held = c .before .before .before .before .before .before .before .before .held in
-    let loop = c .before .before .before .before .before .before .before .loop in
+    let then1 : tie.Then1 Inv-loop μ-loop = search in
+    let after-names-token : tie.After-names-token Inv-loop μ-loop = search in
+    let after-token-at : tie.After-token-at Inv-loop μ-loop = search in
+    let at-loop : tie.At-loop Inv-loop μ-loop = search in
+    let after-held : tie.After-held Inv-loop μ-loop = search in
+    let entry : tie.Start Inv-loop μ-loop = search in
+    let args = entry .args in
+    let names-token = after-names-token .names-token in
+    let token-at = after-token-at .token-at in
+    let if1 = then1 .if1 in
+    let held = after-held .held in
+    let loop = at-loop .loop in
     let put-pledge = c .put-pledge in
     let f = pledgeIf (args .number) (args .x ∷ []) in
     let pledged = pledged-if (args .x) (names-token .ensures) (token-at .ensures) (args .number) (if1 .taken) in
@@ -62,20 +69,26 @@ loop-less-2 c = search needs
 
 loop-again-2 : tie.Need-loop-again-2 Inv-loop μ-loop
 loop-again-2 c =
-    let args = c .before .before .before .before .before .before .before .before .args in
-    let names-token = c .before .names-token in
-    let token-at = c .before .before .token-at in
+    let after-names-token : tie.After-names-token Inv-loop μ-loop = search in
+    let after-token-at : tie.After-token-at Inv-loop μ-loop = search in
+    let at-loop : tie.At-loop Inv-loop μ-loop = search in
+    let entry : tie.Start Inv-loop μ-loop = search in
+    let args = entry .args in
+    let names-token = after-names-token .names-token in
+    let token-at = after-token-at .token-at in
     let if1 = c .if1 in
-    let loop = c .before .before .before .before .before .loop in
+    let loop = at-loop .loop in
     let same = pledged-not (args .x) (names-token .ensures) (token-at .ensures) (args .number) (if1 .left) in
     (loop .inv .0, (loop .inv .1 .0, place-stays noToken (loop .inv .1 .1) (search needs) same))
 
 returns : tie.Need-returns Inv-loop μ-loop
 unfolding view pledges
 returns c =
-    let loop = c .before .loop in
-    let args = c .before .before .before .before .args in
-    let pre = c .before .before .before .before .pre in
+    let at-loop : tie.At-loop Inv-loop μ-loop = search in
+    let entry : tie.Start Inv-loop μ-loop = search in
+    let loop = at-loop .loop in
+    let args = entry .args in
+    let pre = entry .pre in
     let placed = place-end (loop .inv .1 .1) (search needs) in
     as-many (now (args .s)) (loop .s) (loop .inv .1 .0) (pre .held) (rw (← loop .inv .0) placed)
 

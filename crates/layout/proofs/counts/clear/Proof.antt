@@ -10,7 +10,8 @@ element-write-s c = search needs
 
 returns : tie.Need-returns
 returns c =
-    let args = c .before .args in
+    let entry : tie.Start = search in
+    let args = entry .args in
     all-cleared shardWords (args .number) refl (search needs)
 
 pub clear-spec : {M : Type 1} → statement M

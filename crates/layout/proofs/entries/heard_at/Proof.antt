@@ -28,13 +28,15 @@ byte-requires c κs = search needs
 
 returns : tie.Need-returns
 returns c =
+    let entry : tie.Start = search in
     let byte = c .byte in
-    let args = c .before .before .before .args in
+    let args = entry .args in
     byte .ensures ∙ sym (heard-at (now (args .s)) (args .k) (args .sender) (search needs) (search needs))
 
 returns-2 : tie.Need-returns-2
 returns-2 c =
-    let args = c .before .args in
+    let entry : tie.Start = search in
+    let args = entry .args in
     sym (heard-above (now (args .s)) (args .k) (args .sender) (search needs) (search needs))
 
 pub heard-at-spec : {M : Type 1} → statement M

@@ -100,13 +100,20 @@ byte-requires-8 c κs = search needs
 returns : tie.Need-returns
 unfolding heardIn
 returns c =
-    let byte = c .before .before .before .before .before .before .before .before .before .before .before .before .before .before .byte in
-    let byte2 = c .before .before .before .before .before .before .before .before .before .before .before .before .byte2 in
-    let byte3 = c .before .before .before .before .before .before .before .before .before .before .byte3 in
-    let byte4 = c .before .before .before .before .before .before .before .before .byte4 in
-    let byte5 = c .before .before .before .before .before .before .byte5 in
-    let byte6 = c .before .before .before .before .byte6 in
-    let byte7 = c .before .before .byte7 in
+    let after-byte7 : tie.After-byte7 = search in
+    let after-byte6 : tie.After-byte6 = search in
+    let after-byte5 : tie.After-byte5 = search in
+    let after-byte4 : tie.After-byte4 = search in
+    let after-byte3 : tie.After-byte3 = search in
+    let after-byte2 : tie.After-byte2 = search in
+    let after-byte : tie.After-byte = search in
+    let byte = after-byte .byte in
+    let byte2 = after-byte2 .byte2 in
+    let byte3 = after-byte3 .byte3 in
+    let byte4 = after-byte4 .byte4 in
+    let byte5 = after-byte5 .byte5 in
+    let byte6 = after-byte6 .byte6 in
+    let byte7 = after-byte7 .byte7 in
     let byte8 = c .byte8 in
     rw (
       add-zero,

@@ -54,8 +54,10 @@ element-copy-out-t29 c = search needs
 returns : tie.Need-returns
 unfolding inputIn
 returns c =
-    let byte = c .before .before .before .before .before .byte in
-    let byte2 = c .before .before .byte2 in
+    let after-byte2 : tie.After-byte2 = search in
+    let after-byte : tie.After-byte = search in
+    let byte = after-byte .byte in
+    let byte2 = after-byte2 .byte2 in
     rw (byte .ensures, byte2 .ensures)
 
 pub input-in-spec : {M : Type 1} → statement M

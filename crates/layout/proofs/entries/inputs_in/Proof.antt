@@ -33,9 +33,12 @@ input-in-requires-4 c κs = search needs
 returns : tie.Need-returns
 unfolding inputsIn
 returns c =
-    let input-in = c .before .before .before .input-in in
-    let input-in2 = c .before .before .input-in2 in
-    let input-in3 = c .before .input-in3 in
+    let after-input-in3 : tie.After-input-in3 = search in
+    let after-input-in2 : tie.After-input-in2 = search in
+    let after-input-in : tie.After-input-in = search in
+    let input-in = after-input-in .input-in in
+    let input-in2 = after-input-in2 .input-in2 in
+    let input-in3 = after-input-in3 .input-in3 in
     let input-in4 = c .input-in4 in
     rw (input-in .ensures, input-in2 .ensures, input-in3 .ensures, input-in4 .ensures)
 

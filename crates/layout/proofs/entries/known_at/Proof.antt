@@ -21,9 +21,11 @@ heard-in-requires c κs = search needs
 
 returns : tie.Need-returns
 returns c =
-    let args = c .before .before .args in
-    let pre = c .before .before .pre in
-    let transaction-at = c .before .transaction-at in
+    let after-transaction-at : tie.After-transaction-at = search in
+    let entry : tie.Start = search in
+    let args = entry .args in
+    let pre = entry .pre in
+    let transaction-at = after-transaction-at .transaction-at in
     let heard-in = c .heard-in in
     known-parts (now (args .s)) (args .k) (pre) (transaction-at .ensures) (heard-in .ensures)
 

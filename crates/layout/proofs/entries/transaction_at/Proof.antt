@@ -55,10 +55,13 @@ byte-requires-2 c κs = search needs
 
 returns : tie.Need-returns
 returns c =
-    let byte = c .before .before .byte in
+    let after-byte : tie.After-byte = search in
+    let after-outputs-in : tie.After-outputs-in = search in
+    let after-inputs-in : tie.After-inputs-in = search in
+    let byte = after-byte .byte in
     let byte2 = c .byte2 in
-    let inputs-in = c .before .before .before .before .before .before .inputs-in in
-    let outputs-in = c .before .before .before .before .before .outputs-in in
+    let inputs-in = after-inputs-in .inputs-in in
+    let outputs-in = after-outputs-in .outputs-in in
     rw (byte .ensures, byte2 .ensures, inputs-in .ensures, outputs-in .ensures) (sym (ap (λ (k : Known). k .transaction) (known-get _ _ (search needs))))
 
 pub transaction-at-spec : {M : Type 1} → statement M

@@ -55,8 +55,9 @@ element-write-s-5 c = search needs
 
 returns : tie.Need-returns
 returns c =
-    let args = c .before .before .before .args in
-    let pre = c .before .before .before .pre in
+    let entry : tie.Start = search in
+    let args = entry .args in
+    let pre = entry .pre in
     input-put (now (args .s)) (args .b) (args .x) (omega (arith, pre)) (search needs) (search needs)
 
 pub put-input-spec : {M : Type 1} → statement M

@@ -6,6 +6,10 @@ use borrow.Author.Needs.{needs}
 use Rattle.layout.proofs.stores.put_inputs.Statement.{statement}
 use Rattle.layout.proofs.stores.put_inputs.Tie as tie
 
+-- The array has its length.
+long-t3 : (entry : tie.Start) → length (entry .args .t3) ≡ 4
+long-t3 entry = search needs
+
 array-copy-out-put-input : tie.Need-array-copy-out-put-input
 array-copy-out-put-input c = search needs
 
@@ -47,12 +51,16 @@ put-input-requires-4 c κs = search needs
 
 returns : tie.Need-returns
 returns c =
-    let args = c .before .before .before .before .before .before .before .before .before .before .before .before .args in
-    let put-input = c .before .before .before .before .before .before .before .before .before .put-input in
-    let put-input2 = c .before .before .before .before .before .before .put-input2 in
-    let put-input3 = c .before .before .before .put-input3 in
+    let after-put-input3 : tie.After-put-input3 = search in
+    let after-put-input2 : tie.After-put-input2 = search in
+    let after-put-input : tie.After-put-input = search in
+    let entry : tie.Start = search in
+    let args = entry .args in
+    let put-input = after-put-input .put-input in
+    let put-input2 = after-put-input2 .put-input2 in
+    let put-input3 = after-put-input3 .put-input3 in
     let put-input4 = c .put-input4 in
-    let long : length (args .t3) ≡ 4 = search needs in
+    let long = long-t3 entry in
     inputs-put (args .b) (now (args .s)) _ _ _ _ (args .t3) long (put-input .ensures) (put-input2 .ensures) (put-input3 .ensures) (put-input4 .ensures)
 
 pub put-inputs-spec : {M : Type 1} → statement M

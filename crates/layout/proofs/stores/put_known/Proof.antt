@@ -33,11 +33,15 @@ put-verdicts-requires c κs = search needs
 
 returns : tie.Need-returns
 returns c =
-    let args = c .before .before .before .before .before .before .before .before .before .before .before .before .args in
-    let pre = c .before .before .before .before .before .before .before .before .before .before .before .before .pre in
-    let put-head = c .before .before .before .before .before .before .put-head in
-    let put-inputs = c .before .before .before .before .put-inputs in
-    let put-outputs = c .before .before .put-outputs in
+    let after-put-outputs : tie.After-put-outputs = search in
+    let after-put-inputs : tie.After-put-inputs = search in
+    let after-put-head : tie.After-put-head = search in
+    let entry : tie.Start = search in
+    let args = entry .args in
+    let pre = entry .pre in
+    let put-head = after-put-head .put-head in
+    let put-inputs = after-put-inputs .put-inputs in
+    let put-outputs = after-put-outputs .put-outputs in
     let put-verdicts = c .put-verdicts in
     let law = known-put (args .k) (now (args .s)) _ _ _ _ (args .x) (pre .0) (pre .1) in
     law (put-head .ensures) (put-inputs .ensures) (put-outputs .ensures) (put-verdicts .ensures)

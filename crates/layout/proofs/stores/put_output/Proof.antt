@@ -34,8 +34,9 @@ element-write-s-3 c = search needs
 
 returns : tie.Need-returns
 returns c =
-    let args = c .before .args in
-    let pre = c .before .pre in
+    let entry : tie.Start = search in
+    let args = entry .args in
+    let pre = entry .pre in
     output-put (now (args .s)) (args .b) (args .y) (omega (arith, pre)) (search needs)
 
 pub put-output-spec : {M : Type 1} → statement M

@@ -6,6 +6,10 @@ use borrow.Author.Needs.{needs}
 use Rattle.layout.proofs.stores.put_outputs.Statement.{statement}
 use Rattle.layout.proofs.stores.put_outputs.Tie as tie
 
+-- The array has its length.
+long-t3 : (entry : tie.Start) → length (entry .args .t3) ≡ 4
+long-t3 entry = search needs
+
 array-copy-out-put-output : tie.Need-array-copy-out-put-output
 array-copy-out-put-output c = search needs
 
@@ -47,12 +51,16 @@ put-output-requires-4 c κs = search needs
 
 returns : tie.Need-returns
 returns c =
-    let args = c .before .before .before .before .before .before .before .before .before .before .before .before .args in
-    let put-output = c .before .before .before .before .before .before .before .before .before .put-output in
-    let put-output2 = c .before .before .before .before .before .before .put-output2 in
-    let put-output3 = c .before .before .before .put-output3 in
+    let after-put-output3 : tie.After-put-output3 = search in
+    let after-put-output2 : tie.After-put-output2 = search in
+    let after-put-output : tie.After-put-output = search in
+    let entry : tie.Start = search in
+    let args = entry .args in
+    let put-output = after-put-output .put-output in
+    let put-output2 = after-put-output2 .put-output2 in
+    let put-output3 = after-put-output3 .put-output3 in
     let put-output4 = c .put-output4 in
-    let long : length (args .t3) ≡ 4 = search needs in
+    let long = long-t3 entry in
     outputs-put (args .b) (now (args .s)) _ _ _ _ (args .t3) long (put-output .ensures) (put-output2 .ensures) (put-output3 .ensures) (put-output4 .ensures)
 
 pub put-outputs-spec : {M : Type 1} → statement M

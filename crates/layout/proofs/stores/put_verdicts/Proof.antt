@@ -14,6 +14,10 @@ Inv-loop s₀ b heard i₀ s i = Noting b heard s₀ s i
 abbrev μ-loop : tie.MeasureT-loop
 μ-loop s₀ b heard i₀ s i = 8 - i
 
+-- The array has its length.
+long-t3 : (entry : tie.Start Inv-loop μ-loop) → length (entry .args .t3) ≡ 8
+long-t3 entry = search needs
+
 loop-holds : tie.Need-loop-holds Inv-loop μ-loop
 loop-holds c =
     let args = c .args in
@@ -42,18 +46,22 @@ loop-less c = search needs
 
 loop-again : tie.Need-loop-again Inv-loop μ-loop
 loop-again c =
-    let args = c .before .before .before .args in
-    let loop = c .before .before .loop in
+    let at-loop : tie.At-loop Inv-loop μ-loop = search in
+    let entry : tie.Start Inv-loop μ-loop = search in
+    let args = entry .args in
+    let loop = at-loop .loop in
     let widen = c .widen in
-    let pre = c .before .before .before .pre in
+    let pre = entry .pre in
     noting-next (args .b) (args .t3) (now (args .s)) (loop .s) (loop .i) (widen .result) (loop .inv) (search needs) (omega (arith, pre))
     (widen .ensures .0) (widen .ensures .1)
 
 returns : tie.Need-returns Inv-loop μ-loop
 returns c =
-    let args = c .before .before .args in
-    let loop = c .before .loop in
-    let long : length (args .t3) ≡ 8 = search needs in
+    let at-loop : tie.At-loop Inv-loop μ-loop = search in
+    let entry : tie.Start Inv-loop μ-loop = search in
+    let args = entry .args in
+    let loop = at-loop .loop in
+    let long = long-t3 entry in
     (loop .inv .kept, noting-end (args .b) (args .t3) (now (args .s)) (loop .s) (loop .i) long (loop .inv) (search needs))
 
 pub put-verdicts-spec : {M : Type 1} → statement M

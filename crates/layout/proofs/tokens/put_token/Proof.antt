@@ -57,8 +57,9 @@ element-write-s-5 c = search needs
 
 returns : tie.Need-returns
 returns c =
-    let args = c .before .args in
-    let pre = c .before .pre in
+    let entry : tie.Start = search in
+    let args = entry .args in
+    let pre = entry .pre in
     token-put (now (args .s)) (args .k) (args .t) (pre .0) (pre .1) (search needs)
 
 pub put-token-spec : {M : Type 1} → statement M

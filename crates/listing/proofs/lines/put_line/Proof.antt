@@ -23,12 +23,13 @@ same-length c = search needs
 
 returns : tie.Need-returns
 returns c =
-    let third = c .before .before .before .before .before .before .before in
+    let after-put-text : tie.After-put-text = search in
+    let third : tie.After-put-answer = search in
     let second = third .before .before .before .before in
     let first = second .before .before .before .before in
     let args = first .before .before .before .args in
     line-run (args .number) (args .hidden) (args .shard) (args .answer) (first .put-decimal .ensures) (second .put-place .ensures)
-    (third .put-answer .ensures) (c .before .before .put-text .ensures)
+    (third .put-answer .ensures) (after-put-text .put-text .ensures)
 
 pub put-line-spec : {M : Type 1} → statement M
 put-line-spec =

@@ -16,8 +16,10 @@ slice-aggregate-put-text c = search needs
 
 put-text-requires : tie.Need-put-text-requires
 put-text-requires c κs =
-    let decimal = c .before .before .decimal in
-    let args = c .before .before .before .before .before .args in
+    let after-decimal : tie.After-decimal = search in
+    let entry : tie.Start = search in
+    let decimal = after-decimal .decimal in
+    let args = entry .args in
     omega (arith, few (decimal .result) (args .n) (search needs) (decimal .ensures .1 .0), decimal .ensures .0 .1)
 
 same-length : tie.Need-same-length
@@ -25,9 +27,12 @@ same-length c = search needs
 
 returns : tie.Need-returns
 returns c =
-    let decimal = c .before .before .before .before .before .decimal in
-    let args = c .before .before .before .before .before .before .before .before .args in
-    let put-text = c .before .before .put-text in
+    let after-put-text : tie.After-put-text = search in
+    let after-decimal : tie.After-decimal = search in
+    let entry : tie.Start = search in
+    let decimal = after-decimal .decimal in
+    let args = entry .args in
+    let put-text = after-put-text .put-text in
     let short = few (decimal .result) (args .n) (search needs) (decimal .ensures .1 .0) in
     spelt (args .n) (decimal .result) (put-text .ensures) (decimal .ensures .1 .1) (decimal .ensures .1 .0) (omega (arith, decimal .ensures .0 .1))
 

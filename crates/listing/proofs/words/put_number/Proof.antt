@@ -12,19 +12,23 @@ add-put-decimal c = search needs
 
 put-decimal-requires : tie.Need-put-decimal-requires
 put-decimal-requires c κs =
-    let args = c .before .before .args in
-    let pre = c .before .before .pre in
+    let entry : tie.Start = search in
+    let args = entry .args in
+    let pre = entry .pre in
     space-room (now (args .line)) (args .at) 20 pre
 
 same-length : tie.Need-same-length
 same-length c =
-    let args = c .before .before .before .before .before .args in
-    let put-decimal = c .before .before .put-decimal in
+    let after-put-decimal : tie.After-put-decimal = search in
+    let entry : tie.Start = search in
+    let args = entry .args in
+    let put-decimal = after-put-decimal .put-decimal in
     same-room {b = now (args .line)} (behind-space (put-decimal .ensures))
 
 returns : tie.Need-returns
 returns c =
-    let put-decimal = c .before .before .put-decimal in
+    let after-put-decimal : tie.After-put-decimal = search in
+    let put-decimal = after-put-decimal .put-decimal in
     behind-space (put-decimal .ensures)
 
 pub put-number-spec : {M : Type 1} → statement M

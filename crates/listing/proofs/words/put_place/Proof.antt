@@ -15,8 +15,10 @@ same-length c = search needs
 
 returns : tie.Need-returns
 returns c =
-    let if1 = c .before .before .before .before .before .if1 in
-    let put-word = c .before .before .put-word in
+    let after-put-word : tie.After-put-word = search in
+    let then1 : tie.Then1 = search in
+    let if1 = then1 .if1 in
+    let put-word = after-put-word .put-word in
     rw (if1 .taken) (wider 4 (put-word .ensures) (omega arith))
 
 put-small-requires : tie.Need-put-small-requires
@@ -27,8 +29,10 @@ same-length-2 c = search needs
 
 returns-2 : tie.Need-returns-2
 returns-2 c =
-    let if1 = c .before .before .before .before .if1 in
-    let put-small = c .before .before .put-small in
+    let after-put-small : tie.After-put-small = search in
+    let else1 : tie.Else1 = search in
+    let if1 = else1 .if1 in
+    let put-small = after-put-small .put-small in
     rw (if1 .left) (put-small .ensures)
 
 pub put-place-spec : {M : Type 1} → statement M

@@ -11,8 +11,10 @@ same-length c = search needs
 
 returns : tie.Need-returns
 returns c =
-    let args = c .before .before .before .before .before .args in
-    let put-number = c .before .before .put-number in
+    let after-put-number : tie.After-put-number = search in
+    let entry : tie.Start = search in
+    let args = entry .args in
+    let put-number = after-put-number .put-number in
     small (args .n) (search needs) (put-number .ensures)
 
 pub put-small-spec : {M : Type 1} → statement M

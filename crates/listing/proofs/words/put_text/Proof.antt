@@ -34,8 +34,10 @@ loop-less c = search needs
 
 loop-again : tie.Need-loop-again Inv-loop μ-loop
 loop-again c =
-    let args = c .before .before .before .args in
-    let loop = c .before .before .loop in
+    let at-loop : tie.At-loop Inv-loop μ-loop = search in
+    let entry : tie.Start Inv-loop μ-loop = search in
+    let args = entry .args in
+    let loop = at-loop .loop in
     (search needs, search needs, text-next (now (args .line)) (args .at) (now (args .text)) (loop .i) (search needs) (loop .inv .2))
 
 add-result : tie.Need-add-result Inv-loop μ-loop
@@ -46,8 +48,10 @@ same-length c = search needs
 
 returns : tie.Need-returns Inv-loop μ-loop
 returns c =
-    let args = c .before .before .args in
-    let loop = c .before .loop in
+    let at-loop : tie.At-loop Inv-loop μ-loop = search in
+    let entry : tie.Start Inv-loop μ-loop = search in
+    let args = entry .args in
+    let loop = at-loop .loop in
     text-end (now (args .line)) (args .at) (now (args .text)) (loop .inv .0) (search needs) (loop .inv .2)
 
 pub put-text-spec : {M : Type 1} → statement M

@@ -13,19 +13,23 @@ add-put-text c = search needs
 
 put-text-requires : tie.Need-put-text-requires
 put-text-requires c κs =
-    let args = c .before .before .before .args in
-    let pre = c .before .before .before .pre in
+    let entry : tie.Start = search in
+    let args = entry .args in
+    let pre = entry .pre in
     space-room (now (args .line)) (args .at) (length (now (args .word))) pre
 
 same-length : tie.Need-same-length
 same-length c =
-    let args = c .before .before .before .before .before .before .args in
-    let put-text = c .before .before .put-text in
+    let after-put-text : tie.After-put-text = search in
+    let entry : tie.Start = search in
+    let args = entry .args in
+    let put-text = after-put-text .put-text in
     same-room {b = now (args .line)} (behind-space (put-text .ensures))
 
 returns : tie.Need-returns
 returns c =
-    let put-text = c .before .before .put-text in
+    let after-put-text : tie.After-put-text = search in
+    let put-text = after-put-text .put-text in
     behind-space (put-text .ensures)
 
 pub put-word-spec : {M : Type 1} → statement M

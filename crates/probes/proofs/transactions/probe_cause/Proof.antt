@@ -17,8 +17,9 @@ wide-requires c κs = search needs
 
 returns : tie.Need-returns
 returns c =
-    let told = c .before .before in
-    rw (← told .before .narrow .ensures, ← told .transaction-from .ensures) (c .wide .ensures .0 ∙ c .before .cause .ensures)
+    let after-cause : tie.After-cause = search in
+    let told : tie.After-transaction-from = search in
+    rw (← told .before .narrow .ensures, ← told .transaction-from .ensures) (c .wide .ensures .0 ∙ after-cause .cause .ensures)
 
 pub probe-cause-spec : {M : Type 1} → statement M
 probe-cause-spec =

@@ -18,9 +18,10 @@ yes-or-no-requires c κs = search needs
 
 returns : tie.Need-returns
 returns c =
-    let told = c .before .before in
+    let after-same-transaction : tie.After-same-transaction = search in
+    let told : tie.After-transaction-from2 = search in
     rw (← told .before .transaction-from .ensures, ← told .transaction-from2 .ensures)
-    (c .yes-or-no .ensures ∙ ap yes (c .before .same-transaction .ensures))
+    (c .yes-or-no .ensures ∙ ap yes (after-same-transaction .same-transaction .ensures))
 
 pub probe-same-spec : {M : Type 1} → statement M
 probe-same-spec =

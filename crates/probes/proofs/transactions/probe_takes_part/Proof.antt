@@ -18,8 +18,9 @@ yes-or-no-requires c κs = search needs
 
 returns : tie.Need-returns
 returns c =
-    let told = c .before .before in
-    rw (← told .before .narrow .ensures, ← told .transaction-from .ensures) (c .yes-or-no .ensures ∙ ap yes (c .before .takes-part .ensures))
+    let after-takes-part : tie.After-takes-part = search in
+    let told : tie.After-transaction-from = search in
+    rw (← told .before .narrow .ensures, ← told .transaction-from .ensures) (c .yes-or-no .ensures ∙ ap yes (after-takes-part .takes-part .ensures))
 
 pub probe-takes-part-spec : {M : Type 1} → statement M
 probe-takes-part-spec =

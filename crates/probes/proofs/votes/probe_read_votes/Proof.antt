@@ -12,7 +12,9 @@ abbrev μ-loop : tie.MeasureT-loop
 μ-loop bytes records sum₀ at₀ left₀ sum at left = left
 
 loop-holds : tie.Need-loop-holds Inv-loop μ-loop
-loop-holds c = start (now (c .before .args .bytes)) (c .before .args .records)
+loop-holds c =
+    let entry : tie.Start Inv-loop μ-loop = search in
+    start (now (entry .args .bytes)) (entry .args .records)
 
 sub-part : tie.Need-sub-part Inv-loop μ-loop
 sub-part c = search needs
@@ -34,7 +36,7 @@ wrapping-add-u64-requires c κs = search needs
 
 next-place-requires : tie.Need-next-place-requires Inv-loop μ-loop
 next-place-requires c κs =
-    let read = c .before .before .before in
+    let read : tie.After-read Inv-loop μ-loop = search in
     let turned = read .before .before .before in
     within (now (turned .before .before .args .bytes)) (turned .loop .at) (turned .loop .inv .place) (read .read .ensures)
 
@@ -46,17 +48,19 @@ loop-less c = search needs
 
 loop-again : tie.Need-loop-again Inv-loop μ-loop
 loop-again c =
-    let read = c .before .before .before .before in
+    let after-wrapping-add-u64 : tie.After-wrapping-add-u64 Inv-loop μ-loop = search in
+    let after-worth : tie.After-worth Inv-loop μ-loop = search in
+    let read : tie.After-read Inv-loop μ-loop = search in
     let test = read .before .before in
     let turned = test .before in
     let entry = turned .before .before in
     turn (now (entry .args .bytes)) (entry .args .records) (turned .loop .sum) (turned .loop .at) (turned .loop .left) (turned .loop .inv)
-    (test .loop-test .taken) (read .read .ensures) (c .before .before .worth .ensures) (c .before .wrapping-add-u64 .ensures)
+    (test .loop-test .taken) (read .read .ensures) (after-worth .worth .ensures) (after-wrapping-add-u64 .wrapping-add-u64 .ensures)
     (c .next-place .ensures)
 
 returns : tie.Need-returns Inv-loop μ-loop
 returns c =
-    let end = c .before in
+    let end : tie.At-loop Inv-loop μ-loop = search in
     let entry = end .before .before in
     done (now (entry .args .bytes)) (entry .args .records) (end .loop .sum) (end .loop .at) (end .loop .left) (end .loop .inv) (c .loop-test .left)
 

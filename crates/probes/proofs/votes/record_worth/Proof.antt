@@ -48,11 +48,12 @@ long-requires-3 c κs = search needs
 returns : tie.Need-returns
 unfolding recordWorth
 returns c =
-    let said = c .before .before in
+    let after-long : tie.After-long = search in
+    let said : tie.After-wide3 = search in
     let heard = said .before .before in
     rw (
       heard .before .before .fields .given .1,
-      c .before .long .ensures .0,
+      after-long .long .ensures .0,
       heard .wide .ensures .0,
       said .before .wide2 .ensures .0,
       said .wide3 .ensures .0,
@@ -61,11 +62,16 @@ returns c =
 
 returns-2 : tie.Need-returns-2
 unfolding recordWorth
-returns-2 c = rw (c .before .before .before .fields2 .given .1, c .long2 .ensures .0) (c .before .wide4 .ensures .0)
+returns-2 c =
+    let after-wide4 : tie.After-wide4 = search in
+    let after-fields2 : tie.After-fields2 = search in
+    rw (after-fields2 .fields2 .given .1, c .long2 .ensures .0) (after-wide4 .wide4 .ensures .0)
 
 returns-3 : tie.Need-returns-3
 unfolding recordWorth
-returns-3 c = rw (c .before .before .fields3 .given .1) (c .long3 .ensures .0)
+returns-3 c =
+    let after-fields3 : tie.After-fields3 = search in
+    rw (after-fields3 .fields3 .given .1) (c .long3 .ensures .0)
 
 pub record-worth-spec : {M : Type 1} → statement M
 record-worth-spec =

@@ -27,7 +27,10 @@ add-result-2 c = search needs
 
 returns : tie.Need-returns
 unfolding transactionWorth
-returns c = (rw (c .before .before .long .ensures .0, c .before .long2 .ensures .0, c .long3 .ensures .0), omega arith)
+returns c =
+    let after-long2 : tie.After-long2 = search in
+    let after-long : tie.After-long = search in
+    (rw (after-long .long .ensures .0, after-long2 .long2 .ensures .0, c .long3 .ensures .0), omega arith)
 
 pub transaction-worth-spec : {M : Type 1} → statement M
 transaction-worth-spec =

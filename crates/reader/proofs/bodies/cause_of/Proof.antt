@@ -15,8 +15,10 @@ counts-fit-requires c κs = search needs
 returns : tie.Need-returns
 unfolding countsFit
 returns c =
-    let t = c .before .before .args .t in
-    cause-3 house t (fit-counts house t (c .before .counts-fit .ensures) (not-true _ (c .if1 .taken))) refl
+    let after-counts-fit : tie.After-counts-fit = search in
+    let entry : tie.Start = search in
+    let t = entry .args .t in
+    cause-3 house t (fit-counts house t (after-counts-fit .counts-fit .ensures) (not-true _ (c .if1 .taken))) refl
 
 array-copy-out-two-inputs-fit : tie.Need-array-copy-out-two-inputs-fit
 array-copy-out-two-inputs-fit c = search needs
@@ -30,8 +32,12 @@ two-inputs-fit-requires c κs = search needs
 returns-2 : tie.Need-returns-2
 unfolding countsFit
 returns-2 c =
-    let t = c .before .before .before .before .before .before .before .args .t in
-    cause-3 house t (fit-inputs house t (c .before .before .before .before .before .before .counts-fit .ensures) (not-false _ (c .before .before .before .before .before .if1 .left)) (pair-0 zeroInput (t .inputs) (long-of t (c .before .before .before .before .before .before .before .good .0) .inputs) (inputFits house) (sameInput zeroInput) (t .«input_count») (c .before .two-inputs-fit .ensures) (not-true _ (c .if2 .taken))) refl) refl
+    let after-two-inputs-fit : tie.After-two-inputs-fit = search in
+    let else1 : tie.Else1 = search in
+    let after-counts-fit : tie.After-counts-fit = search in
+    let entry : tie.Start = search in
+    let t = entry .args .t in
+    cause-3 house t (fit-inputs house t (after-counts-fit .counts-fit .ensures) (not-false _ (else1 .if1 .left)) (pair-0 zeroInput (t .inputs) (long-of t (entry .good .0) .inputs) (inputFits house) (sameInput zeroInput) (t .«input_count») (after-two-inputs-fit .two-inputs-fit .ensures) (not-true _ (c .if2 .taken))) refl) refl
 
 array-copy-out-two-inputs-fit-3 : tie.Need-array-copy-out-two-inputs-fit-3
 array-copy-out-two-inputs-fit-3 c = search needs
@@ -45,8 +51,14 @@ two-inputs-fit-requires-2 c κs = search needs
 returns-3 : tie.Need-returns-3
 unfolding countsFit
 returns-3 c =
-    let t = c .before .before .before .before .before .before .before .before .before .before .before .args .t in
-    cause-3 house t (fit-inputs house t (c .before .before .before .before .before .before .before .before .before .before .counts-fit .ensures) (not-false _ (c .before .before .before .before .before .before .before .before .before .if1 .left)) (pair-1 zeroInput (t .inputs) (long-of t (c .before .before .before .before .before .before .before .before .before .before .before .good .0) .inputs) (inputFits house) (sameInput zeroInput) (t .«input_count») (c .before .before .before .before .before .two-inputs-fit .ensures) (not-false _ (c .before .before .before .before .if2 .left)) (c .before .two-inputs-fit2 .ensures)) (not-true _ (c .if3 .taken))) refl
+    let after-two-inputs-fit2 : tie.After-two-inputs-fit2 = search in
+    let else2 : tie.Else2 = search in
+    let after-two-inputs-fit : tie.After-two-inputs-fit = search in
+    let else1 : tie.Else1 = search in
+    let after-counts-fit : tie.After-counts-fit = search in
+    let entry : tie.Start = search in
+    let t = entry .args .t in
+    cause-3 house t (fit-inputs house t (after-counts-fit .counts-fit .ensures) (not-false _ (else1 .if1 .left)) (pair-1 zeroInput (t .inputs) (long-of t (entry .good .0) .inputs) (inputFits house) (sameInput zeroInput) (t .«input_count») (after-two-inputs-fit .two-inputs-fit .ensures) (not-false _ (else2 .if2 .left)) (after-two-inputs-fit2 .two-inputs-fit2 .ensures)) (not-true _ (c .if3 .taken))) refl
 
 outputs-fit-requires : tie.Need-outputs-fit-requires
 outputs-fit-requires c κs = search needs
@@ -54,8 +66,16 @@ outputs-fit-requires c κs = search needs
 returns-4 : tie.Need-returns-4
 unfolding countsFit
 returns-4 c =
-    let t = c .before .before .before .before .before .before .before .before .before .before .before .before .before .before .args .t in
-    cause-3 house t (fit-outputs house t (c .before .before .before .before .before .before .before .before .before .before .before .before .before .counts-fit .ensures) (not-false _ (c .before .before .before .before .before .before .before .before .before .before .before .before .if1 .left)) (pair-1 zeroInput (t .inputs) (long-of t (c .before .before .before .before .before .before .before .before .before .before .before .before .before .before .good .0) .inputs) (inputFits house) (sameInput zeroInput) (t .«input_count») (c .before .before .before .before .before .before .before .before .two-inputs-fit .ensures) (not-false _ (c .before .before .before .before .before .before .before .if2 .left)) (c .before .before .before .before .two-inputs-fit2 .ensures)) (not-false _ (c .before .before .before .if3 .left)) (c .before .outputs-fit .ensures)) (not-true _ (c .if4 .taken))
+    let after-outputs-fit : tie.After-outputs-fit = search in
+    let else3 : tie.Else3 = search in
+    let after-two-inputs-fit2 : tie.After-two-inputs-fit2 = search in
+    let else2 : tie.Else2 = search in
+    let after-two-inputs-fit : tie.After-two-inputs-fit = search in
+    let else1 : tie.Else1 = search in
+    let after-counts-fit : tie.After-counts-fit = search in
+    let entry : tie.Start = search in
+    let t = entry .args .t in
+    cause-3 house t (fit-outputs house t (after-counts-fit .counts-fit .ensures) (not-false _ (else1 .if1 .left)) (pair-1 zeroInput (t .inputs) (long-of t (entry .good .0) .inputs) (inputFits house) (sameInput zeroInput) (t .«input_count») (after-two-inputs-fit .two-inputs-fit .ensures) (not-false _ (else2 .if2 .left)) (after-two-inputs-fit2 .two-inputs-fit2 .ensures)) (not-false _ (else3 .if3 .left)) (after-outputs-fit .outputs-fit .ensures)) (not-true _ (c .if4 .taken))
 
 named-twice-requires : tie.Need-named-twice-requires
 named-twice-requires c κs = search needs
@@ -63,8 +83,18 @@ named-twice-requires c κs = search needs
 returns-5 : tie.Need-returns-5
 unfolding countsFit
 returns-5 c =
-    let t = c .before .before .before .before .before .before .before .before .before .before .before .before .before .before .before .before .args .t in
-    cause-4 house t (fit-outputs house t (c .before .before .before .before .before .before .before .before .before .before .before .before .before .before .before .counts-fit .ensures) (not-false _ (c .before .before .before .before .before .before .before .before .before .before .before .before .before .before .if1 .left)) (pair-1 zeroInput (t .inputs) (long-of t (c .before .before .before .before .before .before .before .before .before .before .before .before .before .before .before .before .good .0) .inputs) (inputFits house) (sameInput zeroInput) (t .«input_count») (c .before .before .before .before .before .before .before .before .before .before .two-inputs-fit .ensures) (not-false _ (c .before .before .before .before .before .before .before .before .before .if2 .left)) (c .before .before .before .before .before .before .two-inputs-fit2 .ensures)) (not-false _ (c .before .before .before .before .before .if3 .left)) (c .before .before .before .outputs-fit .ensures)) (not-false _ (c .before .before .if4 .left)) (c .before .named-twice .ensures) (c .if5 .taken)
+    let after-named-twice : tie.After-named-twice = search in
+    let else4 : tie.Else4 = search in
+    let after-outputs-fit : tie.After-outputs-fit = search in
+    let else3 : tie.Else3 = search in
+    let after-two-inputs-fit2 : tie.After-two-inputs-fit2 = search in
+    let else2 : tie.Else2 = search in
+    let after-two-inputs-fit : tie.After-two-inputs-fit = search in
+    let else1 : tie.Else1 = search in
+    let after-counts-fit : tie.After-counts-fit = search in
+    let entry : tie.Start = search in
+    let t = entry .args .t in
+    cause-4 house t (fit-outputs house t (after-counts-fit .counts-fit .ensures) (not-false _ (else1 .if1 .left)) (pair-1 zeroInput (t .inputs) (long-of t (entry .good .0) .inputs) (inputFits house) (sameInput zeroInput) (t .«input_count») (after-two-inputs-fit .two-inputs-fit .ensures) (not-false _ (else2 .if2 .left)) (after-two-inputs-fit2 .two-inputs-fit2 .ensures)) (not-false _ (else3 .if3 .left)) (after-outputs-fit .outputs-fit .ensures)) (not-false _ (else4 .if4 .left)) (after-named-twice .named-twice .ensures) (c .if5 .taken)
 
 input-total-requires : tie.Need-input-total-requires
 input-total-requires c κs = search needs
@@ -75,14 +105,40 @@ output-total-requires c κs = search needs
 returns-6 : tie.Need-returns-6
 unfolding countsFit
 returns-6 c =
-    let t = c .before .before .before .before .before .before .before .before .before .before .before .before .before .before .before .before .before .before .before .args .t in
-    cause-5 house t (fit-outputs house t (c .before .before .before .before .before .before .before .before .before .before .before .before .before .before .before .before .before .before .counts-fit .ensures) (not-false _ (c .before .before .before .before .before .before .before .before .before .before .before .before .before .before .before .before .before .if1 .left)) (pair-1 zeroInput (t .inputs) (long-of t (c .before .before .before .before .before .before .before .before .before .before .before .before .before .before .before .before .before .before .before .good .0) .inputs) (inputFits house) (sameInput zeroInput) (t .«input_count») (c .before .before .before .before .before .before .before .before .before .before .before .before .before .two-inputs-fit .ensures) (not-false _ (c .before .before .before .before .before .before .before .before .before .before .before .before .if2 .left)) (c .before .before .before .before .before .before .before .before .before .two-inputs-fit2 .ensures)) (not-false _ (c .before .before .before .before .before .before .before .before .if3 .left)) (c .before .before .before .before .before .before .outputs-fit .ensures)) (not-false _ (c .before .before .before .before .before .if4 .left)) (c .before .before .before .before .named-twice .ensures) (c .before .before .before .if5 .left) (c .before .before .input-total .ensures) (c .before .output-total .ensures) (c .if6 .taken)
+    let after-output-total : tie.After-output-total = search in
+    let after-input-total : tie.After-input-total = search in
+    let else5 : tie.Else5 = search in
+    let after-named-twice : tie.After-named-twice = search in
+    let else4 : tie.Else4 = search in
+    let after-outputs-fit : tie.After-outputs-fit = search in
+    let else3 : tie.Else3 = search in
+    let after-two-inputs-fit2 : tie.After-two-inputs-fit2 = search in
+    let else2 : tie.Else2 = search in
+    let after-two-inputs-fit : tie.After-two-inputs-fit = search in
+    let else1 : tie.Else1 = search in
+    let after-counts-fit : tie.After-counts-fit = search in
+    let entry : tie.Start = search in
+    let t = entry .args .t in
+    cause-5 house t (fit-outputs house t (after-counts-fit .counts-fit .ensures) (not-false _ (else1 .if1 .left)) (pair-1 zeroInput (t .inputs) (long-of t (entry .good .0) .inputs) (inputFits house) (sameInput zeroInput) (t .«input_count») (after-two-inputs-fit .two-inputs-fit .ensures) (not-false _ (else2 .if2 .left)) (after-two-inputs-fit2 .two-inputs-fit2 .ensures)) (not-false _ (else3 .if3 .left)) (after-outputs-fit .outputs-fit .ensures)) (not-false _ (else4 .if4 .left)) (after-named-twice .named-twice .ensures) (else5 .if5 .left) (after-input-total .input-total .ensures) (after-output-total .output-total .ensures) (c .if6 .taken)
 
 returns-7 : tie.Need-returns-7
 unfolding countsFit
 returns-7 c =
-    let t = c .before .before .before .before .before .before .before .before .before .before .before .before .before .before .before .before .before .before .before .args .t in
-    cause-0 house t (fit-outputs house t (c .before .before .before .before .before .before .before .before .before .before .before .before .before .before .before .before .before .before .counts-fit .ensures) (not-false _ (c .before .before .before .before .before .before .before .before .before .before .before .before .before .before .before .before .before .if1 .left)) (pair-1 zeroInput (t .inputs) (long-of t (c .before .before .before .before .before .before .before .before .before .before .before .before .before .before .before .before .before .before .before .good .0) .inputs) (inputFits house) (sameInput zeroInput) (t .«input_count») (c .before .before .before .before .before .before .before .before .before .before .before .before .before .two-inputs-fit .ensures) (not-false _ (c .before .before .before .before .before .before .before .before .before .before .before .before .if2 .left)) (c .before .before .before .before .before .before .before .before .before .two-inputs-fit2 .ensures)) (not-false _ (c .before .before .before .before .before .before .before .before .if3 .left)) (c .before .before .before .before .before .before .outputs-fit .ensures)) (not-false _ (c .before .before .before .before .before .if4 .left)) (c .before .before .before .before .named-twice .ensures) (c .before .before .before .if5 .left) (c .before .before .input-total .ensures) (c .before .output-total .ensures) (c .if6 .left)
+    let after-output-total : tie.After-output-total = search in
+    let after-input-total : tie.After-input-total = search in
+    let else5 : tie.Else5 = search in
+    let after-named-twice : tie.After-named-twice = search in
+    let else4 : tie.Else4 = search in
+    let after-outputs-fit : tie.After-outputs-fit = search in
+    let else3 : tie.Else3 = search in
+    let after-two-inputs-fit2 : tie.After-two-inputs-fit2 = search in
+    let else2 : tie.Else2 = search in
+    let after-two-inputs-fit : tie.After-two-inputs-fit = search in
+    let else1 : tie.Else1 = search in
+    let after-counts-fit : tie.After-counts-fit = search in
+    let entry : tie.Start = search in
+    let t = entry .args .t in
+    cause-0 house t (fit-outputs house t (after-counts-fit .counts-fit .ensures) (not-false _ (else1 .if1 .left)) (pair-1 zeroInput (t .inputs) (long-of t (entry .good .0) .inputs) (inputFits house) (sameInput zeroInput) (t .«input_count») (after-two-inputs-fit .two-inputs-fit .ensures) (not-false _ (else2 .if2 .left)) (after-two-inputs-fit2 .two-inputs-fit2 .ensures)) (not-false _ (else3 .if3 .left)) (after-outputs-fit .outputs-fit .ensures)) (not-false _ (else4 .if4 .left)) (after-named-twice .named-twice .ensures) (else5 .if5 .left) (after-input-total .input-total .ensures) (after-output-total .output-total .ensures) (c .if6 .left)
 
 pub cause-of-spec : {M : Type 1} → statement M
 cause-of-spec =

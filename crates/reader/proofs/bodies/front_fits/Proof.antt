@@ -9,38 +9,48 @@ use Rattle.reader.proofs.bodies.front_fits.Tie as tie
 
 shared-slice-read-receiver : tie.Need-shared-slice-read-receiver
 shared-slice-read-receiver c =
-    let l = now (c .before .before .args .bytes) in
-    omega (arith, whole l (c .before .before .pre .0), size-within l (c .before .before .pre .0) (c .before .before .pre .1))
+    let entry : tie.Start = search in
+    let l = now (entry .args .bytes) in
+    omega (arith, whole l (entry .pre .0), size-within l (entry .pre .0) (entry .pre .1))
 
 shared-slice-read-if1 : tie.Need-shared-slice-read-if1
 shared-slice-read-if1 c =
-    let l = now (c .before .before .before .args .bytes) in
-    omega (arith, whole l (c .before .before .before .pre .0), size-within l (c .before .before .before .pre .0) (c .before .before .before .pre .1))
+    let entry : tie.Start = search in
+    let l = now (entry .args .bytes) in
+    omega (arith, whole l (entry .pre .0), size-within l (entry .pre .0) (entry .pre .1))
 
 shard-fits-requires : tie.Need-shard-fits-requires
 shard-fits-requires c κs = search needs
 
 returns : tie.Need-returns
-returns c = rw (eq-eqb _ _ (c .before .if1 .taken)) (c .shard-fits .ensures)
+returns c =
+    let then1 : tie.Then1 = search in
+    rw (eq-eqb _ _ (then1 .if1 .taken)) (c .shard-fits .ensures)
 
 shard-fits-requires-2 : tie.Need-shard-fits-requires-2
 shard-fits-requires-2 c κs = search needs
 
 shared-slice-read-shard-fits : tie.Need-shared-slice-read-shard-fits
 shared-slice-read-shard-fits c =
-    let l = now (c .before .before .before .before .before .before .args .bytes) in
-    omega (arith, whole l (c .before .before .before .before .before .before .pre .0), size-within l (c .before .before .before .before .before .before .pre .0) (c .before .before .before .before .before .before .pre .1))
+    let entry : tie.Start = search in
+    let l = now (entry .args .bytes) in
+    omega (arith, whole l (entry .pre .0), size-within l (entry .pre .0) (entry .pre .1))
 
 shard-fits-requires-3 : tie.Need-shard-fits-requires-3
 shard-fits-requires-3 c κs = search needs
 
 shared-slice-read-result : tie.Need-shared-slice-read-result
 shared-slice-read-result c =
-    let l = now (c .before .before .before .before .before .before .before .before .args .bytes) in
-    omega (arith, whole l (c .before .before .before .before .before .before .before .before .pre .0), size-within l (c .before .before .before .before .before .before .before .before .pre .0) (c .before .before .before .before .before .before .before .before .pre .1))
+    let entry : tie.Start = search in
+    let l = now (entry .args .bytes) in
+    omega (arith, whole l (entry .pre .0), size-within l (entry .pre .0) (entry .pre .1))
 
 returns-2 : tie.Need-returns-2
-returns-2 c = rw (ne-eqb _ _ (c .before .before .before .before .if1 .left), c .before .before .before .shard-fits2 .ensures, c .before .shard-fits3 .ensures) refl
+returns-2 c =
+    let after-shard-fits3 : tie.After-shard-fits3 = search in
+    let after-shard-fits2 : tie.After-shard-fits2 = search in
+    let else1 : tie.Else1 = search in
+    rw (ne-eqb _ _ (else1 .if1 .left), after-shard-fits2 .shard-fits2 .ensures, after-shard-fits3 .shard-fits3 .ensures) refl
 
 pub front-fits-spec : {M : Type 1} → statement M
 front-fits-spec =

@@ -8,23 +8,27 @@ use Rattle.reader.proofs.bodies.read_mint.Tie as tie
 
 shared-slice-read-receiver : tie.Need-shared-slice-read-receiver
 shared-slice-read-receiver c =
-    let l = now (c .before .before .args .bytes) in
-    omega (arith, long-3 l (c .before .before .pre .0) (c .before .before .pre .1))
+    let entry : tie.Start = search in
+    let l = now (entry .args .bytes) in
+    omega (arith, long-3 l (entry .pre .0) (entry .pre .1))
 
 shared-slice-read-index : tie.Need-shared-slice-read-index
 shared-slice-read-index c =
-    let l = now (c .before .before .before .args .bytes) in
-    omega (arith, long-3 l (c .before .before .before .pre .0) (c .before .before .before .pre .1))
+    let entry : tie.Start = search in
+    let l = now (entry .args .bytes) in
+    omega (arith, long-3 l (entry .pre .0) (entry .pre .1))
 
 word-at-requires : tie.Need-word-at-requires
 word-at-requires c κs =
-    let l = now (c .before .before .before .args .bytes) in
-    omega (arith, long-3 l (c .before .before .before .pre .0) (c .before .before .before .pre .1))
+    let entry : tie.Start = search in
+    let l = now (entry .args .bytes) in
+    omega (arith, long-3 l (entry .pre .0) (entry .pre .1))
 
 word-at-requires-2 : tie.Need-word-at-requires-2
 word-at-requires-2 c κs =
-    let l = now (c .before .before .before .before .args .bytes) in
-    omega (arith, long-3 l (c .before .before .before .before .pre .0) (c .before .before .before .before .pre .1))
+    let entry : tie.Start = search in
+    let l = now (entry .args .bytes) in
+    omega (arith, long-3 l (entry .pre .0) (entry .pre .1))
 
 mint-cause-requires : tie.Need-mint-cause-requires
 mint-cause-requires c κs = search needs
@@ -34,17 +38,27 @@ refused-requires c κs = search needs
 
 returns : tie.Need-returns
 returns c =
-    let l = now (c .before .before .before .before .before .before .before .before .args .bytes) in
-    c .refused .ensures ∙ reading-bad l (c .before .before .before .before .before .before .before .before .pre .0) (c .before .before .mint-cause .ensures ∙ rw (c .before .before .before .before .word-at .ensures, c .before .before .before .word-at2 .ensures) (sym (cause-3 l (c .before .before .before .before .before .before .before .before .pre .0) (c .before .before .before .before .before .before .before .before .pre .1)))) (c .before .if1 .taken) (sym (taken-3 l (c .before .before .before .before .before .before .before .before .pre .0) (c .before .before .before .before .before .before .before .before .pre .1)))
+    let then1 : tie.Then1 = search in
+    let after-mint-cause : tie.After-mint-cause = search in
+    let after-word-at2 : tie.After-word-at2 = search in
+    let after-word-at : tie.After-word-at = search in
+    let entry : tie.Start = search in
+    let l = now (entry .args .bytes) in
+    c .refused .ensures ∙ reading-bad l (entry .pre .0) (after-mint-cause .mint-cause .ensures ∙ rw (after-word-at .word-at .ensures, after-word-at2 .word-at2 .ensures) (sym (cause-3 l (entry .pre .0) (entry .pre .1)))) (then1 .if1 .taken) (sym (taken-3 l (entry .pre .0) (entry .pre .1)))
 
 blank-requires : tie.Need-blank-requires
 blank-requires c κs = search needs
 
 returns-2 : tie.Need-returns-2
 returns-2 c =
-    let l = now (c .before .before .before .before .before .before .before .before .args .bytes) in
-    reading-good l (c .before .before .before .before .before .before .before .before .pre .0) (c .before .before .mint-cause .ensures ∙ rw (c .before .before .before .before .word-at .ensures, c .before .before .before .word-at2 .ensures) (sym (cause-3 l (c .before .before .before .before .before .before .before .before .pre .0) (c .before .before .before .before .before .before .before .before .pre .1)))) (c .before .if1 .left) (rw (c .before .before .before .before .word-at .ensures, c .before .before .before .word-at2 .ensures) (sym (record-3 l (c .before .before .before .before .before .before .before .before .pre .0) (c .before .before .before .before .before .before .before .before .pre .1))))
-    (c .blank .ensures ∙ sym (transaction-3 l (c .before .before .before .before .before .before .before .before .pre .0) (c .before .before .before .before .before .before .before .before .pre .1))) (sym (taken-3 l (c .before .before .before .before .before .before .before .before .pre .0) (c .before .before .before .before .before .before .before .before .pre .1)))
+    let else1 : tie.Else1 = search in
+    let after-mint-cause : tie.After-mint-cause = search in
+    let after-word-at2 : tie.After-word-at2 = search in
+    let after-word-at : tie.After-word-at = search in
+    let entry : tie.Start = search in
+    let l = now (entry .args .bytes) in
+    reading-good l (entry .pre .0) (after-mint-cause .mint-cause .ensures ∙ rw (after-word-at .word-at .ensures, after-word-at2 .word-at2 .ensures) (sym (cause-3 l (entry .pre .0) (entry .pre .1)))) (else1 .if1 .left) (rw (after-word-at .word-at .ensures, after-word-at2 .word-at2 .ensures) (sym (record-3 l (entry .pre .0) (entry .pre .1))))
+    (c .blank .ensures ∙ sym (transaction-3 l (entry .pre .0) (entry .pre .1))) (sym (taken-3 l (entry .pre .0) (entry .pre .1)))
 
 pub read-mint-spec : {M : Type 1} → statement M
 read-mint-spec =

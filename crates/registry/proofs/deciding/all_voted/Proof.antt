@@ -13,8 +13,10 @@ outputs-voted-requires c κs = search needs
 
 returns : tie.Need-returns
 returns c =
-    let args = c .before .before .args in
-    let inputs-voted = c .before .inputs-voted in
+    let after-inputs-voted : tie.After-inputs-voted = search in
+    let entry : tie.Start = search in
+    let args = entry .args in
+    let inputs-voted = after-inputs-voted .inputs-voted in
     let outputs-voted = c .outputs-voted in
     let k = slotKnown (now (args .s)) (args .k) in
     all-voted (args .agreed) (k .heard) (k .transaction) (inputs-voted .ensures) (outputs-voted .ensures)

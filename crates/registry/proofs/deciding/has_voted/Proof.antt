@@ -8,14 +8,16 @@ heard-at-requires c κs = search needs
 
 returns : tie.Need-returns
 returns c =
+    let after-heard-at : tie.After-heard-at = search in
     let if1 = c .if1 in
-    let heard-at = c .before .heard-at in
+    let heard-at = after-heard-at .heard-at in
     rw (if1 .taken, ← heard-at .ensures) refl
 
 returns-2 : tie.Need-returns-2
 returns-2 c =
+    let after-heard-at : tie.After-heard-at = search in
     let if1 = c .if1 in
-    let heard-at = c .before .heard-at in
+    let heard-at = after-heard-at .heard-at in
     rw (if1 .left, ← heard-at .ensures) refl
 
 pub has-voted-spec : {M : Type 1} → statement M

@@ -25,12 +25,17 @@ input-voted-requires-4 c κs = search needs
 
 returns : tie.Need-returns
 returns c =
-    let args = c .before .before .before .before .before .args in
-    let pre = c .before .before .before .before .before .pre in
-    let input-count-at = c .before .before .before .before .input-count-at in
-    let input-voted = c .before .before .before .input-voted in
-    let input-voted2 = c .before .before .input-voted2 in
-    let input-voted3 = c .before .input-voted3 in
+    let after-input-voted3 : tie.After-input-voted3 = search in
+    let after-input-voted2 : tie.After-input-voted2 = search in
+    let after-input-voted : tie.After-input-voted = search in
+    let after-input-count-at : tie.After-input-count-at = search in
+    let entry : tie.Start = search in
+    let args = entry .args in
+    let pre = entry .pre in
+    let input-count-at = after-input-count-at .input-count-at in
+    let input-voted = after-input-voted .input-voted in
+    let input-voted2 = after-input-voted2 .input-voted2 in
+    let input-voted3 = after-input-voted3 .input-voted3 in
     let input-voted4 = c .input-voted4 in
     let k = slotKnown (now (args .s)) (args .k) in
     let long = four-inputs (now (args .s)) (args .k) pre in

@@ -10,8 +10,10 @@ all-voted-requires c κs = search needs
 
 returns : tie.Need-returns
 returns c =
-    let args = c .before .before .args in
-    let all-voted = c .before .all-voted in
+    let after-all-voted : tie.After-all-voted = search in
+    let entry : tie.Start = search in
+    let args = entry .args in
+    let all-voted = after-all-voted .all-voted in
     let if1 = c .if1 in
     let k = slotKnown (now (args .s)) (args .k) in
     decide-wait (k .transaction) (k .heard) (all-voted .ensures) (if1 .taken)
@@ -21,20 +23,28 @@ all-voted-requires-2 c κs = search needs
 
 returns-2 : tie.Need-returns-2
 returns-2 c =
-    let args = c .before .before .before .before .args in
-    let all-voted = c .before .before .before .all-voted in
-    let if1 = c .before .before .if1 in
-    let all-voted2 = c .before .all-voted2 in
+    let after-all-voted2 : tie.After-all-voted2 = search in
+    let else1 : tie.Else1 = search in
+    let after-all-voted : tie.After-all-voted = search in
+    let entry : tie.Start = search in
+    let args = entry .args in
+    let all-voted = after-all-voted .all-voted in
+    let if1 = else1 .if1 in
+    let all-voted2 = after-all-voted2 .all-voted2 in
     let if2 = c .if2 in
     let k = slotKnown (now (args .s)) (args .k) in
     decide-commit (k .transaction) (k .heard) (all-voted .ensures) (if1 .left) (all-voted2 .ensures) (if2 .taken)
 
 returns-3 : tie.Need-returns-3
 returns-3 c =
-    let args = c .before .before .before .before .args in
-    let all-voted = c .before .before .before .all-voted in
-    let if1 = c .before .before .if1 in
-    let all-voted2 = c .before .all-voted2 in
+    let after-all-voted2 : tie.After-all-voted2 = search in
+    let else1 : tie.Else1 = search in
+    let after-all-voted : tie.After-all-voted = search in
+    let entry : tie.Start = search in
+    let args = entry .args in
+    let all-voted = after-all-voted .all-voted in
+    let if1 = else1 .if1 in
+    let all-voted2 = after-all-voted2 .all-voted2 in
     let if2 = c .if2 in
     let k = slotKnown (now (args .s)) (args .k) in
     decide-abort (k .transaction) (k .heard) (all-voted .ensures) (if1 .left) (all-voted2 .ensures) (if2 .left)

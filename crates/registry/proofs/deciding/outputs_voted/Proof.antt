@@ -25,12 +25,17 @@ output-voted-requires-4 c κs = search needs
 
 returns : tie.Need-returns
 returns c =
-    let args = c .before .before .before .before .before .args in
-    let pre = c .before .before .before .before .before .pre in
-    let output-count-at = c .before .before .before .before .output-count-at in
-    let output-voted = c .before .before .before .output-voted in
-    let output-voted2 = c .before .before .output-voted2 in
-    let output-voted3 = c .before .output-voted3 in
+    let after-output-voted3 : tie.After-output-voted3 = search in
+    let after-output-voted2 : tie.After-output-voted2 = search in
+    let after-output-voted : tie.After-output-voted = search in
+    let after-output-count-at : tie.After-output-count-at = search in
+    let entry : tie.Start = search in
+    let args = entry .args in
+    let pre = entry .pre in
+    let output-count-at = after-output-count-at .output-count-at in
+    let output-voted = after-output-voted .output-voted in
+    let output-voted2 = after-output-voted2 .output-voted2 in
+    let output-voted3 = after-output-voted3 .output-voted3 in
     let output-voted4 = c .output-voted4 in
     let k = slotKnown (now (args .s)) (args .k) in
     let long = four-outputs (now (args .s)) (args .k) pre in

@@ -25,30 +25,39 @@ same-at-requires c κs = search needs
 
 returns : tie.Need-returns
 returns c =
-    let args = c .before .before .before .before .before .before .args in
-    let pre = c .before .before .before .before .before .before .pre in
-    let place-of-number = c .before .before .before .before .before .place-of-number in
-    let heard-at = c .before .before .heard-at in
-    let if2 = c .before .if2 in
+    let then2 : tie.Then2 = search in
+    let after-heard-at : tie.After-heard-at = search in
+    let after-place-of-number : tie.After-place-of-number = search in
+    let entry : tie.Start = search in
+    let args = entry .args in
+    let pre = entry .pre in
+    let place-of-number = after-place-of-number .place-of-number in
+    let heard-at = after-heard-at .heard-at in
+    let if2 = then2 .if2 in
     let same-at = c .same-at in
     given-if (now (args .s)) (pre .0) (pre .1) (args .sender) (args .verdict) (args .t) (place-of-number .ensures .0)
     (search needs) (heard-at .ensures) (if2 .taken) (same-at .ensures)
 
 returns-2 : tie.Need-returns-2
 returns-2 c =
-    let args = c .before .before .before .before .before .args in
-    let pre = c .before .before .before .before .before .pre in
-    let place-of-number = c .before .before .before .before .place-of-number in
-    let heard-at = c .before .heard-at in
+    let after-heard-at : tie.After-heard-at = search in
+    let after-place-of-number : tie.After-place-of-number = search in
+    let entry : tie.Start = search in
+    let args = entry .args in
+    let pre = entry .pre in
+    let place-of-number = after-place-of-number .place-of-number in
+    let heard-at = after-heard-at .heard-at in
     let if2 = c .if2 in
     given-other (now (args .s)) (pre .0) (pre .1) (args .sender) (args .verdict) (args .t) (place-of-number .ensures .0)
     (search needs) (heard-at .ensures) (if2 .left)
 
 returns-3 : tie.Need-returns-3
 returns-3 c =
-    let args = c .before .before .before .args in
-    let pre = c .before .before .before .pre in
-    let place-of-number = c .before .before .place-of-number in
+    let after-place-of-number : tie.After-place-of-number = search in
+    let entry : tie.Start = search in
+    let args = entry .args in
+    let pre = entry .pre in
+    let place-of-number = after-place-of-number .place-of-number in
     given-none (now (args .s)) (pre .0) (pre .1) (args .sender) (args .verdict) (args .t) (place-of-number .ensures .0)
     (search needs)
 

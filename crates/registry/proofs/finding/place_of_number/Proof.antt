@@ -29,10 +29,13 @@ number-at-requires c κs = search needs
 returns : tie.Need-returns Inv-loop μ-loop
 unfolding view
 returns c =
-    let number-at = c .before .number-at in
+    let after-number-at : tie.After-number-at Inv-loop μ-loop = search in
+    let at-loop : tie.At-loop Inv-loop μ-loop = search in
+    let entry : tie.Start Inv-loop μ-loop = search in
+    let number-at = after-number-at .number-at in
     let if1 = c .if1 in
-    let loop = c .before .before .before .loop in
-    let args = c .before .before .before .before .before .args in
+    let loop = at-loop .loop in
+    let args = entry .args in
     let hit = eq-eqb _ (args .number) (sym (number-at .ensures) ∙ if1 .taken) in
     (sym (find-hit noKnown (loop .inv .1) (omega arith) (omega (arith, length-known (now (args .s)))) hit), omega arith)
 
@@ -44,17 +47,21 @@ loop-less c = search needs
 
 loop-again : tie.Need-loop-again Inv-loop μ-loop
 loop-again c =
-    let number-at = c .before .number-at in
+    let after-number-at : tie.After-number-at Inv-loop μ-loop = search in
+    let at-loop : tie.At-loop Inv-loop μ-loop = search in
+    let entry : tie.Start Inv-loop μ-loop = search in
+    let number-at = after-number-at .number-at in
     let if1 = c .if1 in
-    let loop = c .before .before .before .loop in
-    let args = c .before .before .before .before .before .args in
+    let loop = at-loop .loop in
+    let args = entry .args in
     let miss = ne-eqb _ (args .number) (λ e. if1 .left (number-at .ensures ∙ e)) in
     (loop .inv .0, find-next noKnown (loop .inv .1) (omega arith) (omega (arith, length-known (now (args .s)))) miss)
 
 returns-2 : tie.Need-returns-2 Inv-loop μ-loop
 unfolding view
 returns-2 c =
-    let loop = c .before .loop in
+    let at-loop : tie.At-loop Inv-loop μ-loop = search in
+    let loop = at-loop .loop in
     (sym (find-end (loop .inv .1) (omega arith)), omega arith)
 
 pub place-of-number-spec : {M : Type 1} → statement M

@@ -13,9 +13,11 @@ same-transaction-requires c κs = search needs
 
 returns : tie.Need-returns
 returns c =
+    let after-transaction-at : tie.After-transaction-at = search in
+    let entry : tie.Start = search in
     let same-transaction = c .same-transaction in
-    let args = c .before .before .args in
-    let transaction-at = c .before .transaction-at in
+    let args = entry .args in
+    let transaction-at = after-transaction-at .transaction-at in
     same-transaction .ensures ∙ ap (λ (x : Transaction). sameTransaction x (args .t)) (transaction-at .ensures)
 
 pub same-at-spec : {M : Type 1} → statement M

@@ -24,36 +24,50 @@ one-at-requires-4 c κs = search needs
 
 add-result : tie.Need-add-result
 add-result c =
-    let one-at = c .before .before .before .one-at in
-    let one-at2 = c .before .before .one-at2 in
-    let one-at3 = c .before .one-at3 in
+    let after-one-at3 : tie.After-one-at3 = search in
+    let after-one-at2 : tie.After-one-at2 = search in
+    let after-one-at : tie.After-one-at = search in
+    let one-at = after-one-at .one-at in
+    let one-at2 = after-one-at2 .one-at2 in
+    let one-at3 = after-one-at3 .one-at3 in
     let one-at4 = c .one-at4 in
     omega (arith, one-at .ensures .1, one-at2 .ensures .1, one-at3 .ensures .1, one-at4 .ensures .1)
 
 add-result-2 : tie.Need-add-result-2
 add-result-2 c =
-    let one-at = c .before .before .before .one-at in
-    let one-at2 = c .before .before .one-at2 in
-    let one-at3 = c .before .one-at3 in
+    let after-one-at3 : tie.After-one-at3 = search in
+    let after-one-at2 : tie.After-one-at2 = search in
+    let after-one-at : tie.After-one-at = search in
+    let one-at = after-one-at .one-at in
+    let one-at2 = after-one-at2 .one-at2 in
+    let one-at3 = after-one-at3 .one-at3 in
     let one-at4 = c .one-at4 in
     omega (arith, one-at .ensures .1, one-at2 .ensures .1, one-at3 .ensures .1, one-at4 .ensures .1)
 
 add-result-3 : tie.Need-add-result-3
 add-result-3 c =
-    let one-at = c .before .before .before .one-at in
-    let one-at2 = c .before .before .one-at2 in
-    let one-at3 = c .before .one-at3 in
+    let after-one-at3 : tie.After-one-at3 = search in
+    let after-one-at2 : tie.After-one-at2 = search in
+    let after-one-at : tie.After-one-at = search in
+    let one-at = after-one-at .one-at in
+    let one-at2 = after-one-at2 .one-at2 in
+    let one-at3 = after-one-at3 .one-at3 in
     let one-at4 = c .one-at4 in
     omega (arith, one-at .ensures .1, one-at2 .ensures .1, one-at3 .ensures .1, one-at4 .ensures .1)
 
 returns : tie.Need-returns
 returns c =
-    let args = c .before .before .before .before .before .args in
-    let pre = c .before .before .before .before .before .pre in
-    let output-count-at = c .before .before .before .before .output-count-at in
-    let one-at = c .before .before .before .one-at in
-    let one-at2 = c .before .before .one-at2 in
-    let one-at3 = c .before .one-at3 in
+    let after-one-at3 : tie.After-one-at3 = search in
+    let after-one-at2 : tie.After-one-at2 = search in
+    let after-one-at : tie.After-one-at = search in
+    let after-output-count-at : tie.After-output-count-at = search in
+    let entry : tie.Start = search in
+    let args = entry .args in
+    let pre = entry .pre in
+    let output-count-at = after-output-count-at .output-count-at in
+    let one-at = after-one-at .one-at in
+    let one-at2 = after-one-at2 .one-at2 in
+    let one-at3 = after-one-at3 .one-at3 in
     let one-at4 = c .one-at4 in
     let t = slotKnown (now (args .s)) (args .k) .transaction in
     let law = here-count (args .me) t (four-outputs (now (args .s)) (args .k) pre) in

@@ -31,35 +31,48 @@ one-if-requires-4 c κs = search needs
 
 add-result : tie.Need-add-result
 add-result c =
-    let one-if = c .before .before .before .before .before .before .one-if in
-    let one-if2 = c .before .before .before .before .one-if2 in
-    let one-if3 = c .before .before .one-if3 in
+    let after-one-if3 : tie.After-one-if3 = search in
+    let after-one-if2 : tie.After-one-if2 = search in
+    let after-one-if : tie.After-one-if = search in
+    let one-if = after-one-if .one-if in
+    let one-if2 = after-one-if2 .one-if2 in
+    let one-if3 = after-one-if3 .one-if3 in
     let one-if4 = c .one-if4 in
     omega (arith, one-if .ensures .1, one-if2 .ensures .1, one-if3 .ensures .1, one-if4 .ensures .1)
 
 add-result-2 : tie.Need-add-result-2
 add-result-2 c =
-    let one-if = c .before .before .before .before .before .before .one-if in
-    let one-if2 = c .before .before .before .before .one-if2 in
-    let one-if3 = c .before .before .one-if3 in
+    let after-one-if3 : tie.After-one-if3 = search in
+    let after-one-if2 : tie.After-one-if2 = search in
+    let after-one-if : tie.After-one-if = search in
+    let one-if = after-one-if .one-if in
+    let one-if2 = after-one-if2 .one-if2 in
+    let one-if3 = after-one-if3 .one-if3 in
     let one-if4 = c .one-if4 in
     omega (arith, one-if .ensures .1, one-if2 .ensures .1, one-if3 .ensures .1, one-if4 .ensures .1)
 
 add-result-3 : tie.Need-add-result-3
 add-result-3 c =
-    let one-if = c .before .before .before .before .before .before .one-if in
-    let one-if2 = c .before .before .before .before .one-if2 in
-    let one-if3 = c .before .before .one-if3 in
+    let after-one-if3 : tie.After-one-if3 = search in
+    let after-one-if2 : tie.After-one-if2 = search in
+    let after-one-if : tie.After-one-if = search in
+    let one-if = after-one-if .one-if in
+    let one-if2 = after-one-if2 .one-if2 in
+    let one-if3 = after-one-if3 .one-if3 in
     let one-if4 = c .one-if4 in
     omega (arith, one-if .ensures .1, one-if2 .ensures .1, one-if3 .ensures .1, one-if4 .ensures .1)
 
 returns : tie.Need-returns
 returns c =
-    let args = c .before .before .before .before .before .before .before .before .before .args in
-    let good = c .before .before .before .before .before .before .before .before .before .good in
-    let one-if = c .before .before .before .before .before .before .one-if in
-    let one-if2 = c .before .before .before .before .one-if2 in
-    let one-if3 = c .before .before .one-if3 in
+    let after-one-if3 : tie.After-one-if3 = search in
+    let after-one-if2 : tie.After-one-if2 = search in
+    let after-one-if : tie.After-one-if = search in
+    let entry : tie.Start = search in
+    let args = entry .args in
+    let good = entry .good in
+    let one-if = after-one-if .one-if in
+    let one-if2 = after-one-if2 .one-if2 in
+    let one-if3 = after-one-if3 .one-if3 in
     let one-if4 = c .one-if4 in
     let law = here-count (args .me) (args .t) (long-of (args .t) (good .1 .0) .outputs) in (
       law (one-if .ensures .0) (one-if2 .ensures .0) (one-if3 .ensures .0) (one-if4 .ensures .0),

@@ -9,13 +9,15 @@ output-shard-at-requires c κs = search needs
 
 returns : tie.Need-returns
 returns c =
-    let output-shard-at = c .before .output-shard-at in
+    let after-output-shard-at : tie.After-output-shard-at = search in
+    let output-shard-at = after-output-shard-at .output-shard-at in
     let if1 = c .if1 in
     (rw (← output-shard-at .ensures, if1 .taken) refl, omega arith)
 
 returns-2 : tie.Need-returns-2
 returns-2 c =
-    let output-shard-at = c .before .output-shard-at in
+    let after-output-shard-at : tie.After-output-shard-at = search in
+    let output-shard-at = after-output-shard-at .output-shard-at in
     let if1 = c .if1 in
     (rw (← output-shard-at .ensures, if1 .left) refl, omega arith)
 

@@ -11,8 +11,10 @@ count-at-requires c κs = search needs
 
 returns : tie.Need-returns
 returns c =
-    let args = c .before .before .args in
-    let count-at = c .before .count-at in
+    let after-count-at : tie.After-count-at = search in
+    let entry : tie.Start = search in
+    let args = entry .args in
+    let count-at = after-count-at .count-at in
     let if1 = c .if1 in
     let k = slotKnown (now (args .s)) (args .k) in
     (reserves-none (args .me) k (count-at .ensures .0) (if1 .taken), omega arith)
@@ -22,18 +24,24 @@ all-voted-requires c κs = search needs
 
 returns-2 : tie.Need-returns-2
 returns-2 c =
-    let args = c .before .before .before .before .args in
-    let count-at = c .before .before .before .count-at in
-    let all-voted = c .before .all-voted in
+    let after-all-voted : tie.After-all-voted = search in
+    let after-count-at : tie.After-count-at = search in
+    let entry : tie.Start = search in
+    let args = entry .args in
+    let count-at = after-count-at .count-at in
+    let all-voted = after-all-voted .all-voted in
     let if2 = c .if2 in
     let k = slotKnown (now (args .s)) (args .k) in
     (reserves-done (args .me) k (count-at .ensures .0) (all-voted .ensures) (if2 .taken), omega arith)
 
 returns-3 : tie.Need-returns-3
 returns-3 c =
-    let args = c .before .before .before .before .args in
-    let count-at = c .before .before .before .count-at in
-    let all-voted = c .before .all-voted in
+    let after-all-voted : tie.After-all-voted = search in
+    let after-count-at : tie.After-count-at = search in
+    let entry : tie.Start = search in
+    let args = entry .args in
+    let count-at = after-count-at .count-at in
+    let all-voted = after-all-voted .all-voted in
     let if2 = c .if2 in
     let k = slotKnown (now (args .s)) (args .k) in
     (reserves-open (args .me) k (count-at .ensures .0) (all-voted .ensures) (if2 .left), count-at .ensures .1)

@@ -28,8 +28,9 @@ reserved-at-requires c κs = search needs
 
 add-sum : tie.Need-add-sum Inv-loop μ-loop
 add-sum c =
+    let at-loop : tie.At-loop Inv-loop μ-loop = search in
     let reserved-at = c .reserved-at in
-    let loop = c .before .before .loop in
+    let loop = at-loop .loop in
     omega (arith, reserved-at .ensures .1, loop .inv .1 .0)
 
 add-i : tie.Need-add-i Inv-loop μ-loop
@@ -40,8 +41,10 @@ loop-less c = search needs
 
 loop-again : tie.Need-loop-again Inv-loop μ-loop
 loop-again c =
-    let loop = c .before .before .loop in
-    let args = c .before .before .before .before .args in
+    let at-loop : tie.At-loop Inv-loop μ-loop = search in
+    let entry : tie.Start Inv-loop μ-loop = search in
+    let loop = at-loop .loop in
+    let args = entry .args in
     let reserved-at = c .reserved-at in
     let next = sum-next noKnown _ (loop .inv .1 .1) (omega arith) (omega (arith, length-known (now (args .s)))) (reserved-at .ensures .0) in
     (loop .inv .0, (omega (arith, reserved-at .ensures .1, loop .inv .1 .0), next))
@@ -49,7 +52,8 @@ loop-again c =
 returns : tie.Need-returns Inv-loop μ-loop
 unfolding view reserved
 returns c =
-    let loop = c .before .loop in
+    let at-loop : tie.At-loop Inv-loop μ-loop = search in
+    let loop = at-loop .loop in
     (sym (sum-end (loop .inv .1 .1) (omega arith)), omega (arith, loop .inv .1 .0))
 
 pub reserved-here-spec : {M : Type 1} → statement M

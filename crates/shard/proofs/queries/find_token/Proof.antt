@@ -15,9 +15,11 @@ token-at-requires c κs = search needs
 returns : tie.Need-returns
 unfolding tokenOfId
 returns c =
+    let after-place-of-token : tie.After-place-of-token = search in
+    let entry : tie.Start = search in
     let token-at = c .token-at in
-    let args = c .before .before .args in
-    let place-of-token = c .before .place-of-token in
+    let args = entry .args in
+    let place-of-token = after-place-of-token .place-of-token in
     token-at .ensures ∙ ap (tokenAt (view (now (args .s)) .tokens)) (place-of-token .ensures)
 
 pub find-token-spec : {M : Type 1} → statement M

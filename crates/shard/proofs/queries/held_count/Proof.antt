@@ -10,9 +10,10 @@ held-requires c κs = search needs
 
 returns : tie.Need-returns
 returns c =
+    let entry : tie.Start = search in
     let held = c .held in
-    let args = c .before .args in
-    let pre = c .before .pre in
+    let args = entry .args in
+    let pre = entry .pre in
     held .ensures ∙ sym (held-length (now (args .s)) (pre .held))
 
 pub held-count-spec : {M : Type 1} → statement M

@@ -12,10 +12,13 @@ known-at-requires c κs = search needs
 
 returns : tie.Need-returns
 returns c =
-    let args = c .before .before .before .args in
-    let pre = c .before .before .before .pre in
-    let known-count = c .before .before .known-count in
-    let if1 = c .before .if1 in
+    let then1 : tie.Then1 = search in
+    let after-known-count : tie.After-known-count = search in
+    let entry : tie.Start = search in
+    let args = entry .args in
+    let pre = entry .pre in
+    let known-count = after-known-count .known-count in
+    let if1 = then1 .if1 in
     let known-at = c .known-at in
     known-within (now (args .s)) pre (args .place) (known-count .ensures) (if1 .taken) (known-at .ensures)
 
@@ -24,10 +27,13 @@ blank-known-requires c κs = search needs
 
 returns-2 : tie.Need-returns-2
 returns-2 c =
-    let args = c .before .before .before .args in
-    let pre = c .before .before .before .pre in
-    let known-count = c .before .before .known-count in
-    let if1 = c .before .if1 in
+    let else1 : tie.Else1 = search in
+    let after-known-count : tie.After-known-count = search in
+    let entry : tie.Start = search in
+    let args = entry .args in
+    let pre = entry .pre in
+    let known-count = after-known-count .known-count in
+    let if1 = else1 .if1 in
     let blank-known = c .blank-known in
     known-behind (now (args .s)) pre (args .place) (known-count .ensures) (if1 .left) (blank-known .ensures)
 

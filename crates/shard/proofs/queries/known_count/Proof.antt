@@ -10,9 +10,10 @@ known-count-requires c κs = search needs
 
 returns : tie.Need-returns
 returns c =
+    let entry : tie.Start = search in
     let known-count = c .known-count in
-    let args = c .before .args in
-    let pre = c .before .pre in
+    let args = entry .args in
+    let pre = entry .pre in
     known-count .ensures ∙ sym (known-length (now (args .s)) (pre .known))
 
 pub known-count-spec : {M : Type 1} → statement M

@@ -12,15 +12,18 @@ outcome-at-requires c κs = search needs
 
 returns : tie.Need-returns
 returns c =
-    let entry = c .before .before .before in
-    let known-count = c .before .before .known-count in
-    let if1 = c .before .if1 in
+    let then1 : tie.Then1 = search in
+    let after-known-count : tie.After-known-count = search in
+    let entry : tie.Start = search in
+    let known-count = after-known-count .known-count in
+    let if1 = then1 .if1 in
     outcome-within (now (entry .args .s)) (entry .pre) (entry .args .place) (known-count .ensures) (if1 .taken) (c .outcome-at .ensures)
 
 returns-2 : tie.Need-returns-2
 returns-2 c =
-    let entry = c .before .before in
-    let known-count = c .before .known-count in
+    let after-known-count : tie.After-known-count = search in
+    let entry : tie.Start = search in
+    let known-count = after-known-count .known-count in
     outcome-behind (now (entry .args .s)) (entry .pre) (entry .args .place) (known-count .ensures) (c .if1 .left)
 
 pub outcome-at-spec : {M : Type 1} → statement M

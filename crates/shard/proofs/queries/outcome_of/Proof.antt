@@ -12,7 +12,8 @@ outcome-at-requires c κs = search needs
 returns : tie.Need-returns
 unfolding outcomeOfNumber
 returns c =
-    let place-of-number = c .before .place-of-number in
+    let after-place-of-number : tie.After-place-of-number = search in
+    let place-of-number = after-place-of-number .place-of-number in
     let outcome-at = c .outcome-at in
     rw (← place-of-number .ensures .0) (outcome-at .ensures)
 

@@ -28,10 +28,13 @@ is-token-requires c κs = search needs
 returns : tie.Need-returns Inv-loop μ-loop
 unfolding view
 returns c =
-    let args = c .before .before .before .before .before .args in
-    let loop = c .before .before .before .loop in
-    let pre = c .before .before .before .before .before .pre in
-    let is-token = c .before .is-token in
+    let after-is-token : tie.After-is-token Inv-loop μ-loop = search in
+    let at-loop : tie.At-loop Inv-loop μ-loop = search in
+    let entry : tie.Start Inv-loop μ-loop = search in
+    let args = entry .args in
+    let loop = at-loop .loop in
+    let pre = entry .pre in
+    let is-token = after-is-token .is-token in
     let if1 = c .if1 in
     let long = length-tokens (now (args .s)) in
     sym (find-hit noToken (loop .inv .1) (omega arith) (omega (arith, pre .held, long)) (rw (← is-token .ensures) (if1 .taken)))
@@ -44,10 +47,13 @@ loop-less c = search needs
 
 loop-again : tie.Need-loop-again Inv-loop μ-loop
 loop-again c =
-    let args = c .before .before .before .before .before .args in
-    let loop = c .before .before .before .loop in
-    let pre = c .before .before .before .before .before .pre in
-    let is-token = c .before .is-token in
+    let after-is-token : tie.After-is-token Inv-loop μ-loop = search in
+    let at-loop : tie.At-loop Inv-loop μ-loop = search in
+    let entry : tie.Start Inv-loop μ-loop = search in
+    let args = entry .args in
+    let loop = at-loop .loop in
+    let pre = entry .pre in
+    let is-token = after-is-token .is-token in
     let if1 = c .if1 in
     let long = length-tokens (now (args .s)) in
     (loop .inv .0, find-next noToken (loop .inv .1) (omega arith) (omega (arith, pre .held, long)) (rw (← is-token .ensures) (if1 .left)))
@@ -55,7 +61,8 @@ loop-again c =
 returns-2 : tie.Need-returns-2 Inv-loop μ-loop
 unfolding view
 returns-2 c =
-    let loop = c .before .loop in
+    let at-loop : tie.At-loop Inv-loop μ-loop = search in
+    let loop = at-loop .loop in
     sym (find-end (loop .inv .1) (omega arith))
 
 pub place-of-token-spec : {M : Type 1} → statement M

@@ -12,18 +12,23 @@ token-at-requires c κs = search needs
 
 returns : tie.Need-returns
 returns c =
-    let args = c .before .before .before .args in
-    let pre = c .before .before .before .pre in
-    let held = c .before .before .held in
-    let if1 = c .before .if1 in
+    let then1 : tie.Then1 = search in
+    let after-held : tie.After-held = search in
+    let entry : tie.Start = search in
+    let args = entry .args in
+    let pre = entry .pre in
+    let held = after-held .held in
+    let if1 = then1 .if1 in
     let token-at = c .token-at in
     token-within (now (args .s)) pre (args .place) (held .ensures) (if1 .taken) (token-at .ensures)
 
 returns-2 : tie.Need-returns-2
 returns-2 c =
-    let args = c .before .before .args in
-    let pre = c .before .before .pre in
-    let held = c .before .held in
+    let after-held : tie.After-held = search in
+    let entry : tie.Start = search in
+    let args = entry .args in
+    let pre = entry .pre in
+    let held = after-held .held in
     let if1 = c .if1 in
     token-behind (now (args .s)) pre (args .place) (held .ensures) (if1 .left)
 

@@ -31,8 +31,9 @@ wide-requires c κs = search needs
 
 add-sum : tie.Need-add-sum Inv-loop μ-loop
 add-sum c =
+    let at-loop : tie.At-loop Inv-loop μ-loop = search in
     let wide = c .wide in
-    let loop = c .before .before .before .loop in
+    let loop = at-loop .loop in
     omega (arith, wide .ensures .1, loop .inv .1 .0)
 
 add-i : tie.Need-add-i Inv-loop μ-loop
@@ -43,11 +44,14 @@ loop-less c = search needs
 
 loop-again : tie.Need-loop-again Inv-loop μ-loop
 loop-again c =
+    let after-amount-at : tie.After-amount-at Inv-loop μ-loop = search in
+    let at-loop : tie.At-loop Inv-loop μ-loop = search in
+    let entry : tie.Start Inv-loop μ-loop = search in
     let wide = c .wide in
-    let amount-at = c .before .amount-at in
-    let loop = c .before .before .before .loop in
-    let pre = c .before .before .before .before .before .pre in
-    let args = c .before .before .before .before .before .args in
+    let amount-at = after-amount-at .amount-at in
+    let loop = at-loop .loop in
+    let pre = entry .pre in
+    let args = entry .args in
     let amount = wide .ensures .0 ∙ amount-at .ensures in
     let next = sum-next noToken _ (loop .inv .1 .1) (omega arith) (omega (arith, pre .held, length-tokens (now (args .s)))) amount in
     (loop .inv .0, (omega (arith, wide .ensures .1, loop .inv .1 .0), next))
@@ -55,8 +59,10 @@ loop-again c =
 returns : tie.Need-returns Inv-loop μ-loop
 unfolding view totalAmount
 returns c =
-    let loop = c .before .loop in
-    let pre = c .before .before .before .pre in
+    let at-loop : tie.At-loop Inv-loop μ-loop = search in
+    let entry : tie.Start Inv-loop μ-loop = search in
+    let loop = at-loop .loop in
+    let pre = entry .pre in
     (sym (sum-end (loop .inv .1 .1) (omega arith)), omega (arith, loop .inv .1 .0, loop .inv .1 .1 .within, pre .held))
 
 pub total-amount-spec : {M : Type 1} → statement M

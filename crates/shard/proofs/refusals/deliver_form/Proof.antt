@@ -10,7 +10,8 @@ use Rattle.shard.proofs.refusals.deliver_form.Tie as tie
 returns : tie.Need-returns
 unfolding deliverForm
 returns c =
-    let args = c .before .args in
+    let entry : tie.Start = search in
+    let args = entry .args in
     let if1 = c .if1 in
     let last = partRow (args .sender) (args .t) [] in
     let rest = partRow (args .receiver) (args .t) last in
@@ -23,9 +24,12 @@ vote-cause-requires c κs = search needs
 returns-2 : tie.Need-returns-2
 unfolding deliverForm
 returns-2 c =
-    let args = c .before .before .before .args in
-    let if1 = c .before .before .if1 in
-    let vote-cause = c .before .vote-cause in
+    let after-vote-cause : tie.After-vote-cause = search in
+    let else1 : tie.Else1 = search in
+    let entry : tie.Start = search in
+    let args = entry .args in
+    let if1 = else1 .if1 in
+    let vote-cause = after-vote-cause .vote-cause in
     let if2 = c .if2 in
     let last = partRow (args .sender) (args .t) [] in
     let rest = partRow (args .receiver) (args .t) last in
@@ -38,11 +42,16 @@ takes-part-requires c κs = search needs
 returns-3 : tie.Need-returns-3
 unfolding deliverForm
 returns-3 c =
-    let args = c .before .before .before .before .before .args in
-    let if1 = c .before .before .before .before .if1 in
-    let vote-cause = c .before .before .before .vote-cause in
-    let if2 = c .before .before .if2 in
-    let takes-part = c .before .takes-part in
+    let after-takes-part : tie.After-takes-part = search in
+    let else2 : tie.Else2 = search in
+    let after-vote-cause : tie.After-vote-cause = search in
+    let else1 : tie.Else1 = search in
+    let entry : tie.Start = search in
+    let args = entry .args in
+    let if1 = else1 .if1 in
+    let vote-cause = after-vote-cause .vote-cause in
+    let if2 = else2 .if2 in
+    let takes-part = after-takes-part .takes-part in
     let if3 = c .if3 in
     let last = partRow (args .sender) (args .t) [] in
     let rest = partRow (args .receiver) (args .t) last in
@@ -56,13 +65,20 @@ takes-part-requires-2 c κs = search needs
 returns-4 : tie.Need-returns-4
 unfolding deliverForm
 returns-4 c =
-    let args = c .before .before .before .before .before .before .before .args in
-    let if1 = c .before .before .before .before .before .before .if1 in
-    let vote-cause = c .before .before .before .before .before .vote-cause in
-    let if2 = c .before .before .before .before .if2 in
-    let takes-part = c .before .before .before .takes-part in
-    let if3 = c .before .before .if3 in
-    let takes-part2 = c .before .takes-part2 in
+    let after-takes-part2 : tie.After-takes-part2 = search in
+    let else3 : tie.Else3 = search in
+    let after-takes-part : tie.After-takes-part = search in
+    let else2 : tie.Else2 = search in
+    let after-vote-cause : tie.After-vote-cause = search in
+    let else1 : tie.Else1 = search in
+    let entry : tie.Start = search in
+    let args = entry .args in
+    let if1 = else1 .if1 in
+    let vote-cause = after-vote-cause .vote-cause in
+    let if2 = else2 .if2 in
+    let takes-part = after-takes-part .takes-part in
+    let if3 = else3 .if3 in
+    let takes-part2 = after-takes-part2 .takes-part2 in
     let if4 = c .if4 in
     let last = partRow (args .sender) (args .t) [] in
     let rest = partRow (args .receiver) (args .t) last in
@@ -74,13 +90,20 @@ returns-4 c =
 returns-5 : tie.Need-returns-5
 unfolding deliverForm
 returns-5 c =
-    let args = c .before .before .before .before .before .before .before .args in
-    let if1 = c .before .before .before .before .before .before .if1 in
-    let vote-cause = c .before .before .before .before .before .vote-cause in
-    let if2 = c .before .before .before .before .if2 in
-    let takes-part = c .before .before .before .takes-part in
-    let if3 = c .before .before .if3 in
-    let takes-part2 = c .before .takes-part2 in
+    let after-takes-part2 : tie.After-takes-part2 = search in
+    let else3 : tie.Else3 = search in
+    let after-takes-part : tie.After-takes-part = search in
+    let else2 : tie.Else2 = search in
+    let after-vote-cause : tie.After-vote-cause = search in
+    let else1 : tie.Else1 = search in
+    let entry : tie.Start = search in
+    let args = entry .args in
+    let if1 = else1 .if1 in
+    let vote-cause = after-vote-cause .vote-cause in
+    let if2 = else2 .if2 in
+    let takes-part = after-takes-part .takes-part in
+    let if3 = else3 .if3 in
+    let takes-part2 = after-takes-part2 .takes-part2 in
     let if4 = c .if4 in
     let last = partRow (args .sender) (args .t) [] in
     let rest = partRow (args .receiver) (args .t) last in

@@ -28,12 +28,17 @@ add-if1-2 c = search needs
 
 returns : tie.Need-returns
 returns c =
-    let args = c .before .before .before .before .before .args in
-    let pre = c .before .before .before .before .before .pre in
-    let own-number = c .before .before .before .before .own-number in
-    let held = c .before .before .before .held in
-    let count-here = c .before .before .count-here in
-    let known-count = c .before .known-count in
+    let after-known-count : tie.After-known-count = search in
+    let after-count-here : tie.After-count-here = search in
+    let after-held : tie.After-held = search in
+    let after-own-number : tie.After-own-number = search in
+    let entry : tie.Start = search in
+    let args = entry .args in
+    let pre = entry .pre in
+    let own-number = after-own-number .own-number in
+    let held = after-held .held in
+    let count-here = after-count-here .count-here in
+    let known-count = after-known-count .known-count in
     not-full (now (args .s)) pre (args .t) (own-number .ensures) (held .ensures) (count-here .ensures .0) (known-count .ensures) (omega arith)
 
 reserved-here-requires : tie.Need-reserved-here-requires
@@ -47,11 +52,15 @@ add-result-2 c = search needs
 
 returns-2 : tie.Need-returns-2
 returns-2 c =
-    let args = c .before .before .before .before .before .before .args in
-    let pre = c .before .before .before .before .before .before .pre in
-    let own-number = c .before .before .before .before .before .own-number in
-    let held = c .before .before .before .before .held in
-    let count-here = c .before .before .before .count-here in
+    let after-count-here : tie.After-count-here = search in
+    let after-held : tie.After-held = search in
+    let after-own-number : tie.After-own-number = search in
+    let entry : tie.Start = search in
+    let args = entry .args in
+    let pre = entry .pre in
+    let own-number = after-own-number .own-number in
+    let held = after-held .held in
+    let count-here = after-count-here .count-here in
     let reserved-here = c .reserved-here in
     full-is (now (args .s)) pre (args .t) (own-number .ensures) (held .ensures) (count-here .ensures .0) (reserved-here .ensures .0)
 

@@ -8,7 +8,8 @@ use Rattle.shard.proofs.refusals.register_form.Tie as tie
 
 returns : tie.Need-returns
 returns c =
-    let args = c .before .args in
+    let entry : tie.Start = search in
+    let args = entry .args in
     let if1 = c .if1 in
     let rest = partRow (args .receiver) (args .t) [] in
     other-shard (args .receiver) (args .me) (registerChecks 128 (args .receiver) (args .t)) rest (if1 .taken)
@@ -18,9 +19,12 @@ register-cause-requires c κs = search needs
 
 returns-2 : tie.Need-returns-2
 returns-2 c =
-    let args = c .before .before .before .args in
-    let if1 = c .before .before .if1 in
-    let register-cause = c .before .register-cause in
+    let after-register-cause : tie.After-register-cause = search in
+    let else1 : tie.Else1 = search in
+    let entry : tie.Start = search in
+    let args = entry .args in
+    let if1 = else1 .if1 in
+    let register-cause = after-register-cause .register-cause in
     let if2 = c .if2 in
     let rest = partRow (args .receiver) (args .t) [] in
     check-fits (args .receiver) (args .me) (registerChecks 128 (args .receiver) (args .t)) rest (if1 .left) (register-cause .ensures) (if2 .taken)
@@ -30,11 +34,16 @@ takes-part-requires c κs = search needs
 
 returns-3 : tie.Need-returns-3
 returns-3 c =
-    let args = c .before .before .before .before .before .args in
-    let if1 = c .before .before .before .before .if1 in
-    let register-cause = c .before .before .before .register-cause in
-    let if2 = c .before .before .if2 in
-    let takes-part = c .before .takes-part in
+    let after-takes-part : tie.After-takes-part = search in
+    let else2 : tie.Else2 = search in
+    let after-register-cause : tie.After-register-cause = search in
+    let else1 : tie.Else1 = search in
+    let entry : tie.Start = search in
+    let args = entry .args in
+    let if1 = else1 .if1 in
+    let register-cause = after-register-cause .register-cause in
+    let if2 = else2 .if2 in
+    let takes-part = after-takes-part .takes-part in
     let if3 = c .if3 in
     let rest = partRow (args .receiver) (args .t) [] in
     let checks = registerChecks 128 (args .receiver) (args .t) in
@@ -43,11 +52,16 @@ returns-3 c =
 
 returns-4 : tie.Need-returns-4
 returns-4 c =
-    let args = c .before .before .before .before .before .args in
-    let if1 = c .before .before .before .before .if1 in
-    let register-cause = c .before .before .before .register-cause in
-    let if2 = c .before .before .if2 in
-    let takes-part = c .before .takes-part in
+    let after-takes-part : tie.After-takes-part = search in
+    let else2 : tie.Else2 = search in
+    let after-register-cause : tie.After-register-cause = search in
+    let else1 : tie.Else1 = search in
+    let entry : tie.Start = search in
+    let args = entry .args in
+    let if1 = else1 .if1 in
+    let register-cause = after-register-cause .register-cause in
+    let if2 = else2 .if2 in
+    let takes-part = after-takes-part .takes-part in
     let if3 = c .if3 in
     let rest = partRow (args .receiver) (args .t) [] in
     let checks = registerChecks 128 (args .receiver) (args .t) in

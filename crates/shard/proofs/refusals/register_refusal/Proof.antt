@@ -19,9 +19,12 @@ register-form-requires c κs = search needs
 returns : tie.Need-returns
 unfolding registerRefusals
 returns c =
-    let args = c .before .before .before .args in
-    let register-form = c .before .register-form in
-    let own-number = c .before .before .own-number in
+    let after-register-form : tie.After-register-form = search in
+    let after-own-number : tie.After-own-number = search in
+    let entry : tie.Start = search in
+    let args = entry .args in
+    let register-form = after-register-form .register-form in
+    let own-number = after-own-number .own-number in
     let if1 = c .if1 in
     let ws = now (args .s) in
     let form = register-form .ensures ∙ ap (λ (me : ℕ). firstOf (registerForm me (args .receiver) (args .t))) (own-number .ensures) in
@@ -33,10 +36,14 @@ register-ledger-requires c κs = search needs
 returns-2 : tie.Need-returns-2
 unfolding registerRefusals
 returns-2 c =
-    let args = c .before .before .before .before .args in
-    let register-form = c .before .before .register-form in
-    let own-number = c .before .before .before .own-number in
-    let if1 = c .before .if1 in
+    let else1 : tie.Else1 = search in
+    let after-register-form : tie.After-register-form = search in
+    let after-own-number : tie.After-own-number = search in
+    let entry : tie.Start = search in
+    let args = entry .args in
+    let register-form = after-register-form .register-form in
+    let own-number = after-own-number .own-number in
+    let if1 = else1 .if1 in
     let register-ledger = c .register-ledger in
     let ws = now (args .s) in
     let form = register-form .ensures ∙ ap (λ (me : ℕ). firstOf (registerForm me (args .receiver) (args .t))) (own-number .ensures) in

@@ -21,9 +21,9 @@ returns c =
 returns-2 : tie.Need-returns-2
 unfolding view
 returns-2 c =
-    let args = c .before .args in
-    let all = length-given (now (args .s)) in
-    sym (List·getD-eq-default (givenOf (now (args .s))) false {n = args .index} (omega arith))
+    let entry : tie.Start = search in
+    let args = entry .args in
+    sym (List·getD-eq-default (givenOf (now (args .s))) false {n = args .index} (omega (arith, length-given (now (args .s)))))
 
 pub was-given-spec : {M : Type 1} → statement M
 was-given-spec = tie.close (tie.spec is-given-requires returns returns-2)

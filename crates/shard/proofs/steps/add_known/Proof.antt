@@ -18,9 +18,12 @@ set-known-count-requires c κs = search needs
 
 returns : tie.Need-returns
 returns c =
-    let args = c .before .before .before .before .before .before .args in
-    let known-count = c .before .before .before .before .known-count in
-    let put-known = c .before .before .put-known in
+    let after-put-known : tie.After-put-known = search in
+    let after-known-count : tie.After-known-count = search in
+    let entry : tie.Start = search in
+    let args = entry .args in
+    let known-count = after-known-count .known-count in
+    let put-known = after-put-known .put-known in
     let set-known-count = c .set-known-count in
     grown (now (args .s)) _ _ (args .k) (known-count .ensures) (put-known .ensures) (set-known-count .ensures)
 

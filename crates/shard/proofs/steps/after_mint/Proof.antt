@@ -23,10 +23,14 @@ give-requires c κs = search needs
 
 returns : tie.Need-returns
 returns c =
-    let args = c .before .before .before .before .before .before .before .before .args in
-    let held = c .before .before .before .before .before .before .held in
-    let put-token = c .before .before .before .before .put-token in
-    let set-held = c .before .before .set-held in
+    let after-set-held : tie.After-set-held = search in
+    let after-put-token : tie.After-put-token = search in
+    let after-held : tie.After-held = search in
+    let entry : tie.Start = search in
+    let args = entry .args in
+    let held = after-held .held in
+    let put-token = after-put-token .put-token in
+    let set-held = after-set-held .set-held in
     let give = c .give in
     let law = minted (now (args .s)) _ _ _ (args .index) (args .owner) (args .amount) (held .ensures) refl (search needs) in
     law (put-token .ensures) (set-held .ensures) (give .ensures)

@@ -9,16 +9,20 @@ pledge-here-requires c κs = search needs
 
 enter-requires : tie.Need-enter-requires
 enter-requires c κs =
-    let args = c .before .before .before .args in
-    let pre = c .before .before .before .pre in
-    let pledge-here = c .before .pledge-here in
+    let after-pledge-here : tie.After-pledge-here = search in
+    let entry : tie.Start = search in
+    let args = entry .args in
+    let pre = entry .pre in
+    let pledge-here = after-pledge-here .pledge-here in
     entering (now (args .s)) (pre .0) (args .t) (pre .1) _ (pledge-here .ensures .0) (pledge-here .ensures .1)
 
 returns : tie.Need-returns
 returns c =
-    let args = c .before .before .before .before .args in
-    let pre = c .before .before .before .before .pre in
-    let pledge-here = c .before .before .pledge-here in
+    let after-pledge-here : tie.After-pledge-here = search in
+    let entry : tie.Start = search in
+    let args = entry .args in
+    let pre = entry .pre in
+    let pledge-here = after-pledge-here .pledge-here in
     let enter = c .enter in
     register-carried (now (args .s)) (pre .0) (args .t) (pre .1) _ (pledge-here .ensures .0) (pledge-here .ensures .1) _ (enter .ensures)
 

@@ -5,40 +5,51 @@ use Rattle.shard.proofs.steps.carry_vote.Tie as tie
 
 heard-at-requires : tie.Need-heard-at-requires
 heard-at-requires c κs =
-    let args = c .before .args in
-    let pre = c .before .pre in
+    let entry : tie.Start = search in
+    let args = entry .args in
+    let pre = entry .pre in
     vote-slot (now (args .s)) (pre .0) (args .sender) (args .verdict) (args .t) (pre .1 .1) (pre .1 .0)
 
 fresh-vote-requires : tie.Need-fresh-vote-requires
 fresh-vote-requires c κs =
-    let args = c .before .before .before .before .args in
-    let pre = c .before .before .before .before .pre in
-    let heard-at = c .before .before .heard-at in
-    let if1 = c .before .if1 in
+    let then1 : tie.Then1 = search in
+    let after-heard-at : tie.After-heard-at = search in
+    let entry : tie.Start = search in
+    let args = entry .args in
+    let pre = entry .pre in
+    let heard-at = after-heard-at .heard-at in
+    let if1 = then1 .if1 in
     fresh-ready (now (args .s)) (pre .0) (args .sender) (args .verdict) (args .t) (pre .1 .1) (pre .1 .0) (heard-at .ensures) (if1 .taken)
 
 returns : tie.Need-returns
 returns c =
-    let args = c .before .before .before .before .before .args in
-    let pre = c .before .before .before .before .before .pre in
-    let heard-at = c .before .before .before .heard-at in
-    let if1 = c .before .before .if1 in
+    let then1 : tie.Then1 = search in
+    let after-heard-at : tie.After-heard-at = search in
+    let entry : tie.Start = search in
+    let args = entry .args in
+    let pre = entry .pre in
+    let heard-at = after-heard-at .heard-at in
+    let if1 = then1 .if1 in
     let fresh-vote = c .fresh-vote in
     fresh-carried (now (args .s)) (pre .0) (args .sender) (args .verdict) (args .t) (pre .1 .1) (pre .1 .0) (heard-at .ensures) (if1 .taken) _
     (fresh-vote .ensures)
 
 outcome-at-requires : tie.Need-outcome-at-requires
 outcome-at-requires c κs =
-    let args = c .before .before .before .before .args in
-    let pre = c .before .before .before .before .pre in
+    let entry : tie.Start = search in
+    let args = entry .args in
+    let pre = entry .pre in
     vote-slot (now (args .s)) (pre .0) (args .sender) (args .verdict) (args .t) (pre .1 .1) (pre .1 .0)
 
 returns-2 : tie.Need-returns-2
 returns-2 c =
-    let args = c .before .before .before .before .before .args in
-    let pre = c .before .before .before .before .before .pre in
-    let heard-at = c .before .before .before .heard-at in
-    let if1 = c .before .before .if1 in
+    let else1 : tie.Else1 = search in
+    let after-heard-at : tie.After-heard-at = search in
+    let entry : tie.Start = search in
+    let args = entry .args in
+    let pre = entry .pre in
+    let heard-at = after-heard-at .heard-at in
+    let if1 = else1 .if1 in
     let outcome-at = c .outcome-at in
     again-carried (now (args .s)) (pre .0) (args .sender) (args .verdict) (args .t) (pre .1 .1) (pre .1 .0) (heard-at .ensures) (if1 .left)
     (outcome-at .ensures)

@@ -11,15 +11,19 @@ outcome-at-requires c κs = search needs
 
 settle-at-requires : tie.Need-settle-at-requires
 settle-at-requires c κs =
-    let args = c .before .before .before .args in
-    let outcome-at = c .before .outcome-at in
-    let pre = c .before .before .before .pre in
+    let after-outcome-at : tie.After-outcome-at = search in
+    let entry : tie.Start = search in
+    let args = entry .args in
+    let outcome-at = after-outcome-at .outcome-at in
+    let pre = entry .pre in
     subst (λ (o : Outcome). Settling o (args .place) (now (args .s))) (sym (outcome-at .ensures)) pre
 
 returns : tie.Need-returns
 returns c =
-    let outcome-at = c .before .before .outcome-at in
-    let args = c .before .before .before .before .args in
+    let after-outcome-at : tie.After-outcome-at = search in
+    let entry : tie.Start = search in
+    let outcome-at = after-outcome-at .outcome-at in
+    let args = entry .args in
     let settle-at = c .settle-at in
     (outcome-at .ensures, subst (λ (o : Outcome). Settles o (args .place) (now (args .s)) (settle-at .last .0)) (outcome-at .ensures) (settle-at .ensures))
 

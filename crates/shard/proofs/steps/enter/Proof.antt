@@ -18,22 +18,32 @@ add-known-requires c κs = search needs
 
 decide-at-requires : tie.Need-decide-at-requires
 decide-at-requires c κs =
-    let args = c .before .before .before .before .before .before .before .before .args in
-    let pre = c .before .before .before .before .before .before .before .before .pre in
-    let own-number = c .before .before .before .before .before .before .own-number in
-    let known-count = c .before .before .before .before .known-count in
-    let newly-known = c .before .before .before .newly-known in
-    let add-known = c .before .add-known in
+    let after-add-known : tie.After-add-known = search in
+    let after-newly-known : tie.After-newly-known = search in
+    let after-known-count : tie.After-known-count = search in
+    let after-own-number : tie.After-own-number = search in
+    let entry : tie.Start = search in
+    let args = entry .args in
+    let pre = entry .pre in
+    let own-number = after-own-number .own-number in
+    let known-count = after-known-count .known-count in
+    let newly-known = after-newly-known .newly-known in
+    let add-known = after-add-known .add-known in
     enter-decides (args .verdict) (args .t) (now (args .s)) pre _ (own-number .ensures) (known-count .ensures) (newly-known .ensures) (add-known .ensures)
 
 returns : tie.Need-returns
 returns c =
-    let args = c .before .before .before .before .before .before .before .before .before .args in
-    let pre = c .before .before .before .before .before .before .before .before .before .pre in
-    let own-number = c .before .before .before .before .before .before .before .own-number in
-    let known-count = c .before .before .before .before .before .known-count in
-    let newly-known = c .before .before .before .before .newly-known in
-    let add-known = c .before .before .add-known in
+    let after-add-known : tie.After-add-known = search in
+    let after-newly-known : tie.After-newly-known = search in
+    let after-known-count : tie.After-known-count = search in
+    let after-own-number : tie.After-own-number = search in
+    let entry : tie.Start = search in
+    let args = entry .args in
+    let pre = entry .pre in
+    let own-number = after-own-number .own-number in
+    let known-count = after-known-count .known-count in
+    let newly-known = after-newly-known .newly-known in
+    let add-known = after-add-known .add-known in
     let decide-at = c .decide-at in
     entered (args .verdict) (args .t) (now (args .s)) pre _ (own-number .ensures) (known-count .ensures) (newly-known .ensures) (add-known .ensures) _
     (decide-at .ensures .0) (decide-at .ensures .1)

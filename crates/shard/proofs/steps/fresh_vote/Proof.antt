@@ -12,16 +12,20 @@ put-heard-requires c κs = search needs
 
 decide-at-requires : tie.Need-decide-at-requires
 decide-at-requires c κs =
-    let args = c .before .before .before .args in
-    let pre = c .before .before .before .pre in
-    let put-heard = c .before .put-heard in
+    let after-put-heard : tie.After-put-heard = search in
+    let entry : tie.Start = search in
+    let args = entry .args in
+    let pre = entry .pre in
+    let put-heard = after-put-heard .put-heard in
     fresh-decides (args .place) (args .sender) (args .verdict) (now (args .s)) pre _ (put-heard .ensures)
 
 returns : tie.Need-returns
 returns c =
-    let args = c .before .before .before .before .args in
-    let pre = c .before .before .before .before .pre in
-    let put-heard = c .before .before .put-heard in
+    let after-put-heard : tie.After-put-heard = search in
+    let entry : tie.Start = search in
+    let args = entry .args in
+    let pre = entry .pre in
+    let put-heard = after-put-heard .put-heard in
     let decide-at = c .decide-at in
     fresh-done (args .place) (args .sender) (args .verdict) (now (args .s)) pre _ (put-heard .ensures) _ (decide-at .ensures .0) (decide-at .ensures .1)
 

@@ -21,11 +21,16 @@ own-vote-requires c κs = search needs
 
 returns : tie.Need-returns
 returns c =
-    let available-of = c .before .before .before .available-of in
-    let args = c .before .before .before .before .before .before .before .before .args in
-    let own-number = c .before .before .before .before .before .before .own-number in
-    let inputs-here = c .before .before .before .before .before .inputs-here in
-    let pledge-all = c .before .pledge-all in
+    let after-pledge-all : tie.After-pledge-all = search in
+    let after-available-of : tie.After-available-of = search in
+    let after-inputs-here : tie.After-inputs-here = search in
+    let after-own-number : tie.After-own-number = search in
+    let entry : tie.Start = search in
+    let available-of = after-available-of .available-of in
+    let args = entry .args in
+    let own-number = after-own-number .own-number in
+    let inputs-here = after-inputs-here .inputs-here in
+    let pledge-all = after-pledge-all .pledge-all in
     let own-vote = c .own-vote in
     let found = available-of .ensures .0 in (
       pledges-here (now (args .s)) (args .t) (own-number .ensures) (inputs-here .ensures .0) found (pledge-all .ensures),

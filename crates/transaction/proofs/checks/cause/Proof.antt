@@ -8,14 +8,21 @@ fields-fit-requires : tie.Need-fields-fit-requires
 fields-fit-requires c κs = search needs
 
 returns : tie.Need-returns
-returns c = cause-3 (c .before .before .args .genesis) (c .before .before .args .t) (c .before .fields-fit .ensures) (not-true _ (c .if1 .taken))
+returns c =
+    let after-fields-fit : tie.After-fields-fit = search in
+    let entry : tie.Start = search in
+    cause-3 (entry .args .genesis) (entry .args .t) (after-fields-fit .fields-fit .ensures) (not-true _ (c .if1 .taken))
 
 named-twice-requires : tie.Need-named-twice-requires
 named-twice-requires c κs = search needs
 
 returns-2 : tie.Need-returns-2
 returns-2 c =
-    cause-4 (c .before .before .before .before .before .args .genesis) (c .before .before .before .before .before .args .t) (c .before .before .before .before .fields-fit .ensures) (not-false _ (c .before .before .before .if1 .left)) (c .before .named-twice .ensures) (c .if2 .taken)
+    let after-named-twice : tie.After-named-twice = search in
+    let else1 : tie.Else1 = search in
+    let after-fields-fit : tie.After-fields-fit = search in
+    let entry : tie.Start = search in
+    cause-4 (entry .args .genesis) (entry .args .t) (after-fields-fit .fields-fit .ensures) (not-false _ (else1 .if1 .left)) (after-named-twice .named-twice .ensures) (c .if2 .taken)
 
 input-total-requires : tie.Need-input-total-requires
 input-total-requires c κs = search needs
@@ -25,13 +32,27 @@ output-total-requires c κs = search needs
 
 returns-3 : tie.Need-returns-3
 returns-3 c =
-    cause-5 (c .before .before .before .before .before .before .before .before .before .args .genesis) (c .before .before .before .before .before .before .before .before .before .args .t) (c .before .before .before .before .before .before .before .before .fields-fit .ensures) (not-false _ (c .before .before .before .before .before .before .before .if1 .left)) (c .before .before .before .before .before .named-twice .ensures) (c .before .before .before .before .if2 .left)
-    (c .before .before .input-total .ensures) (c .before .output-total .ensures) (c .if3 .taken)
+    let after-output-total : tie.After-output-total = search in
+    let after-input-total : tie.After-input-total = search in
+    let else2 : tie.Else2 = search in
+    let after-named-twice : tie.After-named-twice = search in
+    let else1 : tie.Else1 = search in
+    let after-fields-fit : tie.After-fields-fit = search in
+    let entry : tie.Start = search in
+    cause-5 (entry .args .genesis) (entry .args .t) (after-fields-fit .fields-fit .ensures) (not-false _ (else1 .if1 .left)) (after-named-twice .named-twice .ensures) (else2 .if2 .left)
+    (after-input-total .input-total .ensures) (after-output-total .output-total .ensures) (c .if3 .taken)
 
 returns-4 : tie.Need-returns-4
 returns-4 c =
-    cause-0 (c .before .before .before .before .before .before .before .before .before .args .genesis) (c .before .before .before .before .before .before .before .before .before .args .t) (c .before .before .before .before .before .before .before .before .fields-fit .ensures) (not-false _ (c .before .before .before .before .before .before .before .if1 .left)) (c .before .before .before .before .before .named-twice .ensures) (c .before .before .before .before .if2 .left)
-    (c .before .before .input-total .ensures) (c .before .output-total .ensures) (c .if3 .left)
+    let after-output-total : tie.After-output-total = search in
+    let after-input-total : tie.After-input-total = search in
+    let else2 : tie.Else2 = search in
+    let after-named-twice : tie.After-named-twice = search in
+    let else1 : tie.Else1 = search in
+    let after-fields-fit : tie.After-fields-fit = search in
+    let entry : tie.Start = search in
+    cause-0 (entry .args .genesis) (entry .args .t) (after-fields-fit .fields-fit .ensures) (not-false _ (else1 .if1 .left)) (after-named-twice .named-twice .ensures) (else2 .if2 .left)
+    (after-input-total .input-total .ensures) (after-output-total .output-total .ensures) (c .if3 .left)
 
 pub cause-spec : {M : Type 1} → statement M
 cause-spec =

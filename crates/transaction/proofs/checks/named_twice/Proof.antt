@@ -7,6 +7,10 @@ use borrow.Author.Needs.{needs}
 use Rattle.transaction.proofs.checks.named_twice.Statement.{statement}
 use Rattle.transaction.proofs.checks.named_twice.Tie as tie
 
+-- The array has its length.
+long-t2 : (entry : tie.Start) → length (entry .args .t2) ≡ 4
+long-t2 entry = search needs
+
 array-copy-out-a : tie.Need-array-copy-out-a
 array-copy-out-a c = search needs
 
@@ -15,8 +19,9 @@ array-copy-out-b c = search needs
 
 returns : tie.Need-returns
 returns c =
-    let a = c .before .before .before .args in
-    let long : length (a .t2) ≡ 4 = search needs in
+    let entry : tie.Start = search in
+    let a = entry .args in
+    let long = long-t2 entry in
     repeat-1 zeroInput (a .t2) long sameName (a .count) (c .if1 .taken)
 
 same-name-requires : tie.Need-same-name-requires
@@ -24,18 +29,25 @@ same-name-requires c κs = search needs
 
 returns-2 : tie.Need-returns-2
 returns-2 c =
-    let a = c .before .before .before .before .before .args in
-    let long : length (a .t2) ≡ 4 = search needs in
-    repeat-2 zeroInput (a .t2) long sameName (a .count) (c .before .before .if1 .left) (c .before .same-name .ensures) (c .if2 .taken)
+    let after-same-name : tie.After-same-name = search in
+    let else1 : tie.Else1 = search in
+    let entry : tie.Start = search in
+    let a = entry .args in
+    let long = long-t2 entry in
+    repeat-2 zeroInput (a .t2) long sameName (a .count) (else1 .if1 .left) (after-same-name .same-name .ensures) (c .if2 .taken)
 
 array-copy-out-c : tie.Need-array-copy-out-c
 array-copy-out-c c = search needs
 
 returns-3 : tie.Need-returns-3
 returns-3 c =
-    let a = c .before .before .before .before .before .before .before .args in
-    let long : length (a .t2) ≡ 4 = search needs in
-    repeat-3 zeroInput (a .t2) long sameName (a .count) (c .before .before .before .before .if1 .left) (c .before .before .before .same-name .ensures) (c .before .before .if2 .left) (c .if3 .taken)
+    let else2 : tie.Else2 = search in
+    let after-same-name : tie.After-same-name = search in
+    let else1 : tie.Else1 = search in
+    let entry : tie.Start = search in
+    let a = entry .args in
+    let long = long-t2 entry in
+    repeat-3 zeroInput (a .t2) long sameName (a .count) (else1 .if1 .left) (after-same-name .same-name .ensures) (else2 .if2 .left) (c .if3 .taken)
 
 same-name-requires-2 : tie.Need-same-name-requires-2
 same-name-requires-2 c κs = search needs
@@ -45,18 +57,33 @@ same-name-requires-3 c κs = search needs
 
 returns-4 : tie.Need-returns-4
 returns-4 c =
-    let a = c .before .before .before .before .before .before .before .before .before .before .args in
-    let long : length (a .t2) ≡ 4 = search needs in
-    repeat-4 zeroInput (a .t2) long sameName (a .count) (c .before .before .before .before .before .before .before .if1 .left) (c .before .before .before .before .before .before .same-name .ensures) (c .before .before .before .before .before .if2 .left) (c .before .before .before .if3 .left) (c .before .before .same-name2 .ensures) (c .before .same-name3 .ensures) (c .if4 .taken)
+    let after-same-name3 : tie.After-same-name3 = search in
+    let after-same-name2 : tie.After-same-name2 = search in
+    let else3 : tie.Else3 = search in
+    let else2 : tie.Else2 = search in
+    let after-same-name : tie.After-same-name = search in
+    let else1 : tie.Else1 = search in
+    let entry : tie.Start = search in
+    let a = entry .args in
+    let long = long-t2 entry in
+    repeat-4 zeroInput (a .t2) long sameName (a .count) (else1 .if1 .left) (after-same-name .same-name .ensures) (else2 .if2 .left) (else3 .if3 .left) (after-same-name2 .same-name2 .ensures) (after-same-name3 .same-name3 .ensures) (c .if4 .taken)
 
 array-copy-out-d : tie.Need-array-copy-out-d
 array-copy-out-d c = search needs
 
 returns-5 : tie.Need-returns-5
 returns-5 c =
-    let a = c .before .before .before .before .before .before .before .before .before .before .before .before .args in
-    let long : length (a .t2) ≡ 4 = search needs in
-    repeat-5 zeroInput (a .t2) long sameName (a .count) (c .before .before .before .before .before .before .before .before .before .if1 .left) (c .before .before .before .before .before .before .before .before .same-name .ensures) (c .before .before .before .before .before .before .before .if2 .left) (c .before .before .before .before .before .if3 .left) (c .before .before .before .before .same-name2 .ensures) (c .before .before .before .same-name3 .ensures) (c .before .before .if4 .left) (c .if5 .taken)
+    let else4 : tie.Else4 = search in
+    let after-same-name3 : tie.After-same-name3 = search in
+    let after-same-name2 : tie.After-same-name2 = search in
+    let else3 : tie.Else3 = search in
+    let else2 : tie.Else2 = search in
+    let after-same-name : tie.After-same-name = search in
+    let else1 : tie.Else1 = search in
+    let entry : tie.Start = search in
+    let a = entry .args in
+    let long = long-t2 entry in
+    repeat-5 zeroInput (a .t2) long sameName (a .count) (else1 .if1 .left) (after-same-name .same-name .ensures) (else2 .if2 .left) (else3 .if3 .left) (after-same-name2 .same-name2 .ensures) (after-same-name3 .same-name3 .ensures) (else4 .if4 .left) (c .if5 .taken)
 
 same-name-requires-4 : tie.Need-same-name-requires-4
 same-name-requires-4 c κs = search needs
@@ -69,9 +96,20 @@ same-name-requires-6 c κs = search needs
 
 returns-6 : tie.Need-returns-6
 returns-6 c =
-    let a = c .before .before .before .before .before .before .before .before .before .before .before .before .before .before .before .args in
-    let long : length (a .t2) ≡ 4 = search needs in
-    repeat-6 zeroInput (a .t2) long sameName (a .count) (c .before .before .before .before .before .before .before .before .before .before .before .before .if1 .left) (c .before .before .before .before .before .before .before .before .before .before .before .same-name .ensures) (c .before .before .before .before .before .before .before .before .before .before .if2 .left) (c .before .before .before .before .before .before .before .before .if3 .left) (c .before .before .before .before .before .before .before .same-name2 .ensures) (c .before .before .before .before .before .before .same-name3 .ensures) (c .before .before .before .before .before .if4 .left) (c .before .before .before .if5 .left) (c .before .before .same-name4 .ensures) (c .before .same-name5 .ensures) (c .same-name6 .ensures)
+    let after-same-name5 : tie.After-same-name5 = search in
+    let after-same-name4 : tie.After-same-name4 = search in
+    let else5 : tie.Else5 = search in
+    let else4 : tie.Else4 = search in
+    let after-same-name3 : tie.After-same-name3 = search in
+    let after-same-name2 : tie.After-same-name2 = search in
+    let else3 : tie.Else3 = search in
+    let else2 : tie.Else2 = search in
+    let after-same-name : tie.After-same-name = search in
+    let else1 : tie.Else1 = search in
+    let entry : tie.Start = search in
+    let a = entry .args in
+    let long = long-t2 entry in
+    repeat-6 zeroInput (a .t2) long sameName (a .count) (else1 .if1 .left) (after-same-name .same-name .ensures) (else2 .if2 .left) (else3 .if3 .left) (after-same-name2 .same-name2 .ensures) (after-same-name3 .same-name3 .ensures) (else4 .if4 .left) (else5 .if5 .left) (after-same-name4 .same-name4 .ensures) (after-same-name5 .same-name5 .ensures) (c .same-name6 .ensures)
 
 pub named-twice-spec : {M : Type 1} → statement M
 named-twice-spec =

@@ -10,8 +10,10 @@ shard-fits-requires c κs = search needs
 
 returns : tie.Need-returns
 returns c =
-    let a = c .before .before .args in
-    first-fails (shardFits (a .receiver)) 3 (checks (a .genesis) (a .t)) (c .before .shard-fits .ensures) (not-true _ (c .if1 .taken))
+    let after-shard-fits : tie.After-shard-fits = search in
+    let entry : tie.Start = search in
+    let a = entry .args in
+    first-fails (shardFits (a .receiver)) 3 (checks (a .genesis) (a .t)) (after-shard-fits .shard-fits .ensures) (not-true _ (c .if1 .taken))
 
 cause-requires : tie.Need-cause-requires
 cause-requires c κs = search needs
@@ -19,8 +21,11 @@ cause-requires c κs = search needs
 returns-2 : tie.Need-returns-2
 unfolding causeOf
 returns-2 c =
-    let a = c .before .before .before .args in
-    first-passes (shardFits (a .receiver)) 3 (checks (a .genesis) (a .t)) (c .before .before .shard-fits .ensures) (not-false _ (c .before .if1 .left)) (c .cause .ensures)
+    let else1 : tie.Else1 = search in
+    let after-shard-fits : tie.After-shard-fits = search in
+    let entry : tie.Start = search in
+    let a = entry .args in
+    first-passes (shardFits (a .receiver)) 3 (checks (a .genesis) (a .t)) (after-shard-fits .shard-fits .ensures) (not-false _ (else1 .if1 .left)) (c .cause .ensures)
 
 pub register-cause-spec : {M : Type 1} → statement M
 register-cause-spec = tie.close (tie.spec shard-fits-requires returns cause-requires returns-2)

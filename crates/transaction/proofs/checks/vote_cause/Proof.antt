@@ -14,23 +14,34 @@ shard-fits-requires c κs = search needs
 
 returns : tie.Need-returns
 returns c =
-    let a = c .before .before .args in
-    first-fails (shardFits (a .receiver)) 3 ((not (shardFits (a .sender)), 3) ∷ (not (leb (a .verdict) 1), 3) ∷ checks (a .genesis) (a .t)) (c .before .shard-fits .ensures) (not-true _ (c .if1 .taken))
+    let after-shard-fits : tie.After-shard-fits = search in
+    let entry : tie.Start = search in
+    let a = entry .args in
+    first-fails (shardFits (a .receiver)) 3 ((not (shardFits (a .sender)), 3) ∷ (not (leb (a .verdict) 1), 3) ∷ checks (a .genesis) (a .t)) (after-shard-fits .shard-fits .ensures) (not-true _ (c .if1 .taken))
 
 shard-fits-requires-2 : tie.Need-shard-fits-requires-2
 shard-fits-requires-2 c κs = search needs
 
 returns-2 : tie.Need-returns-2
 returns-2 c =
-    let a = c .before .before .before .before .args in
-    first-passes (shardFits (a .receiver)) 3 ((not (shardFits (a .sender)), 3) ∷ (not (leb (a .verdict) 1), 3) ∷ checks (a .genesis) (a .t)) (c .before .before .before .shard-fits .ensures) (not-false _ (c .before .before .if1 .left))
-    (first-fails (shardFits (a .sender)) 3 ((not (leb (a .verdict) 1), 3) ∷ checks (a .genesis) (a .t)) (c .before .shard-fits2 .ensures) (not-true _ (c .if2 .taken)))
+    let after-shard-fits2 : tie.After-shard-fits2 = search in
+    let else1 : tie.Else1 = search in
+    let after-shard-fits : tie.After-shard-fits = search in
+    let entry : tie.Start = search in
+    let a = entry .args in
+    first-passes (shardFits (a .receiver)) 3 ((not (shardFits (a .sender)), 3) ∷ (not (leb (a .verdict) 1), 3) ∷ checks (a .genesis) (a .t)) (after-shard-fits .shard-fits .ensures) (not-false _ (else1 .if1 .left))
+    (first-fails (shardFits (a .sender)) 3 ((not (leb (a .verdict) 1), 3) ∷ checks (a .genesis) (a .t)) (after-shard-fits2 .shard-fits2 .ensures) (not-true _ (c .if2 .taken)))
 
 returns-3 : tie.Need-returns-3
 returns-3 c =
-    let a = c .before .before .before .before .before .args in
-    first-passes (shardFits (a .receiver)) 3 ((not (shardFits (a .sender)), 3) ∷ (not (leb (a .verdict) 1), 3) ∷ checks (a .genesis) (a .t)) (c .before .before .before .before .shard-fits .ensures) (not-false _ (c .before .before .before .if1 .left))
-    (first-passes (shardFits (a .sender)) 3 ((not (leb (a .verdict) 1), 3) ∷ checks (a .genesis) (a .t)) (c .before .before .shard-fits2 .ensures) (not-false _ (c .before .if2 .left))
+    let else2 : tie.Else2 = search in
+    let after-shard-fits2 : tie.After-shard-fits2 = search in
+    let else1 : tie.Else1 = search in
+    let after-shard-fits : tie.After-shard-fits = search in
+    let entry : tie.Start = search in
+    let a = entry .args in
+    first-passes (shardFits (a .receiver)) 3 ((not (shardFits (a .sender)), 3) ∷ (not (leb (a .verdict) 1), 3) ∷ checks (a .genesis) (a .t)) (after-shard-fits .shard-fits .ensures) (not-false _ (else1 .if1 .left))
+    (first-passes (shardFits (a .sender)) 3 ((not (leb (a .verdict) 1), 3) ∷ checks (a .genesis) (a .t)) (after-shard-fits2 .shard-fits2 .ensures) (not-false _ (else2 .if2 .left))
     (first-fails (leb (a .verdict) 1) 3 (checks (a .genesis) (a .t)) refl (lt-leb (a .verdict) 1 (c .if3 .taken))))
 
 cause-requires : tie.Need-cause-requires
@@ -39,10 +50,16 @@ cause-requires c κs = search needs
 returns-4 : tie.Need-returns-4
 unfolding causeOf
 returns-4 c =
-    let a = c .before .before .before .before .before .before .args in
-    first-passes (shardFits (a .receiver)) 3 ((not (shardFits (a .sender)), 3) ∷ (not (leb (a .verdict) 1), 3) ∷ checks (a .genesis) (a .t)) (c .before .before .before .before .before .shard-fits .ensures) (not-false _ (c .before .before .before .before .if1 .left))
-    (first-passes (shardFits (a .sender)) 3 ((not (leb (a .verdict) 1), 3) ∷ checks (a .genesis) (a .t)) (c .before .before .before .shard-fits2 .ensures) (not-false _ (c .before .before .if2 .left))
-    (first-passes (leb (a .verdict) 1) 3 (checks (a .genesis) (a .t)) refl (le-leb (a .verdict) 1 (c .before .if3 .left)) (c .cause .ensures)))
+    let else3 : tie.Else3 = search in
+    let else2 : tie.Else2 = search in
+    let after-shard-fits2 : tie.After-shard-fits2 = search in
+    let else1 : tie.Else1 = search in
+    let after-shard-fits : tie.After-shard-fits = search in
+    let entry : tie.Start = search in
+    let a = entry .args in
+    first-passes (shardFits (a .receiver)) 3 ((not (shardFits (a .sender)), 3) ∷ (not (leb (a .verdict) 1), 3) ∷ checks (a .genesis) (a .t)) (after-shard-fits .shard-fits .ensures) (not-false _ (else1 .if1 .left))
+    (first-passes (shardFits (a .sender)) 3 ((not (leb (a .verdict) 1), 3) ∷ checks (a .genesis) (a .t)) (after-shard-fits2 .shard-fits2 .ensures) (not-false _ (else2 .if2 .left))
+    (first-passes (leb (a .verdict) 1) 3 (checks (a .genesis) (a .t)) refl (le-leb (a .verdict) 1 (else3 .if3 .left)) (c .cause .ensures)))
 
 pub vote-cause-spec : {M : Type 1} → statement M
 vote-cause-spec =

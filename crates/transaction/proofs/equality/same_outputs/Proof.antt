@@ -6,6 +6,14 @@ use borrow.Author.Needs.{needs}
 use Rattle.transaction.proofs.equality.same_outputs.Statement.{statement}
 use Rattle.transaction.proofs.equality.same_outputs.Tie as tie
 
+-- The array has its length.
+long-t1 : (entry : tie.Start) → length (entry .args .t1) ≡ 4
+long-t1 entry = search needs
+
+-- The array has its length.
+long-t2 : (entry : tie.Start) → length (entry .args .t2) ≡ 4
+long-t2 entry = search needs
+
 array-copy-out-same-output : tie.Need-array-copy-out-same-output
 array-copy-out-same-output c = search needs
 
@@ -44,9 +52,13 @@ same-output-requires-4 c κs = search needs
 
 returns : tie.Need-returns
 returns c =
-    let long : length (c .before .before .before .before .before .before .before .before .before .before .before .before .args .t1) ≡ 4 = search needs in
-    let long' : length (c .before .before .before .before .before .before .before .before .before .before .before .before .args .t2) ≡ 4 = search needs in
-    agree-by zeroOutput (c .before .before .before .before .before .before .before .before .before .before .before .before .args .t1) long sameOutput (c .before .before .before .before .before .before .before .before .before .before .before .before .args .t2) long' (c .before .before .before .before .before .before .before .before .before .same-output .ensures) (c .before .before .before .before .before .before .same-output2 .ensures) (c .before .before .before .same-output3 .ensures) (c .same-output4 .ensures)
+    let after-same-output3 : tie.After-same-output3 = search in
+    let after-same-output2 : tie.After-same-output2 = search in
+    let after-same-output : tie.After-same-output = search in
+    let entry : tie.Start = search in
+    let long = long-t1 entry in
+    let long' = long-t2 entry in
+    agree-by zeroOutput (entry .args .t1) long sameOutput (entry .args .t2) long' (after-same-output .same-output .ensures) (after-same-output2 .same-output2 .ensures) (after-same-output3 .same-output3 .ensures) (c .same-output4 .ensures)
 
 pub same-outputs-spec : {M : Type 1} → statement M
 same-outputs-spec =

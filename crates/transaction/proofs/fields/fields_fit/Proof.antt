@@ -15,9 +15,11 @@ counts-fit-requires c κs = search needs
 returns : tie.Need-returns
 unfolding countsFit
 returns c =
-    let g = c .before .before .args .genesis in
-    let t = c .before .before .args .t in
-    fit-counts g t (c .before .counts-fit .ensures) (not-true _ (c .if1 .taken))
+    let after-counts-fit : tie.After-counts-fit = search in
+    let entry : tie.Start = search in
+    let g = entry .args .genesis in
+    let t = entry .args .t in
+    fit-counts g t (after-counts-fit .counts-fit .ensures) (not-true _ (c .if1 .taken))
 
 array-copy-out-two-inputs-fit : tie.Need-array-copy-out-two-inputs-fit
 array-copy-out-two-inputs-fit c = search needs
@@ -31,9 +33,13 @@ two-inputs-fit-requires c κs = search needs
 returns-2 : tie.Need-returns-2
 unfolding countsFit
 returns-2 c =
-    let g = c .before .before .before .before .before .before .before .args .genesis in
-    let t = c .before .before .before .before .before .before .before .args .t in
-    fit-inputs g t (c .before .before .before .before .before .before .counts-fit .ensures) (not-false _ (c .before .before .before .before .before .if1 .left)) (pair-0 zeroInput (t .inputs) (long-of t (c .before .before .before .before .before .before .before .good .1 .0) .inputs) (inputFits g) (sameInput zeroInput) (t .«input_count») (c .before .two-inputs-fit .ensures) (not-true _ (c .if2 .taken))) refl
+    let after-two-inputs-fit : tie.After-two-inputs-fit = search in
+    let else1 : tie.Else1 = search in
+    let after-counts-fit : tie.After-counts-fit = search in
+    let entry : tie.Start = search in
+    let g = entry .args .genesis in
+    let t = entry .args .t in
+    fit-inputs g t (after-counts-fit .counts-fit .ensures) (not-false _ (else1 .if1 .left)) (pair-0 zeroInput (t .inputs) (long-of t (entry .good .1 .0) .inputs) (inputFits g) (sameInput zeroInput) (t .«input_count») (after-two-inputs-fit .two-inputs-fit .ensures) (not-true _ (c .if2 .taken))) refl
 
 array-copy-out-two-inputs-fit-3 : tie.Need-array-copy-out-two-inputs-fit-3
 array-copy-out-two-inputs-fit-3 c = search needs
@@ -47,9 +53,15 @@ two-inputs-fit-requires-2 c κs = search needs
 returns-3 : tie.Need-returns-3
 unfolding countsFit
 returns-3 c =
-    let g = c .before .before .before .before .before .before .before .before .before .before .before .args .genesis in
-    let t = c .before .before .before .before .before .before .before .before .before .before .before .args .t in
-    fit-inputs g t (c .before .before .before .before .before .before .before .before .before .before .counts-fit .ensures) (not-false _ (c .before .before .before .before .before .before .before .before .before .if1 .left)) (pair-1 zeroInput (t .inputs) (long-of t (c .before .before .before .before .before .before .before .before .before .before .before .good .1 .0) .inputs) (inputFits g) (sameInput zeroInput) (t .«input_count») (c .before .before .before .before .before .two-inputs-fit .ensures) (not-false _ (c .before .before .before .before .if2 .left)) (c .before .two-inputs-fit2 .ensures)) (not-true _ (c .if3 .taken))
+    let after-two-inputs-fit2 : tie.After-two-inputs-fit2 = search in
+    let else2 : tie.Else2 = search in
+    let after-two-inputs-fit : tie.After-two-inputs-fit = search in
+    let else1 : tie.Else1 = search in
+    let after-counts-fit : tie.After-counts-fit = search in
+    let entry : tie.Start = search in
+    let g = entry .args .genesis in
+    let t = entry .args .t in
+    fit-inputs g t (after-counts-fit .counts-fit .ensures) (not-false _ (else1 .if1 .left)) (pair-1 zeroInput (t .inputs) (long-of t (entry .good .1 .0) .inputs) (inputFits g) (sameInput zeroInput) (t .«input_count») (after-two-inputs-fit .two-inputs-fit .ensures) (not-false _ (else2 .if2 .left)) (after-two-inputs-fit2 .two-inputs-fit2 .ensures)) (not-true _ (c .if3 .taken))
 
 outputs-fit-requires : tie.Need-outputs-fit-requires
 outputs-fit-requires c κs = search needs
@@ -57,9 +69,16 @@ outputs-fit-requires c κs = search needs
 returns-4 : tie.Need-returns-4
 unfolding countsFit
 returns-4 c =
-    let g = c .before .before .before .before .before .before .before .before .before .before .before .before .before .args .genesis in
-    let t = c .before .before .before .before .before .before .before .before .before .before .before .before .before .args .t in
-    fit-outputs g t (c .before .before .before .before .before .before .before .before .before .before .before .before .counts-fit .ensures) (not-false _ (c .before .before .before .before .before .before .before .before .before .before .before .if1 .left)) (pair-1 zeroInput (t .inputs) (long-of t (c .before .before .before .before .before .before .before .before .before .before .before .before .before .good .1 .0) .inputs) (inputFits g) (sameInput zeroInput) (t .«input_count») (c .before .before .before .before .before .before .before .two-inputs-fit .ensures) (not-false _ (c .before .before .before .before .before .before .if2 .left)) (c .before .before .before .two-inputs-fit2 .ensures)) (not-false _ (c .before .before .if3 .left)) (c .outputs-fit .ensures)
+    let else3 : tie.Else3 = search in
+    let after-two-inputs-fit2 : tie.After-two-inputs-fit2 = search in
+    let else2 : tie.Else2 = search in
+    let after-two-inputs-fit : tie.After-two-inputs-fit = search in
+    let else1 : tie.Else1 = search in
+    let after-counts-fit : tie.After-counts-fit = search in
+    let entry : tie.Start = search in
+    let g = entry .args .genesis in
+    let t = entry .args .t in
+    fit-outputs g t (after-counts-fit .counts-fit .ensures) (not-false _ (else1 .if1 .left)) (pair-1 zeroInput (t .inputs) (long-of t (entry .good .1 .0) .inputs) (inputFits g) (sameInput zeroInput) (t .«input_count») (after-two-inputs-fit .two-inputs-fit .ensures) (not-false _ (else2 .if2 .left)) (after-two-inputs-fit2 .two-inputs-fit2 .ensures)) (not-false _ (else3 .if3 .left)) (c .outputs-fit .ensures)
 
 pub fields-fit-spec : {M : Type 1} → statement M
 fields-fit-spec =

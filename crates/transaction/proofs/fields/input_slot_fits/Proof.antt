@@ -12,10 +12,15 @@ same-input-requires : tie.Need-same-input-requires
 same-input-requires c κs = search needs
 
 returns : tie.Need-returns
-returns c = rw (c .before .if1 .taken) (c .input-fits .ensures)
+returns c =
+    let then1 : tie.Then1 = search in
+    rw (then1 .if1 .taken) (c .input-fits .ensures)
 
 returns-2 : tie.Need-returns-2
-returns-2 c = rw (c .before .if1 .left, ← c .before .before .zero-input .ensures) (c .same-input .ensures)
+returns-2 c =
+    let else1 : tie.Else1 = search in
+    let after-zero-input : tie.After-zero-input = search in
+    rw (else1 .if1 .left, ← after-zero-input .zero-input .ensures) (c .same-input .ensures)
 
 pub input-slot-fits-spec : {M : Type 1} → statement M
 input-slot-fits-spec =

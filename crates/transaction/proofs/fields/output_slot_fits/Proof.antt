@@ -12,10 +12,15 @@ same-output-requires : tie.Need-same-output-requires
 same-output-requires c κs = search needs
 
 returns : tie.Need-returns
-returns c = rw (c .before .if1 .taken) (c .output-fits .ensures)
+returns c =
+    let then1 : tie.Then1 = search in
+    rw (then1 .if1 .taken) (c .output-fits .ensures)
 
 returns-2 : tie.Need-returns-2
-returns-2 c = rw (c .before .if1 .left, ← c .before .before .zero-output .ensures) (c .same-output .ensures)
+returns-2 c =
+    let else1 : tie.Else1 = search in
+    let after-zero-output : tie.After-zero-output = search in
+    rw (else1 .if1 .left, ← after-zero-output .zero-output .ensures) (c .same-output .ensures)
 
 pub output-slot-fits-spec : {M : Type 1} → statement M
 output-slot-fits-spec =

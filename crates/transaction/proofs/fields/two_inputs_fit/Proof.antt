@@ -8,13 +8,18 @@ input-slot-fits-requires : tie.Need-input-slot-fits-requires
 input-slot-fits-requires c κs = search needs
 
 returns : tie.Need-returns
-returns c = rw (sym (c .before .input-slot-fits .ensures) ∙ not-true _ (c .if1 .taken)) refl
+returns c =
+    let after-input-slot-fits : tie.After-input-slot-fits = search in
+    rw (sym (after-input-slot-fits .input-slot-fits .ensures) ∙ not-true _ (c .if1 .taken)) refl
 
 input-slot-fits-requires-2 : tie.Need-input-slot-fits-requires-2
 input-slot-fits-requires-2 c κs = search needs
 
 returns-2 : tie.Need-returns-2
-returns-2 c = rw (sym (c .before .before .input-slot-fits .ensures) ∙ not-false _ (c .before .if1 .left)) (c .input-slot-fits2 .ensures)
+returns-2 c =
+    let else1 : tie.Else1 = search in
+    let after-input-slot-fits : tie.After-input-slot-fits = search in
+    rw (sym (after-input-slot-fits .input-slot-fits .ensures) ∙ not-false _ (else1 .if1 .left)) (c .input-slot-fits2 .ensures)
 
 pub two-inputs-fit-spec : {M : Type 1} → statement M
 two-inputs-fit-spec =

@@ -8,6 +8,10 @@ use borrow.Author.Needs.{needs}
 use Rattle.transaction.proofs.parts.some_input_at.Statement.{statement}
 use Rattle.transaction.proofs.parts.some_input_at.Tie as tie
 
+-- The array has its length.
+long-t3 : (entry : tie.Start) → length (entry .args .t3) ≡ 4
+long-t3 entry = search needs
+
 array-copy-out-input-is-at : tie.Need-array-copy-out-input-is-at
 array-copy-out-input-is-at c = search needs
 
@@ -34,9 +38,13 @@ input-is-at-requires-4 c κs = search needs
 
 returns : tie.Need-returns
 returns c =
-    let long : length (c .before .before .before .before .before .before .before .before .args .t3) ≡ 4 = search needs in
-    any-by zeroInput (c .before .before .before .before .before .before .before .before .args .t3) long (λ (x : Input). eqb (c .before .before .before .before .before .before .before .before .args .shard) (inputShard x)) (c .before .before .before .before .before .before .before .before .args .count) (c .before .before .before .before .before .before .input-is-at .ensures) (c .before .before .before .before .input-is-at2 .ensures) (c .before .before .input-is-at3 .ensures) (c .input-is-at4 .ensures)
-    ∙ sym (any-map (eqb (c .before .before .before .before .before .before .before .before .args .shard)) inputShard (take (c .before .before .before .before .before .before .before .before .args .count) (c .before .before .before .before .before .before .before .before .args .t3)))
+    let after-input-is-at3 : tie.After-input-is-at3 = search in
+    let after-input-is-at2 : tie.After-input-is-at2 = search in
+    let after-input-is-at : tie.After-input-is-at = search in
+    let entry : tie.Start = search in
+    let long = long-t3 entry in
+    any-by zeroInput (entry .args .t3) long (λ (x : Input). eqb (entry .args .shard) (inputShard x)) (entry .args .count) (after-input-is-at .input-is-at .ensures) (after-input-is-at2 .input-is-at2 .ensures) (after-input-is-at3 .input-is-at3 .ensures) (c .input-is-at4 .ensures)
+    ∙ sym (any-map (eqb (entry .args .shard)) inputShard (take (entry .args .count) (entry .args .t3)))
 
 pub some-input-at-spec : {M : Type 1} → statement M
 some-input-at-spec =

@@ -15,8 +15,9 @@ some-output-at-requires c κs = search needs
 returns : tie.Need-returns
 unfolding takesPart
 returns c =
-    let t = c .before .before .before .before .args .t in
-    cc (any-append (eqb (c .before .before .before .before .args .shard)) (map inputShard (usedInputs t)) (map outputShard (usedOutputs t)))
+    let entry : tie.Start = search in
+    let t = entry .args .t in
+    cc (any-append (eqb (entry .args .shard)) (map inputShard (usedInputs t)) (map outputShard (usedOutputs t)))
 
 pub takes-part-spec : {M : Type 1} → statement M
 takes-part-spec = tie.close (tie.spec some-input-at-requires some-output-at-requires returns)

@@ -13,9 +13,10 @@ cast-count c = search needs
 returns : tie.Need-returns
 unfolding usedInput
 returns c =
-    let t = c .before .before .before .args .t in
-    let long = long-of t (c .before .before .before .good .0) .inputs in
-    rw (used-beyond zeroInput (t .inputs) long (t .«input_count») (c .before .before .before .args .place) (c .if1 .taken)) refl
+    let entry : tie.Start = search in
+    let t = entry .args .t in
+    let long = long-of t (entry .good .0) .inputs in
+    rw (used-beyond zeroInput (t .inputs) long (t .«input_count») (entry .args .place) (c .if1 .taken)) refl
 
 mul-t7 : tie.Need-mul-t7
 mul-t7 c = search needs
@@ -26,16 +27,20 @@ array-copy-out-t10 c = search needs
 returns-2 : tie.Need-returns-2
 unfolding usedInput
 returns-2 c =
-    let t = c .before .before .before .before .before .args .t in
-    let long = long-of t (c .before .before .before .before .before .good .0) .inputs in
-    rw (used-some zeroInput (t .inputs) long (t .«input_count») (c .before .before .before .before .before .args .place) (c .before .before .if1 .left) (c .before .if2 .taken), getD-take (t .«input_count») (t .inputs) (c .before .before .before .before .before .args .place) zeroInput (c .before .if2 .taken)) refl
+    let then2 : tie.Then2 = search in
+    let else1 : tie.Else1 = search in
+    let entry : tie.Start = search in
+    let t = entry .args .t in
+    let long = long-of t (entry .good .0) .inputs in
+    rw (used-some zeroInput (t .inputs) long (t .«input_count») (entry .args .place) (else1 .if1 .left) (then2 .if2 .taken), getD-take (t .«input_count») (t .inputs) (entry .args .place) zeroInput (then2 .if2 .taken)) refl
 
 returns-3 : tie.Need-returns-3
 unfolding usedInput
 returns-3 c =
-    let t = c .before .before .before .before .args .t in
-    let long = long-of t (c .before .before .before .before .good .0) .inputs in
-    rw (used-none zeroInput (t .inputs) long (t .«input_count») (c .before .before .before .before .args .place) (c .if2 .left)) refl
+    let entry : tie.Start = search in
+    let t = entry .args .t in
+    let long = long-of t (entry .good .0) .inputs in
+    rw (used-none zeroInput (t .inputs) long (t .«input_count») (entry .args .place) (c .if2 .left)) refl
 
 pub used-input-spec : {M : Type 1} → statement M
 used-input-spec =

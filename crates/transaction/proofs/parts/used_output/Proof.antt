@@ -13,9 +13,10 @@ cast-count c = search needs
 returns : tie.Need-returns
 unfolding usedOutput
 returns c =
-    let t = c .before .before .before .args .t in
-    let long = long-of t (c .before .before .before .good .0) .outputs in
-    rw (used-beyond zeroOutput (t .outputs) long (t .«output_count») (c .before .before .before .args .place) (c .if1 .taken)) refl
+    let entry : tie.Start = search in
+    let t = entry .args .t in
+    let long = long-of t (entry .good .0) .outputs in
+    rw (used-beyond zeroOutput (t .outputs) long (t .«output_count») (entry .args .place) (c .if1 .taken)) refl
 
 mul-t7 : tie.Need-mul-t7
 mul-t7 c = search needs
@@ -26,16 +27,20 @@ array-copy-out-t10 c = search needs
 returns-2 : tie.Need-returns-2
 unfolding usedOutput
 returns-2 c =
-    let t = c .before .before .before .before .before .args .t in
-    let long = long-of t (c .before .before .before .before .before .good .0) .outputs in
-    rw (used-some zeroOutput (t .outputs) long (t .«output_count») (c .before .before .before .before .before .args .place) (c .before .before .if1 .left) (c .before .if2 .taken), getD-take (t .«output_count») (t .outputs) (c .before .before .before .before .before .args .place) zeroOutput (c .before .if2 .taken)) refl
+    let then2 : tie.Then2 = search in
+    let else1 : tie.Else1 = search in
+    let entry : tie.Start = search in
+    let t = entry .args .t in
+    let long = long-of t (entry .good .0) .outputs in
+    rw (used-some zeroOutput (t .outputs) long (t .«output_count») (entry .args .place) (else1 .if1 .left) (then2 .if2 .taken), getD-take (t .«output_count») (t .outputs) (entry .args .place) zeroOutput (then2 .if2 .taken)) refl
 
 returns-3 : tie.Need-returns-3
 unfolding usedOutput
 returns-3 c =
-    let t = c .before .before .before .before .args .t in
-    let long = long-of t (c .before .before .before .before .good .0) .outputs in
-    rw (used-none zeroOutput (t .outputs) long (t .«output_count») (c .before .before .before .before .args .place) (c .if2 .left)) refl
+    let entry : tie.Start = search in
+    let t = entry .args .t in
+    let long = long-of t (entry .good .0) .outputs in
+    rw (used-none zeroOutput (t .outputs) long (t .«output_count») (entry .args .place) (c .if2 .left)) refl
 
 pub used-output-spec : {M : Type 1} → statement M
 used-output-spec =

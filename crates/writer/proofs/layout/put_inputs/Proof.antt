@@ -42,8 +42,13 @@ same-length c = search needs
 
 returns : tie.Need-returns
 returns c =
-    let a = c .before .before .before .before .before .before .before .before .before .before .before .before .before .before .before .before .before .before .before .before .before .args in
-    inputs-run (now (a .out)) (a .at) (a .t3) (c .before .before .before .before .before .before .before .before .before .before .before .before .before .before .before .before .before .put-input .ensures) (c .before .before .before .before .before .before .before .before .before .before .before .before .put-input2 .ensures) (c .before .before .before .before .before .before .before .put-input3 .ensures) (c .before .before .put-input4 .ensures)
+    let after-put-input4 : tie.After-put-input4 = search in
+    let after-put-input3 : tie.After-put-input3 = search in
+    let after-put-input2 : tie.After-put-input2 = search in
+    let after-put-input : tie.After-put-input = search in
+    let entry : tie.Start = search in
+    let a = entry .args in
+    inputs-run (now (a .out)) (a .at) (a .t3) (after-put-input .put-input .ensures) (after-put-input2 .put-input2 .ensures) (after-put-input3 .put-input3 .ensures) (after-put-input4 .put-input4 .ensures)
 
 pub put-inputs-spec : {M : Type 1} → statement M
 put-inputs-spec =

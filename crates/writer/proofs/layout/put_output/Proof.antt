@@ -24,8 +24,12 @@ same-length c = search needs
 
 returns : tie.Need-returns
 returns c =
-    let a = c .before .before .before .before .before .before .before .before .before .before .before .before .before .args in
-    output-run (now (a .out)) (a .at) (a .y) (c .before .before .before .before .before .before .before .before .before .before .put-byte .ensures) (c .before .before .before .before .before .before .put-word .ensures) (c .before .before .put-word2 .ensures)
+    let after-put-word2 : tie.After-put-word2 = search in
+    let after-put-word : tie.After-put-word = search in
+    let after-put-byte : tie.After-put-byte = search in
+    let entry : tie.Start = search in
+    let a = entry .args in
+    output-run (now (a .out)) (a .at) (a .y) (after-put-byte .put-byte .ensures) (after-put-word .put-word .ensures) (after-put-word2 .put-word2 .ensures)
 
 pub put-output-spec : {M : Type 1} → statement M
 put-output-spec =

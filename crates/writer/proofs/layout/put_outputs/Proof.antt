@@ -42,8 +42,13 @@ same-length c = search needs
 
 returns : tie.Need-returns
 returns c =
-    let a = c .before .before .before .before .before .before .before .before .before .before .before .before .before .before .before .before .before .before .before .before .before .args in
-    outputs-run (now (a .out)) (a .at) (a .t3) (c .before .before .before .before .before .before .before .before .before .before .before .before .before .before .before .before .before .put-output .ensures) (c .before .before .before .before .before .before .before .before .before .before .before .before .put-output2 .ensures) (c .before .before .before .before .before .before .before .put-output3 .ensures) (c .before .before .put-output4 .ensures)
+    let after-put-output4 : tie.After-put-output4 = search in
+    let after-put-output3 : tie.After-put-output3 = search in
+    let after-put-output2 : tie.After-put-output2 = search in
+    let after-put-output : tie.After-put-output = search in
+    let entry : tie.Start = search in
+    let a = entry .args in
+    outputs-run (now (a .out)) (a .at) (a .t3) (after-put-output .put-output .ensures) (after-put-output2 .put-output2 .ensures) (after-put-output3 .put-output3 .ensures) (after-put-output4 .put-output4 .ensures)
 
 pub put-outputs-spec : {M : Type 1} → statement M
 put-outputs-spec =

@@ -18,8 +18,12 @@ same-length c = search needs
 
 returns : tie.Need-returns
 returns c =
-    let a = c .before .before .before .before .before .before .before .before .before .before .before .before .before .args in
-    register-run (now (a .out)) (a .receiver) (a .t) (c .before .before .before .before .before .before .before .before .before .before .before .before .before .pre) (c .before .before .before .before .before .before .before .before .before .before .put-byte .ensures) (c .before .before .before .before .before .before .put-byte2 .ensures) (c .before .before .put-transaction .ensures)
+    let after-put-transaction : tie.After-put-transaction = search in
+    let after-put-byte2 : tie.After-put-byte2 = search in
+    let after-put-byte : tie.After-put-byte = search in
+    let entry : tie.Start = search in
+    let a = entry .args in
+    register-run (now (a .out)) (a .receiver) (a .t) (entry .pre) (after-put-byte .put-byte .ensures) (after-put-byte2 .put-byte2 .ensures) (after-put-transaction .put-transaction .ensures)
 
 pub put-register-spec : {M : Type 1} → statement M
 put-register-spec =

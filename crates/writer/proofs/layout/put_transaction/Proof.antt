@@ -36,8 +36,14 @@ same-length c = search needs
 
 returns : tie.Need-returns
 returns c =
-    let a = c .before .before .before .before .before .before .before .before .before .before .before .before .before .before .before .before .before .before .before .before .before .before .before .args in
-    transaction-run (now (a .out)) (a .at) (a .t) (c .before .before .before .before .before .before .before .before .before .before .before .before .before .before .before .before .before .before .put-word .ensures) (c .before .before .before .before .before .before .before .before .before .before .before .before .before .before .put-byte .ensures) (c .before .before .before .before .before .before .before .before .before .before .put-byte2 .ensures) (c .before .before .before .before .before .before .put-inputs .ensures) (c .before .before .put-outputs .ensures)
+    let after-put-outputs : tie.After-put-outputs = search in
+    let after-put-inputs : tie.After-put-inputs = search in
+    let after-put-byte2 : tie.After-put-byte2 = search in
+    let after-put-byte : tie.After-put-byte = search in
+    let after-put-word : tie.After-put-word = search in
+    let entry : tie.Start = search in
+    let a = entry .args in
+    transaction-run (now (a .out)) (a .at) (a .t) (after-put-word .put-word .ensures) (after-put-byte .put-byte .ensures) (after-put-byte2 .put-byte2 .ensures) (after-put-inputs .put-inputs .ensures) (after-put-outputs .put-outputs .ensures)
 
 pub put-transaction-spec : {M : Type 1} → statement M
 put-transaction-spec =

@@ -12,20 +12,28 @@ vote-cause-requires c κs = search needs
 returns : tie.Need-returns
 unfolding voteCause
 returns c =
-    let a = c .before .before .args in
-    room-refused (voteChecks house (a .receiver) (a .sender) (a .verdict) (a .t)) 102 (a .room) (c .before .vote-cause .ensures) (c .if1 .taken)
+    let after-vote-cause : tie.After-vote-cause = search in
+    let entry : tie.Start = search in
+    let a = entry .args in
+    room-refused (voteChecks house (a .receiver) (a .sender) (a .verdict) (a .t)) 102 (a .room) (after-vote-cause .vote-cause .ensures) (c .if1 .taken)
 
 returns-2 : tie.Need-returns-2
 unfolding voteCause
 returns-2 c =
-    let a = c .before .before .before .args in
-    room-short (voteChecks house (a .receiver) (a .sender) (a .verdict) (a .t)) 102 (a .room) refl (c .before .before .vote-cause .ensures) (c .before .if1 .left) (c .if2 .taken)
+    let else1 : tie.Else1 = search in
+    let after-vote-cause : tie.After-vote-cause = search in
+    let entry : tie.Start = search in
+    let a = entry .args in
+    room-short (voteChecks house (a .receiver) (a .sender) (a .verdict) (a .t)) 102 (a .room) refl (after-vote-cause .vote-cause .ensures) (else1 .if1 .left) (c .if2 .taken)
 
 returns-3 : tie.Need-returns-3
 unfolding voteCause
 returns-3 c =
-    let a = c .before .before .before .args in
-    room-enough (voteChecks house (a .receiver) (a .sender) (a .verdict) (a .t)) 102 (a .room) refl (c .before .before .vote-cause .ensures) (c .before .if1 .left) (c .if2 .left)
+    let else1 : tie.Else1 = search in
+    let after-vote-cause : tie.After-vote-cause = search in
+    let entry : tie.Start = search in
+    let a = entry .args in
+    room-enough (voteChecks house (a .receiver) (a .sender) (a .verdict) (a .t)) 102 (a .room) refl (after-vote-cause .vote-cause .ensures) (else1 .if1 .left) (c .if2 .left)
 
 pub vote-cause-spec : {M : Type 1} → statement M
 vote-cause-spec = tie.close (tie.spec vote-cause-requires returns returns-2 returns-3)
