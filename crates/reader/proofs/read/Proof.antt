@@ -1,7 +1,9 @@
 use Rattle.reader.proofs.Cases.{whole, first-kinds, size-within, transaction-last, taken-record, front-fails, front-passes, reading-none, reading-good, reading-bad, reads}
 use Rattle.reader.specs.Layout.{transactionAt}
-use Rattle.reader.specs.Reading.{headCause, transactionIn, refusal}
+use Rattle.reader.specs.Reading.{kindOf, headCause, readCause, transactionIn, takenOf, refusal}
 use Prim.Native.Nat.{ℕ, _+_, _-_}
+use mathlib.Core.List.{List}
+use mathlib.Core.Logic.{_⊎_}
 use lib.ListN.{length}
 use borrow.Author.Tests.{not-true, not-false}
 use native.Mathlib.Omega.{arith}
@@ -11,6 +13,59 @@ use borrow.Author.Needs.{needs}
 use Rattle.reader.proofs.read.Statement.{statement}
 use Rattle.reader.proofs.read.Tie as tie
 
+-- The bytes that were lent, at a point.
+abbrev bytes : tie.Start → List ℕ
+bytes entry = now (entry .args .bytes)
+
+-- The head is refused.
+head-fails : (c : tie.Then1) → let entry : tie.Start = search in headCause (bytes entry) ≡ 0 → ⊥
+head-fails c q =
+    let found : tie.After-head-cause = search in
+    c .if1 .taken (found .head-cause .ensures ∙ q)
+
+-- The head passes.
+head : (c : tie.Else1) → let entry : tie.Start = search in headCause (bytes entry) ≡ 0
+head c =
+    let found : tie.After-head-cause = search in
+    sym (found .head-cause .ensures) ∙ c .if1 .left
+
+-- The kind is 1 or 2.
+kinds : (c : tie.Else2) → let entry : tie.Start = search in (kindOf (bytes entry) ≡ 1) ⊎ (kindOf (bytes entry) ≡ 2)
+kinds c =
+    let entry : tie.Start = search in
+    first-kinds (bytes entry) (head (search)) (c .if2 .left)
+
+-- The record's length.
+size : (c : tie.After-body-length) → let entry : tie.Start = search in c .body-length .result + 1 ≡ takenOf (bytes entry)
+size c =
+    let entry : tie.Start = search in
+    ap (λ (n : ℕ). n + 1) (c .body-length .ensures) ∙ sym (taken-record (bytes entry) (head (search)))
+
+-- The transaction read is the one in the record.
+there : (c : tie.After-transaction-at) → let entry : tie.Start = search in c .transaction-at .result ≡ transactionIn (bytes entry)
+there c =
+    let entry : tie.Start = search in
+    let sized : tie.After-body-length = search in
+    c .transaction-at .ensures
+    ∙ ap (λ (n : ℕ). transactionAt (bytes entry) (n + 1 - 98)) (sized .body-length .ensures)
+    ∙ transaction-last (bytes entry) (head (search)) (kinds (search))
+
+-- The checks behind the head are not looked at further: one of the fields in front is out of range.
+front : (c : tie.Then3) → let entry : tie.Start = search in 3 ≡ readCause (bytes entry)
+front c =
+    let entry : tie.Start = search in
+    let fits : tie.After-front-fits = search in
+    front-fails (bytes entry) (head (search)) (kinds (search)) (fits .front-fits .ensures) (not-true _ (c .if3 .taken))
+
+-- All the checks: those of the fields in front pass, and these are the transaction's.
+checked : (c : tie.After-cause-of) → let entry : tie.Start = search in c .cause-of .result ≡ readCause (bytes entry)
+checked c =
+    let entry : tie.Start = search in
+    let passed : tie.Else3 = search in
+    let fits : tie.After-front-fits = search in
+    let fit = not-false _ (passed .if3 .left) in
+    front-passes (bytes entry) (head (search)) (kinds (search)) (fits .front-fits .ensures) fit (there (search)) (c .cause-of .ensures)
+
 head-cause-requires : tie.Need-head-cause-requires
 head-cause-requires c κs = search needs
 
@@ -19,21 +74,16 @@ refused-requires c κs = search needs
 
 returns : tie.Need-returns
 returns c =
-    let then1 : tie.Then1 = search in
-    let after-head-cause : tie.After-head-cause = search in
     let entry : tie.Start = search in
-    let l = now (entry .args .bytes) in
-    let n : headCause l ≡ 0 → ⊥ = λ q. then1 .if1 .taken (after-head-cause .head-cause .ensures ∙ q) in
-    reads l (c .refused .ensures ∙ ap (λ (k : ℕ). refusal k (length l)) (after-head-cause .head-cause .ensures) ∙ reading-none l n)
+    let found : tie.After-head-cause = search in
+    let l = bytes entry in
+    let none = ap (λ (k : ℕ). refusal k (length l)) (found .head-cause .ensures) in
+    reads l (c .refused .ensures ∙ none ∙ reading-none l (head-fails (search)))
 
 shared-slice-read-kind : tie.Need-shared-slice-read-kind
 shared-slice-read-kind c =
-    let else1 : tie.Else1 = search in
-    let after-head-cause : tie.After-head-cause = search in
     let entry : tie.Start = search in
-    let l = now (entry .args .bytes) in
-    let h : headCause l ≡ 0 = sym (after-head-cause .head-cause .ensures) ∙ else1 .if1 .left in
-    omega (arith, whole l h)
+    omega (arith, whole (bytes entry) (head (search)))
 
 read-mint-requires : tie.Need-read-mint-requires
 read-mint-requires c κs = search needs
@@ -41,70 +91,40 @@ read-mint-requires c κs = search needs
 returns-2 : tie.Need-returns-2
 returns-2 c =
     let entry : tie.Start = search in
-    reads (now (entry .args .bytes)) (c .read-mint .ensures)
+    reads (bytes entry) (c .read-mint .ensures)
 
 body-length-requires : tie.Need-body-length-requires
 body-length-requires c κs = search needs
 
 add-size : tie.Need-add-size
 add-size c =
-    let else1 : tie.Else1 = search in
-    let after-head-cause : tie.After-head-cause = search in
     let entry : tie.Start = search in
-    let l = now (entry .args .bytes) in
-    let h : headCause l ≡ 0 = sym (after-head-cause .head-cause .ensures) ∙ else1 .if1 .left in
-    omega (arith, c .body-length .ensures, whole l h)
+    omega (arith, c .body-length .ensures, whole (bytes entry) (head (search)))
 
 front-fits-requires : tie.Need-front-fits-requires
-front-fits-requires c κs =
-    let else2 : tie.Else2 = search in
-    let else1 : tie.Else1 = search in
-    let after-head-cause : tie.After-head-cause = search in
-    let entry : tie.Start = search in
-    let l = now (entry .args .bytes) in
-    let h : headCause l ≡ 0 = sym (after-head-cause .head-cause .ensures) ∙ else1 .if1 .left in
-    (h, first-kinds l h (else2 .if2 .left))
+front-fits-requires c κs = (head (search), kinds (search))
 
 refused-requires-2 : tie.Need-refused-requires-2
 refused-requires-2 c κs = search needs
 
 returns-3 : tie.Need-returns-3
 returns-3 c =
-    let then3 : tie.Then3 = search in
-    let after-front-fits : tie.After-front-fits = search in
-    let after-body-length : tie.After-body-length = search in
-    let else2 : tie.Else2 = search in
-    let else1 : tie.Else1 = search in
-    let after-head-cause : tie.After-head-cause = search in
     let entry : tie.Start = search in
-    let l = now (entry .args .bytes) in
-    let h : headCause l ≡ 0 = sym (after-head-cause .head-cause .ensures) ∙ else1 .if1 .left in
-    let k = first-kinds l h (else2 .if2 .left) in
-    reads l (c .refused2 .ensures ∙ reading-bad l h (front-fails l h k (after-front-fits .front-fits .ensures) (not-true _ (then3 .if3 .taken))) (λ z. omega arith) (ap (λ (n : ℕ). n + 1) (after-body-length .body-length .ensures) ∙ sym (taken-record l h)))
+    let l = bytes entry in
+    reads l (c .refused2 .ensures ∙ reading-bad l (head (search)) (front (search)) (λ z. omega arith) (size (search)))
 
 sub-transaction-at : tie.Need-sub-transaction-at
 sub-transaction-at c =
-    let after-body-length : tie.After-body-length = search in
-    let else2 : tie.Else2 = search in
-    let else1 : tie.Else1 = search in
-    let after-head-cause : tie.After-head-cause = search in
     let entry : tie.Start = search in
-    let l = now (entry .args .bytes) in
-    let h : headCause l ≡ 0 = sym (after-head-cause .head-cause .ensures) ∙ else1 .if1 .left in
-    let k = first-kinds l h (else2 .if2 .left) in
-    omega (arith, after-body-length .body-length .ensures, size-within l h k)
+    let sized : tie.After-body-length = search in
+    omega (arith, sized .body-length .ensures, size-within (bytes entry) (head (search)) (kinds (search)))
 
 transaction-at-requires : tie.Need-transaction-at-requires
 transaction-at-requires c κs =
-    let after-body-length : tie.After-body-length = search in
-    let else2 : tie.Else2 = search in
-    let else1 : tie.Else1 = search in
-    let after-head-cause : tie.After-head-cause = search in
     let entry : tie.Start = search in
-    let l = now (entry .args .bytes) in
-    let h : headCause l ≡ 0 = sym (after-head-cause .head-cause .ensures) ∙ else1 .if1 .left in
-    let k = first-kinds l h (else2 .if2 .left) in
-    omega (arith, after-body-length .body-length .ensures, size-within l h k, whole l h)
+    let sized : tie.After-body-length = search in
+    let l = bytes entry in
+    omega (arith, sized .body-length .ensures, size-within l (head (search)) (kinds (search)), whole l (head (search)))
 
 cause-of-requires : tie.Need-cause-of-requires
 cause-of-requires c κs = search needs
@@ -114,49 +134,21 @@ refused-requires-3 c κs = search needs
 
 returns-4 : tie.Need-returns-4
 returns-4 c =
-    let then4 : tie.Then4 = search in
-    let after-cause-of : tie.After-cause-of = search in
-    let after-transaction-at : tie.After-transaction-at = search in
-    let else3 : tie.Else3 = search in
-    let after-front-fits : tie.After-front-fits = search in
-    let after-body-length : tie.After-body-length = search in
-    let else2 : tie.Else2 = search in
-    let else1 : tie.Else1 = search in
-    let after-head-cause : tie.After-head-cause = search in
+    let refused : tie.Then4 = search in
     let entry : tie.Start = search in
-    let l = now (entry .args .bytes) in
-    let h : headCause l ≡ 0 = sym (after-head-cause .head-cause .ensures) ∙ else1 .if1 .left in
-    let k = first-kinds l h (else2 .if2 .left) in
-    let there : after-transaction-at .transaction-at .result ≡ transactionIn l = after-transaction-at .transaction-at .ensures ∙ ap (λ (n : ℕ). transactionAt l (n + 1 - 98)) (after-body-length .body-length .ensures) ∙ transaction-last l h k in
-    reads l (c .refused3 .ensures ∙ reading-bad l h (front-passes l h k (after-front-fits .front-fits .ensures) (not-false _ (else3 .if3 .left)) there (after-cause-of .cause-of .ensures)) (then4 .if4 .taken) (ap (λ (n : ℕ). n + 1) (after-body-length .body-length .ensures) ∙ sym (taken-record l h)))
+    let l = bytes entry in
+    reads l (c .refused3 .ensures ∙ reading-bad l (head (search)) (checked (search)) (refused .if4 .taken) (size (search)))
 
 front-fields-requires : tie.Need-front-fields-requires
-front-fields-requires c κs =
-    let else2 : tie.Else2 = search in
-    let else1 : tie.Else1 = search in
-    let after-head-cause : tie.After-head-cause = search in
-    let entry : tie.Start = search in
-    let l = now (entry .args .bytes) in
-    let h : headCause l ≡ 0 = sym (after-head-cause .head-cause .ensures) ∙ else1 .if1 .left in
-    (h, first-kinds l h (else2 .if2 .left))
+front-fields-requires c κs = (head (search), kinds (search))
 
 returns-5 : tie.Need-returns-5
 returns-5 c =
-    let else4 : tie.Else4 = search in
-    let after-cause-of : tie.After-cause-of = search in
-    let after-transaction-at : tie.After-transaction-at = search in
-    let else3 : tie.Else3 = search in
-    let after-front-fits : tie.After-front-fits = search in
-    let after-body-length : tie.After-body-length = search in
-    let else2 : tie.Else2 = search in
-    let else1 : tie.Else1 = search in
-    let after-head-cause : tie.After-head-cause = search in
+    let passed : tie.Else4 = search in
     let entry : tie.Start = search in
-    let l = now (entry .args .bytes) in
-    let h : headCause l ≡ 0 = sym (after-head-cause .head-cause .ensures) ∙ else1 .if1 .left in
-    let k = first-kinds l h (else2 .if2 .left) in
-    let there : after-transaction-at .transaction-at .result ≡ transactionIn l = after-transaction-at .transaction-at .ensures ∙ ap (λ (n : ℕ). transactionAt l (n + 1 - 98)) (after-body-length .body-length .ensures) ∙ transaction-last l h k in
-    reads l (reading-good l h (front-passes l h k (after-front-fits .front-fits .ensures) (not-false _ (else3 .if3 .left)) there (after-cause-of .cause-of .ensures)) (else4 .if4 .left) (c .front-fields .ensures) there (ap (λ (n : ℕ). n + 1) (after-body-length .body-length .ensures) ∙ sym (taken-record l h)))
+    let l = bytes entry in
+    let read = reading-good l (head (search)) (checked (search)) (passed .if4 .left) in
+    reads l (read (c .front-fields .ensures) (there (search)) (size (search)))
 
 pub read-spec : {M : Type 1} → statement M
 read-spec =
