@@ -15,13 +15,12 @@ use Rattle.transaction.proofs.Tables.{first-stands}
 use Rattle.model.specs.declared.Answer.{Answer}
 use Rattle.model.specs.declared.Answer.the-variants.{Refused}
 use Rattle.model.specs.Steps.{Ledger, house, emptyLedger}
-use Rattle.model.specs.Shard.{Call, deliver, deliverForm, deliverRefusals, hear, shardStep}
+use Rattle.model.specs.Shard.{Call, deliver, deliverForm, deliverRest, deliverRefusals, hear, shardStep}
 use Rattle.model.specs.Cluster.{emptyShards, ledgerAt, gave, notGiven, atShard, clusterStep}
 use Rattle.model.proofs.Basics.{passed}
 use Rattle.model.proofs.Tables.{unless-refused}
 use Rattle.model.proofs.Refusals.{shard-below}
 use Rattle.shard.specs.View as shard
-use Rattle.shard.specs.Tables.{deliverLedger}
 use Rattle.cluster.specs.View.{view, shardAt, SoundAt, Sound, Fresh, Steps}
 
 -- an element of a mapped list, and a mapped list after a store
@@ -108,7 +107,7 @@ module _ (c : List (List ℕ)) (sound : Sound c) (receiver sender verdict : ℕ)
     whole : firstOf (deliverRefusals house receiver (ledgerAt house (view c) receiver) receiver sender verdict t) ≡ cause
     unfolding deliverRefusals
     whole =
-        first-stands (deliverForm house receiver receiver sender verdict t) (deliverLedger (ledgerAt house (view c) receiver) sender verdict t)
+        first-stands (deliverForm house receiver receiver sender verdict t) (deliverRest (ledgerAt house (view c) receiver) sender verdict t)
         (λ z. n (form ∙ z))
         ∙ sym form
 

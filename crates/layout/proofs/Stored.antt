@@ -15,7 +15,7 @@ use Rattle.transaction.specs.Tokens.{zeroInput, zeroOutput}
 use Rattle.transaction.proofs.Slots.{four}
 use Rattle.model.specs.declared.Token.{Token}
 use Rattle.model.specs.declared.Known.{Known}
-use Rattle.model.specs.Steps.{pledgedTo}
+use Rattle.model.specs.Steps.{pledgedTo, withSaid}
 use Rattle.layout.specs.Layout.{
   tokenSlots,
   knownSlots,
@@ -60,7 +60,6 @@ use Rattle.layout.specs.Layout.{
   withKnown,
   withTransactions,
   withGiven,
-  withSaid,
   Within,
   Headed,
   Becomes,

@@ -187,29 +187,30 @@ ledgerOf ws = view (shardOf ws)
 
 -- ---- A shard with one part changed
 
+-- with these counts and slots, and all else as it was
+abbrev pub storing : Shard → ℕ → List Token → ℕ → List Known → List Bool → Shard
+storing s held tokens known transactions given =
+    record { number = s .number; held = held; known = known; tokens = tokens; transactions = transactions; given = given }
+
 abbrev pub withTokens : Shard → List Token → Shard
-withTokens s l = record { number = s .number; held = s .held; known = s .known; tokens = l; transactions = s .transactions; given = s .given }
+withTokens s l = storing s (s .held) l (s .known) (s .transactions) (s .given)
 
 abbrev pub withHeld : Shard → ℕ → Shard
-withHeld s n = record { number = s .number; held = n; known = s .known; tokens = s .tokens; transactions = s .transactions; given = s .given }
+withHeld s n = storing s n (s .tokens) (s .known) (s .transactions) (s .given)
 
 abbrev pub withKnown : Shard → ℕ → Shard
-withKnown s n = record { number = s .number; held = s .held; known = n; tokens = s .tokens; transactions = s .transactions; given = s .given }
+withKnown s n = storing s (s .held) (s .tokens) n (s .transactions) (s .given)
 
 abbrev pub withTransactions : Shard → List Known → Shard
-withTransactions s l = record { number = s .number; held = s .held; known = s .known; tokens = s .tokens; transactions = l; given = s .given }
+withTransactions s l = storing s (s .held) (s .tokens) (s .known) l (s .given)
 
 abbrev pub withGiven : Shard → List Bool → Shard
-withGiven s l = record { number = s .number; held = s .held; known = s .known; tokens = s .tokens; transactions = s .transactions; given = l }
+withGiven s l = storing s (s .held) (s .tokens) (s .known) (s .transactions) l
 
 -- the words stand for this shard, and are as many as a shard has
 pub record Becomes (s : Shard) (ws : List ℕ) : Type 0 where
   pub is : shardOf ws ≡ s
   pub long : length ws ≡ shardWords
-
--- a known transaction with a verdict noted for a sender
-abbrev pub withSaid : ℕ → ℕ → Known → Known
-withSaid sender said x = record { transaction = x .transaction; heard = set (x .heard) sender said }
 
 -- nobody asks for these
 abbrev pub noToken : Token

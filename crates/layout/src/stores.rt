@@ -2,7 +2,8 @@
 ghost use mathlib.Core.Path.{_≡_};
 ghost use Prim.Native.Nat.{_+_, _≤_, _<_};
 ghost use lib.ListN.{length};
-ghost use Rattle.layout.specs.Layout.{shardWords, knownSlots, slotKnown, withSaid, PutsKnown};
+ghost use Rattle.model.specs.Steps.{withSaid};
+ghost use Rattle.layout.specs.Layout.{shardWords, knownSlots, slotKnown, PutsKnown};
 ghost use Rattle.layout.specs.Layout.{inputIn, outputIn, inputsIn, outputsIn, heardIn, Within, Headed};
 use crate::HEARD_OFFSET;
 use crate::INPUT_SIZE;

@@ -20,6 +20,7 @@ use Rattle.model.specs.declared.Answer.{Answer}
 use Rattle.model.specs.Lists.{keep, find}
 use Rattle.model.specs.Steps.{Limits, Ledger, emptyLedger, genesisToken, inputsHere, availableHere, pledges, vote, noted, newlyKnown, heardFrom, hearing, outcomeOf, outputHere, outputsHere, tokenOf, tokensFrom, madeHere, stays, commit, settle, isFor, nothingKnown, placeOf, entryOf, afterMint, afterRegister, afterVote}
 use Rattle.model.specs.Shard.{Call, ifUndecided, reservedBy, reserved, shardStep}
+use Rattle.model.specs.Fit.{isSet, counted, Fit}
 use Rattle.model.specs.Cluster.{ledgerAt}
 use Rattle.model.specs.Model.{Model, emptyModel, step, after, play}
 use Rattle.model.proofs.Basics.{find-at, set-elim, getD-same}
@@ -76,14 +77,6 @@ mem-set (y ∷ l) zero a (List·Memᴰ·tail m) = inr (List·Memᴰ·tail m)
 mem-set (y ∷ l) (suc i) a (List·Memᴰ·head e) = inr (List·Memᴰ·head e)
 mem-set (y ∷ l) (suc i) a (List·Memᴰ·tail m) = ⊎-elim (λ e. inl e) (λ d. inr (List·Memᴰ·tail d)) (mem-set l i a m)
 
--- the flags that are set
-abbrev pub isSet : Bool → Bool
-isSet flag = flag
-
--- how many flags are set
-abbrev pub counted : List Bool → ℕ
-counted flags = length (keep isSet flags)
-
 -- a flag newly set counts one more
 counted-set : (l : List Bool) (i : ℕ) → i < length l → getD l i false ≡ false → counted (set l i true) ≡ counted l + 1
 counted-set [] i h e = absurd (omega arith)
@@ -129,18 +122,6 @@ settle-room Commit me t tokens = let h = commit-length me t tokens in omega arit
 settle-room Abort me t tokens = omega arith
 
 -- ---- What holds of a ledger
-
--- a fit ledger
-pub record Fit (limits : Limits) (me : ℕ) (ledger : Ledger) : Type 0 where
-  -- the limits
-  pub token-room : length (ledger .tokens) + reserved me (ledger .known) ≤ limits .tokens
-  pub known-room : length (ledger .known) ≤ limits .transactions
-  -- one flag for each genesis index; while no transaction is known, each token was given
-  pub flags : length (ledger .given) ≡ limits .genesis
-  pub only-given : ledger .known ≡ [] → length (ledger .tokens) ≤ counted (ledger .given)
-  -- known transactions passed 3, 4 and 5, and have a place for each sender
-  pub checked : (k : Known) → List·Memᴰ k (ledger .known) → causeOf (limits .genesis) (k .transaction) ≡ 0
-  pub eight : (k : Known) → List·Memᴰ k (ledger .known) → length (k .heard) ≡ 8
 
 -- the empty ledger is fit
 pub empty-fit : (limits : Limits) (me : ℕ) → Fit limits me (emptyLedger limits)

@@ -19,7 +19,7 @@ use Rattle.model.specs.declared.Outcome.{Outcome}
 use Rattle.model.specs.declared.Outcome.the-variants.{Wait, Commit, Abort}
 use Rattle.model.specs.declared.Answer.{Answer}
 use Rattle.model.specs.Lists.{mapOption}
-use Rattle.model.specs.Steps.{Limits, Ledger, emptyLedger, genesisToken, inputsHere, available, availableHere, pledgeIf, pledges, vote, noted, newlyKnown, heardFrom, hearing, outcomeOf, settle, isFor, placeOf, entryOf, afterMint, afterRegister, afterVote}
+use Rattle.model.specs.Steps.{Limits, Ledger, emptyLedger, holding, genesisToken, inputsHere, available, availableHere, pledgeIf, pledges, vote, noted, knownWith, newlyKnown, heardFrom, hearing, outcomeOf, settle, isFor, placeOf, entryOf, afterMint, afterRegister, afterVote}
 use Rattle.model.specs.Shard.{Call}
 use Rattle.model.specs.Cluster.{emptyShards, ledgerAt, hasGiven, gave}
 use Rattle.model.specs.Model.{Entry, Genesis, Model, emptyModel, entryFor, step, after, play}
@@ -186,7 +186,7 @@ module _ {limits : Limits} {log : List Entry} {p : ℕ} {genesis : ℕ → ℕ �
 
   -- the transaction as it becomes known
   abbrev k : Known
-  k = record { transaction = t; heard = set (replicate 8 0) p (noted (vote p (l .tokens) t)) }
+  k = knownWith p (vote p (l .tokens) t) t
 
   -- the tokens with the pledges
   abbrev tokens₁ : List Token
@@ -244,7 +244,7 @@ module _ {limits : Limits} {log : List Entry} {p : ℕ} {genesis : ℕ → ℕ �
   pub register-ok : Ok limits (r ∷ log) p genesis (afterRegister p l t)
   unfolding afterRegister newlyKnown
   register-ok =
-      subst (λ (known : List Known). Ok limits (r ∷ log) p genesis (record { tokens = settle (outcomeOf k) p t tokens₁; given = l .given; known = known }))
+      subst (λ (known : List Known). Ok limits (r ∷ log) p genesis (holding l (settle (outcomeOf k) p t tokens₁) known))
       (sym (append-put k (l .known) unknown)) (record {
         core = core-enter core₁ k tokens₁ enters₁ keeps;
         flags = o .flags;
@@ -375,7 +375,7 @@ module _ {limits : Limits} {log : List Entry} {p : ℕ} {genesis : ℕ → ℕ �
   pub vote-ok : Ok limits log p genesis (afterVote p l q v t)
   unfolding afterVote
   vote-ok =
-      subst (λ (known : List Known). Ok limits log p genesis (record { tokens = settle (outcomeOf k′) p (k₀ .transaction) (l .tokens); given = l .given; known = known })) (sym set-known) (record {
+      subst (λ (known : List Known). Ok limits log p genesis (holding l (settle (outcomeOf k′) p (k₀ .transaction) (l .tokens)) known)) (sym set-known) (record {
         core = core-enter (o .core) k′ (l .tokens) enters₂ (λ m i. refl);
         flags = o .flags;
         indices = o .indices;

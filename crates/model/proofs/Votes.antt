@@ -13,7 +13,7 @@ use Rattle.transaction.specs.Tokens.{shardsOf, takesPart}
 use Rattle.model.specs.declared.Token.{Token}
 use Rattle.model.specs.declared.Known.{Known}
 use Rattle.model.specs.declared.Outcome.the-variants.{Wait, Commit, Abort}
-use Rattle.model.specs.Steps.{vote, noted, newlyKnown, heardFrom, hearing, isHeard, isYes, heardAll, allYes, decide, outcomeOf}
+use Rattle.model.specs.Steps.{vote, noted, unheard, withSaid, newlyKnown, heardFrom, hearing, isHeard, isYes, heardAll, allYes, decide, outcomeOf}
 use Rattle.model.proofs.Basics.{eqb-eq, eqb-same, eqb-yes, eqb-no, eqb-apart, not-yes, not-is, both, clash, Case, yes-case, no-case, case, all-at, all-of, any-of, getD-same}
 use Rattle.model.proofs.Entries.{commit≢wait, outcome-heard}
 use Rattle.model.proofs.Refusals.{part-in}
@@ -96,7 +96,7 @@ missing-registered p tokens t h part = let a = here in let b = count in let c = 
     own = noted (vote p tokens t)
 
     k : Known
-    k = record { transaction = t; heard = set (replicate 8 0) p own }
+    k = withSaid p own (unheard t)
 
     and-yes : (b : Bool) → b && true ≡ b
     and-yes true = refl

@@ -49,28 +49,59 @@ reserved me known = total (reservedBy me) known
 abbrev pub otherVerdict : ℕ → ℕ → Bool
 otherVerdict heard verdict = not (eqb heard 0) && not (eqb heard (verdict + 1))
 
+-- Each table is in two parts: what the record says by itself (its form), then what the ledger says (the rest).
+
+-- kind 3, the form: 3
+abbrev pub mintForm : Limits → ℕ → ℕ → ℕ → ℕ → ℕ → List (Bool × ℕ)
+mintForm limits me receiver index owner amount = (not (eqb receiver me), 3) ∷ mintChecks (limits .genesis) receiver index owner amount
+
+-- the rest: 13, 14
+abbrev pub mintRest : Ledger → ℕ → List (Bool × ℕ)
+mintRest ledger index =
+    (not (eqb (length (ledger .known)) 0), 13)
+    ∷ (getD (ledger .given) index false, 14)
+    ∷ []
+
 -- kind 3: 3, 13, 14
 unfoldable pub mintRefusals : Limits → ℕ → Ledger → ℕ → ℕ → ℕ → ℕ → List (Bool × ℕ)
 mintRefusals limits me ledger receiver index owner amount =
+    mintForm limits me receiver index owner amount
+    ++ mintRest ledger index
+
+-- kind 1, the form: 3, 4, 5, 6
+abbrev pub registerForm : Limits → ℕ → ℕ → Transaction → List (Bool × ℕ)
+registerForm limits me receiver t =
     (not (eqb receiver me), 3)
-    ∷ mintChecks (limits .genesis) receiver index owner amount
-    ++ (not (eqb (length (ledger .known)) 0), 13)
-    ∷ (getD (ledger .given) index false, 14)
+    ∷ registerChecks (limits .genesis) receiver t
+    ++ (not (takesPart receiver t), 6)
     ∷ []
+
+-- 10: held tokens, outputs here of undecided transactions and of this one would pass the limit
+abbrev pub tooFull : Limits → ℕ → Ledger → Transaction → Bool
+tooFull limits me ledger t =
+    ltb (limits .tokens) (length (ledger .tokens) + reserved me (ledger .known) + length (outputsHere me t))
+
+-- whether there is room for one more: 9, 10
+abbrev pub roomRefusals : Limits → ℕ → Ledger → Transaction → List (Bool × ℕ)
+roomRefusals limits me ledger t =
+    (leb (limits .transactions) (length (ledger .known)), 9)
+    ∷ (tooFull limits me ledger t, 10)
+    ∷ []
+
+-- the rest: 7, 8, 9, 10
+abbrev pub registerRest : Limits → ℕ → Ledger → Transaction → List (Bool × ℕ)
+registerRest limits me ledger t =
+    (any (isOther t) (ledger .known), 7)
+    ∷ (any (isFor t) (ledger .known), 8)
+    ∷ roomRefusals limits me ledger t
 
 -- kind 1: 3, 4, 5, 6, 7, 8, 9, 10
 unfoldable pub registerRefusals : Limits → ℕ → Ledger → ℕ → Transaction → List (Bool × ℕ)
 registerRefusals limits me ledger receiver t =
-    (not (eqb receiver me), 3)
-    ∷ registerChecks (limits .genesis) receiver t
-    ++ (not (takesPart receiver t), 6)
-    ∷ (any (isOther t) (ledger .known), 7)
-    ∷ (any (isFor t) (ledger .known), 8)
-    ∷ (leb (limits .transactions) (length (ledger .known)), 9)
-    ∷ (ltb (limits .tokens) (length (ledger .tokens) + reserved me (ledger .known) + length (outputsHere me t)), 10)
-    ∷ []
+    registerForm limits me receiver t
+    ++ registerRest limits me ledger t
 
--- 3 to 6 of a vote, which a cluster checks before 16
+-- kind 2, the form: 3, 4, 5, 6; a cluster checks them before 16
 unfoldable pub deliverForm : Limits → ℕ → ℕ → ℕ → ℕ → Transaction → List (Bool × ℕ)
 deliverForm limits me receiver sender verdict t =
     (not (eqb receiver me), 3)
@@ -79,14 +110,19 @@ deliverForm limits me receiver sender verdict t =
     ∷ (not (takesPart sender t), 6)
     ∷ []
 
+-- the rest: 11, 7, 12
+abbrev pub deliverRest : Ledger → ℕ → ℕ → Transaction → List (Bool × ℕ)
+deliverRest ledger sender verdict t =
+    (not (any (hasNumber t) (ledger .known)), 11)
+    ∷ (any (isOther t) (ledger .known), 7)
+    ∷ (otherVerdict (heardFrom sender (entryOf t (ledger .known))) verdict, 12)
+    ∷ []
+
 -- kind 2 at a lone shard: 3, 4, 5, 6, 11, 7, 12
 unfoldable pub deliverRefusals : Limits → ℕ → Ledger → ℕ → ℕ → ℕ → Transaction → List (Bool × ℕ)
 deliverRefusals limits me ledger receiver sender verdict t =
     deliverForm limits me receiver sender verdict t
-    ++ (not (any (hasNumber t) (ledger .known)), 11)
-    ∷ (any (isOther t) (ledger .known), 7)
-    ∷ (otherVerdict (heardFrom sender (entryOf t (ledger .known))) verdict, 12)
-    ∷ []
+    ++ deliverRest ledger sender verdict t
 
 -- ---- One call at a lone shard
 

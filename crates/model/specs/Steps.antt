@@ -36,6 +36,14 @@ pub record Ledger : Type 0 where
 abbrev pub emptyLedger : Limits → Ledger
 emptyLedger limits = record { tokens = []; given = replicate (limits .genesis) false; known = [] }
 
+-- the ledger with these tokens, these genesis indices given and these known transactions, and all else as it was
+abbrev pub noting : Ledger → List Token → List Bool → List Known → Ledger
+noting ledger tokens given known = record { tokens = tokens; given = given; known = known }
+
+-- with these tokens and these known transactions
+abbrev pub holding : Ledger → List Token → List Known → Ledger
+holding ledger tokens known = noting ledger tokens (ledger .given) known
+
 -- ---- Opening: the shard holds the token (itself, 0, index)
 
 -- the token of an opening, pledged to no transaction
@@ -44,11 +52,8 @@ genesisToken index owner amount = record { creator = 0; index = index; owner = o
 
 -- the ledger after an opening
 unfoldable pub afterMint : Ledger → ℕ → ℕ → ℕ → Ledger
-afterMint ledger index owner amount = record {
-  tokens = ledger .tokens ++ (genesisToken index owner amount ∷ []);
-  given = set (ledger .given) index true;
-  known = ledger .known;
-}
+afterMint ledger index owner amount =
+    noting ledger (ledger .tokens ++ (genesisToken index owner amount ∷ [])) (set (ledger .given) index true) (ledger .known)
 
 -- ---- Registration: the inputs here, the available ones among them, the pledges, the message
 
@@ -85,9 +90,17 @@ abbrev pub pledgedTo : ℕ → Token → Token
 pledgedTo number token =
     record { creator = token .creator; index = token .index; owner = token .owner; amount = token .amount; pledge = number }
 
+-- with that pledge where a test holds of the token
+abbrev pub pledgeWhen : ℕ → (Token → Bool) → Token → Token
+pledgeWhen number test token = cond (test token) (pledgedTo number token) token
+
+-- one of the inputs names the token
+abbrev pub namedIn : List Input → Token → Bool
+namedIn inputs token = any (namedBy token) inputs
+
 -- pledged if one of the inputs names it
 abbrev pub pledgeIf : ℕ → List Input → Token → Token
-pledgeIf number inputs token = cond (any (namedBy token) inputs) (pledgedTo number token) token
+pledgeIf number inputs token = pledgeWhen number (namedIn inputs) token
 
 -- third, the pledges: the tokens of these inputs are pledged to the transaction of that number
 unfoldable pub pledges : ℕ → List Input → List Token → List Token
@@ -101,9 +114,21 @@ vote me tokens t = all (available tokens) (inputsHere me t)
 abbrev pub noted : Bool → ℕ
 noted verdict = cond verdict 2 1
 
--- the transaction as it becomes known: the vote counts as heard from this shard
+-- a transaction of which no vote is heard
+abbrev pub unheard : Transaction → Known
+unheard t = record { transaction = t; heard = replicate 8 0 }
+
+-- the known transaction with that noted for a sender
+abbrev pub withSaid : ℕ → ℕ → Known → Known
+withSaid sender said k = record { transaction = k .transaction; heard = set (k .heard) sender said }
+
+-- the transaction as it becomes known with this vote, which counts as heard from this shard
+abbrev pub knownWith : ℕ → Bool → Transaction → Known
+knownWith me verdict t = withSaid me (noted verdict) (unheard t)
+
+-- as it becomes known by its registration
 unfoldable pub newlyKnown : ℕ → List Token → Transaction → Known
-newlyKnown me tokens t = record { transaction = t; heard = set (replicate 8 0) me (noted (vote me tokens t)) }
+newlyKnown me tokens t = knownWith me (vote me tokens t) t
 
 -- ---- Vote: it is noted for its sender
 
@@ -113,7 +138,7 @@ heardFrom sender k = getD (k .heard) sender 0
 
 -- the known transaction with the sender's verdict (1 yes, 0 no) noted
 abbrev pub hearing : ℕ → ℕ → Known → Known
-hearing sender verdict k = record { transaction = k .transaction; heard = set (k .heard) sender (verdict + 1) }
+hearing sender verdict k = withSaid sender (verdict + 1) k
 
 -- ---- Decision: when votes of all the transaction's shards are heard, commit if all are yes, else abort
 
@@ -167,7 +192,7 @@ madeHere me t = tokensFrom me (t .number) 0 (usedOutputs t)
 
 -- no input here names the token
 abbrev pub stays : List Input → Token → Bool
-stays inputs token = not (any (namedBy token) inputs)
+stays inputs token = not (namedIn inputs token)
 
 -- the tokens after a commit
 unfoldable pub commit : ℕ → Transaction → List Token → List Token
@@ -186,7 +211,7 @@ unfoldable pub afterRegister : ℕ → Ledger → Transaction → Ledger
 afterRegister me ledger t =
     let k = newlyKnown me (ledger .tokens) t in
     let tokens = pledges (t .number) (availableHere me (ledger .tokens) t) (ledger .tokens) in
-    record { tokens = settle (outcomeOf k) me t tokens; given = ledger .given; known = ledger .known ++ (k ∷ []) }
+    holding ledger (settle (outcomeOf k) me t tokens) (ledger .known ++ (k ∷ []))
 
 -- is it this transaction, every field of it
 abbrev pub isFor : Transaction → Known → Bool
@@ -208,8 +233,4 @@ entryOf t known = getD known (placeOf t known) nothingKnown
 unfoldable pub afterVote : ℕ → Ledger → ℕ → ℕ → Transaction → Ledger
 afterVote me ledger sender verdict t =
     let k = hearing sender verdict (entryOf t (ledger .known)) in
-    record {
-      tokens = settle (outcomeOf k) me (k .transaction) (ledger .tokens);
-      given = ledger .given;
-      known = set (ledger .known) (placeOf t (ledger .known)) k;
-    }
+    holding ledger (settle (outcomeOf k) me (k .transaction) (ledger .tokens)) (set (ledger .known) (placeOf t (ledger .known)) k)

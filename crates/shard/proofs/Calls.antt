@@ -19,6 +19,7 @@ use Rattle.model.specs.Lists.{find}
 use Rattle.model.specs.Steps.{
   house,
   Ledger,
+  holding,
   genesisToken,
   afterMint,
   availableHere,
@@ -36,9 +37,10 @@ use Rattle.model.specs.Steps.{
   hearing,
   afterVote,
 }
-use Rattle.model.specs.Shard.{Call, mint, register, deliver, mintRefusals, registerRefusals, deliverForm, deliverRefusals, hear, shardStep}
+use Rattle.model.specs.Shard.{Call, mint, register, deliver, mintRefusals, registerRefusals, deliverForm, deliverRest, deliverRefusals, hear, shardStep}
 use Rattle.model.proofs.Basics.{eqb-eq, not-no, passed}
-use Rattle.model.proofs.Capacity.{Fit, fit-step, find-below}
+use Rattle.model.specs.Fit.{Fit}
+use Rattle.model.proofs.Capacity.{fit-step}
 use Rattle.model.proofs.Tables.{unless-refused, unless-done}
 use Rattle.model.proofs.Entries.{whole-known}
 use Rattle.model.proofs.Refusals.{shard-below, mint-passes, RegisterPasses, register-passes, DeliverPasses, deliver-passes}
@@ -50,9 +52,9 @@ use Rattle.registry.specs.Numbers.{isNumbered}
 use Rattle.registry.proofs.Finds.{asks-for, found-there, passes-there}
 use Rattle.shard.specs.View.{number, view, Sound, Steps}
 use Rattle.shard.specs.Parts.{Leaves, entryFor, enteredLedger, Entering, Entered, heardLedger, FreshVote, FreshDone}
-use Rattle.shard.specs.Tables.{deliverLedger}
 use Rattle.shard.proofs.Ledgers.{leaves-then, holds-leaves}
 use Rattle.shard.proofs.Once.{once-step}
+use Rattle.shard.proofs.Tables.{stands, stands-at, stands-there, verdict-there}
 
 -- what a call leaves
 module _ (ws : List ℕ) (sound : Sound ws) (call : Call) where
@@ -179,7 +181,7 @@ module _ (ws : List ℕ) (sound : Sound ws) (t : Transaction)
 
   -- after the pledges
   module _ (vs : List ℕ) (p : Changes (pledges (t .number) (availableHere me tokens t)) ws vs) {verdict : Bool} (ev : verdict ≡ vote me tokens t) where
-    same : Leaves ws (record { tokens = pledged; given = view ws .given; known = view ws .known }) (shardOf ws .known) vs
+    same : Leaves ws (holding (view ws) pledged (view ws .known)) (shardOf ws .known) vs
     same = holds-leaves ws vs p
 
     entered-is : enteredLedger verdict t vs ≡ afterRegister me (view ws) t
@@ -219,27 +221,16 @@ module _ (ws : List ℕ) (sound : Sound ws) (sender verdict : ℕ) (t : Transact
   vote-passes = deliver-passes house here (view ws) here sender verdict t pass
 
   pub vote-below : place < shardOf ws .known
-  vote-below = omega (arith, found, known-length ws (sound .known), find-below (isNumbered (t .number)) (view ws .known) (vote-passes .number-known))
+  vote-below = stands ws sound t found (vote-passes .number-known) (vote-passes .no-other)
 
   pub vote-slot : place < knownSlots
   vote-slot = omega (arith, vote-below, sound .known)
 
-  within : place < length (view ws .known)
-  within = omega (arith, vote-below, known-length ws (sound .known))
-
-  is-for : isFor t (getD (view ws .known) place nothingKnown) ≡ true
-  is-for =
-      sym (passes-there (view ws .known) (sound .once) (t .number) found within (isFor t) (asks-for t))
-      ∙ whole-known t (view ws .known) (vote-passes .number-known) (vote-passes .no-other)
-
-  -- it is the place of the transaction
   place-is : placeOf t (view ws .known) ≡ place
-  unfolding placeOf
-  place-is = found-there (view ws .known) (sound .once) (t .number) found within (isFor t) (asks-for t) is-for
+  place-is = stands-at ws sound t found (vote-passes .number-known) (vote-passes .no-other)
 
   entry-at : slotKnown ws place ≡ entryOf t (view ws .known)
-  unfolding entryOf
-  entry-at = known-entry ws place vote-below (sound .known) nothingKnown ∙ rw place-is refl
+  entry-at = stands-there ws sound t found (vote-passes .number-known) (vote-passes .no-other)
 
   hear-step : shardStep house here (view ws) (deliver here sender verdict t) ≡ hear here (view ws) sender verdict t
   unfolding shardStep
@@ -247,7 +238,7 @@ module _ (ws : List ℕ) (sound : Sound ws) (sender verdict : ℕ) (t : Transact
 
   module _ {heard : ℕ} (eh : heard ≡ getD (slotKnown ws place .heard) sender 0) where
     heard-is : heard ≡ heardFrom sender (entryOf t (view ws .known))
-    heard-is = eh ∙ ap (λ (k : Known). getD (k .heard) sender 0) entry-at
+    heard-is = verdict-there ws sound t found (vote-passes .number-known) (vote-passes .no-other) sender eh
 
     -- the sender was not heard before
     module _ (z : heard ≡ 0) where
@@ -309,7 +300,7 @@ module _ (ws : List ℕ) (sound : Sound ws) (receiver sender verdict : ℕ) (t :
   unfolding deliverRefusals
   form-refused n =
       deliver-refused ws sound n receiver sender verdict t
-      (own-form ∙ sym (first-stands (deliverForm house (number ws) receiver sender verdict t) (deliverLedger (view ws) sender verdict t)
+      (own-form ∙ sym (first-stands (deliverForm house (number ws) receiver sender verdict t) (deliverRest (view ws) sender verdict t)
       (λ z. n (own-form ∙ z))))
 
   addressed : cause ≡ 0 → receiver ≡ number ws
@@ -326,13 +317,13 @@ module _ (ws : List ℕ) (sound : Sound ws) (receiver sender verdict : ℕ) (t :
   form-back z {answer} {vs} h = subst (λ (p : ℕ). Steps ws (deliver p sender verdict t) answer vs) (sym (addressed z)) h
 
 module _ (ws : List ℕ) (sound : Sound ws) (sender verdict : ℕ) (t : Transaction) {cause : ℕ}
-    (form : firstOf (deliverForm house (number ws) (number ws) sender verdict t) ≡ 0) (found : cause ≡ firstOf (deliverLedger (view ws) sender verdict t)) where
+    (form : firstOf (deliverForm house (number ws) (number ws) sender verdict t) ≡ 0) (found : cause ≡ firstOf (deliverRest (view ws) sender verdict t)) where
   whole-cause : cause ≡ firstOf (deliverRefusals house (number ws) (view ws) (number ws) sender verdict t)
   unfolding deliverRefusals deliverForm
-  whole-cause = found ∙ sym (first-behind (deliverForm house (number ws) (number ws) sender verdict t) (deliverLedger (view ws) sender verdict t) refl form)
+  whole-cause = found ∙ sym (first-behind (deliverForm house (number ws) (number ws) sender verdict t) (deliverRest (view ws) sender verdict t) refl form)
 
-  pub ledger-refused : (cause ≡ 0 → ⊥) → Steps ws (deliver (number ws) sender verdict t) (Refused cause) ws
-  ledger-refused n = deliver-refused ws sound n (number ws) sender verdict t whole-cause
+  pub rest-refused : (cause ≡ 0 → ⊥) → Steps ws (deliver (number ws) sender verdict t) (Refused cause) ws
+  rest-refused n = deliver-refused ws sound n (number ws) sender verdict t whole-cause
 
-  pub ledger-passes : cause ≡ 0 → firstOf (deliverRefusals house (number ws) (view ws) (number ws) sender verdict t) ≡ 0
-  ledger-passes z = sym whole-cause ∙ z
+  pub rest-passes : cause ≡ 0 → firstOf (deliverRefusals house (number ws) (view ws) (number ws) sender verdict t) ≡ 0
+  rest-passes z = sym whole-cause ∙ z

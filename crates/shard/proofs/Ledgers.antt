@@ -15,9 +15,26 @@ use Rattle.model.specs.declared.Known.{Known}
 use Rattle.model.specs.declared.Outcome.{Outcome}
 use Rattle.model.specs.declared.Answer.{Answer}
 use Rattle.model.specs.declared.Answer.the-variants.{Heard}
-use Rattle.model.specs.Steps.{house, emptyLedger, Ledger, genesisToken, afterMint, outcomeOf, settle, inputsHere, available, availableHere, pledges, vote}
+use Rattle.model.specs.Steps.{
+  house,
+  emptyLedger,
+  Ledger,
+  holding,
+  genesisToken,
+  afterMint,
+  knownWith,
+  withSaid,
+  outcomeOf,
+  settle,
+  inputsHere,
+  available,
+  availableHere,
+  pledges,
+  vote,
+}
 use Rattle.model.specs.Lists.{keep}
-use Rattle.model.proofs.Capacity.{Fit, empty-fit}
+use Rattle.model.specs.Fit.{Fit}
+use Rattle.model.proofs.Capacity.{empty-fit}
 use Rattle.loops.proofs.Loops.{append-one}
 use Rattle.loops.proofs.Fours.{all-kept}
 use Rattle.layout.specs.Layout as layout
@@ -43,7 +60,6 @@ use Rattle.layout.specs.Layout.{
   withKnown,
   withTransactions,
   withGiven,
-  withSaid,
   noKnown,
   slotKnown,
   Becomes,
@@ -58,7 +74,6 @@ use Rattle.holdings.specs.declared.Inputs.{Inputs}
 use Rattle.holdings.specs.Held.{inputsOf, Room, Holds, Changes, Settling, Settles, settledAt}
 use Rattle.shard.specs.View.{number, view, Sound, Fresh}
 use Rattle.shard.specs.Parts.{
-  knownWith,
   Leaves,
   Minted,
   Grows,
@@ -85,11 +100,11 @@ leaves-then p q e = record {
 
 -- other tokens
 pub holds-leaves : (ws vs : List ℕ) {l : List Token} → Holds (shardOf ws) l vs
-    → Leaves ws (record { tokens = l; given = view ws .given; known = view ws .known }) (shardOf ws .known) vs
+    → Leaves ws (holding (view ws) l (view ws .known)) (shardOf ws .known) vs
 unfolding layout.view
 holds-leaves ws vs {l} p = record {
   long = p .long;
-  seen = ap layout.view (p .kept) ∙ ap (λ (t : List Token). record { tokens = t; given = view ws .given; known = view ws .known }) (p .tokens);
+  seen = ap layout.view (p .kept) ∙ ap (λ (t : List Token). holding (view ws) t (view ws .known)) (p .tokens);
   numbered = ap (λ (x : Shard). x .number) (p .kept);
   holds = ap (λ (x : Shard). x .held) (p .kept);
   knows = ap (λ (x : Shard). x .known) (p .kept);
@@ -97,14 +112,14 @@ holds-leaves ws vs {l} p = record {
 
 -- one known transaction more
 module _ (ws vs : List ℕ) (k : Known) (g : Grows ws k vs) (h : shardOf ws .held ≤ tokenSlots) (free : shardOf ws .known < knownSlots) where
-  pub grows-leaves : Leaves ws (record { tokens = view ws .tokens; given = view ws .given; known = view ws .known ++ (k ∷ []) }) (shardOf ws .known + 1) vs
+  pub grows-leaves : Leaves ws (holding (view ws) (view ws .tokens) (view ws .known ++ (k ∷ []))) (shardOf ws .known + 1) vs
   unfolding layout.view
   grows-leaves =
       let all = append-one (transactionsOf ws) (shardOf ws .known) k (omega (arith, length-known ws)) in
       record {
         long = g .is .long;
         seen =
-            ap layout.view (g .is .is) ∙ ap (λ (x : List Known). record { tokens = view ws .tokens; given = view ws .given; known = x }) all;
+            ap layout.view (g .is .is) ∙ ap (holding (view ws) (view ws .tokens)) all;
         numbered = ap (λ (x : Shard). x .number) (g .is .is);
         holds = ap (λ (x : Shard). x .held) (g .is .is) ∙ sym (held-length ws h);
         knows = ap (λ (x : Shard). x .known) (g .is .is);
@@ -125,13 +140,13 @@ grown ws vs us k {n} e p q =
 -- a known transaction changed
 module _ (ws vs : List ℕ) (place : ℕ) (k : Known) (p : PutsKnown ws place k vs) (h : shardOf ws .held ≤ tokenSlots)
     (below : place < shardOf ws .known) (most : shardOf ws .known ≤ knownSlots) where
-  pub changed-leaves : Leaves ws (record { tokens = view ws .tokens; given = view ws .given; known = set (view ws .known) place k }) (shardOf ws .known) vs
+  pub changed-leaves : Leaves ws (holding (view ws) (view ws .tokens) (set (view ws .known) place k)) (shardOf ws .known) vs
   unfolding layout.view
   changed-leaves =
       let there = take-set-lt (shardOf ws .known) (transactionsOf ws) place k below in
       record {
         long = p .long;
-        seen = ap layout.view (p .is) ∙ ap (λ (x : List Known). record { tokens = view ws .tokens; given = view ws .given; known = x }) there;
+        seen = ap layout.view (p .is) ∙ ap (holding (view ws) (view ws .tokens)) there;
         numbered = ap (λ (x : Shard). x .number) (p .is);
         holds = ap (λ (x : Shard). x .held) (p .is) ∙ sym (held-length ws h);
         knows = ap (λ (x : Shard). x .known) (p .is);
@@ -169,7 +184,7 @@ module _ (verdict : Bool) (t : Transaction) (ws : List ℕ) (pre : Entering verd
   is-entry : k ≡ entryFor verdict t ws
   is-entry = ek ∙ rw em refl
 
-  grows-to : Leaves ws (record { tokens = view ws .tokens; given = view ws .given; known = view ws .known ++ (entryFor verdict t ws ∷ []) })
+  grows-to : Leaves ws (holding (view ws) (view ws .tokens) (view ws .known ++ (entryFor verdict t ws ∷ [])))
       (shardOf ws .known + 1) vs
   grows-to = rw is-entry at (grows-leaves ws vs k g (pre .room .held) (pre .free))
 
@@ -191,7 +206,7 @@ module _ (verdict : Bool) (t : Transaction) (ws : List ℕ) (pre : Entering verd
 -- a vote noted
 module _ (place sender verdict : ℕ) (ws : List ℕ) (pre : FreshVote place sender verdict ws) (vs : List ℕ)
     (p : PutsKnown ws place (withSaid sender (verdict + 1) (slotKnown ws place)) vs) where
-  hears : Leaves ws (record { tokens = view ws .tokens; given = view ws .given; known = set (view ws .known) place (heardIn place sender verdict ws) })
+  hears : Leaves ws (holding (view ws) (view ws .tokens) (set (view ws .known) place (heardIn place sender verdict ws)))
       (shardOf ws .known) vs
   hears = changed-leaves ws vs place (heardIn place sender verdict ws) p (pre .room .held) (pre .entry) (pre .known)
 

@@ -1,5 +1,5 @@
 pub mod Once
 pub mod Ledgers
 pub mod Calls
-pub mod Rows
+pub mod Tables
 pub mod Asked

@@ -1,4 +1,3 @@
 pub mod View
-pub mod Tables
 pub mod Parts
 pub mod Queries

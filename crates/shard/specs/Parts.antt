@@ -3,21 +3,17 @@ use Prim.Native.Nat.{ℕ, _+_, _≤_, _<_}
 use mathlib.Core.Path.{_≡_}
 use mathlib.Core.Bool.{Bool}
 use mathlib.Core.List.{List, [], _∷_, _++_}
-use lib.ListN.{length, set, replicate}
+use lib.ListN.{length, set}
 use Rattle.transaction.specs.declared.Transaction.{Transaction}
 use Rattle.model.specs.declared.Token.{Token}
 use Rattle.model.specs.declared.Known.{Known}
 use Rattle.model.specs.declared.Outcome.{Outcome}
 use Rattle.model.specs.declared.Answer.{Answer}
 use Rattle.model.specs.declared.Answer.the-variants.{Heard}
-use Rattle.model.specs.Steps.{Ledger, availableHere, pledges, vote, noted, hearing, outcomeOf, settle, afterMint}
+use Rattle.model.specs.Steps.{Ledger, holding, availableHere, pledges, vote, knownWith, hearing, outcomeOf, settle, afterMint}
 use Rattle.layout.specs.Layout.{shardWords, tokenSlots, knownSlots, Shard, shardOf, withKnown, withTransactions, slotKnown, Becomes}
 use Rattle.holdings.specs.Held.{Room, Changes}
 use Rattle.shard.specs.View.{number, view}
-
--- a transaction that becomes known with this own verdict
-abbrev pub knownWith : ℕ → Bool → Transaction → Known
-knownWith me verdict t = record { transaction = t; heard = set (replicate 8 0) me (noted verdict) }
 
 -- the tokens of the available inputs here are pledged, and nothing else is changed; the verdict is the vote
 abbrev pub Pledges : Transaction → List ℕ → Bool → List ℕ → Type 0
@@ -42,8 +38,7 @@ pub record Grows (ws : List ℕ) (k : Known) (vs : List ℕ) : Type 0 where
 
 -- the ledger with the known transactions changed, and the tokens after the decision on one of them
 abbrev pub decidedOn : ℕ → Ledger → Known → List Known → Ledger
-decidedOn me ledger k known =
-    record { tokens = settle (outcomeOf k) me (k .transaction) (ledger .tokens); given = ledger .given; known = known }
+decidedOn me ledger k known = holding ledger (settle (outcomeOf k) me (k .transaction) (ledger .tokens)) known
 
 -- the transaction as it is entered, and the ledger after it
 abbrev pub entryFor : Bool → Transaction → List ℕ → Known

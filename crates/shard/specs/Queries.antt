@@ -3,13 +3,13 @@ use Prim.Native.Nat.{ℕ}
 use mathlib.Core.Bool.{Bool, cond, _&&_}
 use mathlib.Core.List.{List}
 use lib.Dec.{eqb, ltb}
-use lib.ListN.{length, getD, replicate}
+use lib.ListN.{length, getD}
 use Rattle.transaction.specs.Lists.{total}
 use Rattle.transaction.specs.Tokens.{blankTransaction}
 use Rattle.model.specs.declared.Token.{Token}
 use Rattle.model.specs.declared.Known.{Known}
 use Rattle.model.specs.Lists.{find}
-use Rattle.model.specs.Steps.{genesisToken, outcomeOf}
+use Rattle.model.specs.Steps.{genesisToken, unheard, outcomeOf}
 use Rattle.registry.specs.Numbers.{isNumbered}
 use Rattle.shard.specs.declared.queries.HeldToken.{HeldToken}
 use Rattle.shard.specs.declared.queries.HeldToken.the-variants.{Held, NotHeld}
@@ -30,7 +30,7 @@ tokenOfId tokens creator index = tokenAt tokens (find (hasId creator index) toke
 
 -- no known transaction (document 01: swap)
 abbrev pub blankKnown : Known
-blankKnown = record { transaction = blankTransaction; heard = replicate 8 0 }
+blankKnown = unheard blankTransaction
 
 -- the known transaction at a place (document 01: of a pantry's known swaps)
 abbrev pub knownAt : List Known → ℕ → Known

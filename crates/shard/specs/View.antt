@@ -6,7 +6,7 @@ use lib.ListN.{length}
 use Rattle.model.specs.declared.Answer.{Answer}
 use Rattle.model.specs.Steps.{Ledger, house, emptyLedger}
 use Rattle.model.specs.Shard.{Call, shardStep}
-use Rattle.model.proofs.Capacity.{Fit}
+use Rattle.model.specs.Fit.{Fit}
 use Rattle.layout.specs.Layout as layout
 use Rattle.layout.specs.Layout.{shardWords, tokenSlots, knownSlots, Shard, shardOf}
 use Rattle.registry.specs.Numbers.{OneEach}

@@ -11,6 +11,7 @@ use model::Answer;
 use registry::finding::place_of_number;
 use transaction::Transaction;
 
+mod rows; // the rows of the tables of refusals
 pub mod refusals; // the tables of refusals
 pub mod steps; // the steps that a call that passes takes
 pub mod queries; // what can be asked of a shard
@@ -65,7 +66,7 @@ pub fn hear_formed(s: &mut Words, sender: u8, verdict: u8, t: Transaction) -> An
     ensures { λ r. ⌜ Steps (now (s .entry)) (deliver (number (now (s .entry))) sender verdict t) r (now (s .exit)) ⌝ }
 {
     let place = place_of_number(s, t.number);
-    let cause = refusals::deliver_ledger(s, place, sender, verdict, t);
+    let cause = refusals::deliver_rest(s, place, sender, verdict, t);
     if cause != 0 {
         return Answer::Refused(cause);
     }

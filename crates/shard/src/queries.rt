@@ -124,7 +124,7 @@ pub fn is_given(s: &Words, index: u8) -> bool
     requires { ⌜ Sound (now s) ⌝ }
     ensures { λ r. ⌜ r ≡ getD (view (now (s .entry)) .given) index false ⌝ }
 {
-    crate::refusals::was_given(s, index)
+    crate::rows::was_given(s, index)
 }
 
 fn wide(x: u32) -> u64

@@ -1,22 +1,48 @@
-use mathlib.Core.Path.{refl}
-use mathlib.Core.List.{[]}
+use mathlib.Core.Path.{_≡_, refl}
+use mathlib.Core.Bool.{not}
+use mathlib.Core.List.{[], _∷_, _++_}
+use Prim.Native.Nat.{ℕ}
+use lib.Dec.{eqb}
+use Rattle.transaction.specs.Lists.{firstOf}
+use Rattle.transaction.specs.Tokens.{takesPart}
 use Rattle.transaction.specs.Checks.{voteChecks}
 use Rattle.model.specs.Shard.{deliverForm}
-use Rattle.shard.proofs.Rows.{other-shard, check-fits, checks-pass, partRow, no-part, has-part}
+use Rattle.shard.proofs.Tables.{Table, Says, none, here-not, past-not, stands-first, behind-first, other-shard, own-shard}
 use borrow.Author.Needs.{needs}
 use Rattle.shard.proofs.refusals.deliver_form.Statement.{statement}
 use Rattle.shard.proofs.refusals.deliver_form.Tie as tie
+
+-- The checks of the fields, and who takes part.
+abbrev checks : tie.Start → Table
+checks entry = voteChecks 128 (entry .args .receiver) (entry .args .sender) (entry .args .verdict) (entry .args .t)
+
+abbrev parts : tie.Start → Table
+parts entry = (not (takesPart (entry .args .receiver) (entry .args .t)), 6) ∷ (not (takesPart (entry .args .sender) (entry .args .t)), 6) ∷ []
+
+abbrev form : tie.Start → Table
+form entry = (not (eqb (entry .args .receiver) (entry .args .me)), 3) ∷ checks entry ++ parts entry
+
+answer : (entry : tie.Start) {number : ℕ} → Says (form entry) number → number ≡ firstOf (form entry)
+answer entry said = said .so
+
+-- It is addressed to this shard.
+own : {number : ℕ} (c : tie.Else1) → let entry : tie.Start = search in Says (checks entry ++ parts entry) number → Says (form entry) number
+own c s =
+    let entry : tie.Start = search in
+    own-shard (entry .args .receiver) (entry .args .me) (checks entry ++ parts entry) (c .if1 .left) (s .so)
+
+-- The checks of the fields have passed.
+passed : {number : ℕ} (c : tie.Else2) → let entry : tie.Start = search in Says (parts entry) number → Says (checks entry ++ parts entry) number
+passed c s =
+    let checked : tie.After-vote-cause = search in
+    let entry : tie.Start = search in
+    behind-first (checks entry) (parts entry) (checked .vote-cause .ensures) refl (c .if2 .left) (s .so)
 
 returns : tie.Need-returns
 unfolding deliverForm
 returns c =
     let entry : tie.Start = search in
-    let args = entry .args in
-    let if1 = c .if1 in
-    let last = partRow (args .sender) (args .t) [] in
-    let rest = partRow (args .receiver) (args .t) last in
-    let checks = voteChecks 128 (args .receiver) (args .sender) (args .verdict) (args .t) in
-    other-shard (args .receiver) (args .me) checks rest (if1 .taken)
+    other-shard (entry .args .receiver) (entry .args .me) (checks entry ++ parts entry) (c .if1 .taken) .so
 
 vote-cause-requires : tie.Need-vote-cause-requires
 vote-cause-requires c κs = search needs
@@ -24,93 +50,27 @@ vote-cause-requires c κs = search needs
 returns-2 : tie.Need-returns-2
 unfolding deliverForm
 returns-2 c =
-    let after-vote-cause : tie.After-vote-cause = search in
-    let else1 : tie.Else1 = search in
+    let checked : tie.After-vote-cause = search in
     let entry : tie.Start = search in
-    let args = entry .args in
-    let if1 = else1 .if1 in
-    let vote-cause = after-vote-cause .vote-cause in
-    let if2 = c .if2 in
-    let last = partRow (args .sender) (args .t) [] in
-    let rest = partRow (args .receiver) (args .t) last in
-    let checks = voteChecks 128 (args .receiver) (args .sender) (args .verdict) (args .t) in
-    check-fits (args .receiver) (args .me) checks rest (if1 .left) (vote-cause .ensures) (if2 .taken)
+    own (search) (stands-first (checks entry) (parts entry) (checked .vote-cause .ensures) (c .if2 .taken)) .so
 
 takes-part-requires : tie.Need-takes-part-requires
 takes-part-requires c κs = search needs
 
 returns-3 : tie.Need-returns-3
 unfolding deliverForm
-returns-3 c =
-    let after-takes-part : tie.After-takes-part = search in
-    let else2 : tie.Else2 = search in
-    let after-vote-cause : tie.After-vote-cause = search in
-    let else1 : tie.Else1 = search in
-    let entry : tie.Start = search in
-    let args = entry .args in
-    let if1 = else1 .if1 in
-    let vote-cause = after-vote-cause .vote-cause in
-    let if2 = else2 .if2 in
-    let takes-part = after-takes-part .takes-part in
-    let if3 = c .if3 in
-    let last = partRow (args .sender) (args .t) [] in
-    let rest = partRow (args .receiver) (args .t) last in
-    let checks = voteChecks 128 (args .receiver) (args .sender) (args .verdict) (args .t) in
-    checks-pass (args .receiver) (args .me) checks rest (if1 .left) (vote-cause .ensures) refl (if2 .left)
-    (no-part (args .t) (args .receiver) (takes-part .ensures) last (if3 .taken))
+returns-3 c = answer (search) (own (search) (passed (search) (search (none, here-not, past-not))))
 
 takes-part-requires-2 : tie.Need-takes-part-requires-2
 takes-part-requires-2 c κs = search needs
 
 returns-4 : tie.Need-returns-4
 unfolding deliverForm
-returns-4 c =
-    let after-takes-part2 : tie.After-takes-part2 = search in
-    let else3 : tie.Else3 = search in
-    let after-takes-part : tie.After-takes-part = search in
-    let else2 : tie.Else2 = search in
-    let after-vote-cause : tie.After-vote-cause = search in
-    let else1 : tie.Else1 = search in
-    let entry : tie.Start = search in
-    let args = entry .args in
-    let if1 = else1 .if1 in
-    let vote-cause = after-vote-cause .vote-cause in
-    let if2 = else2 .if2 in
-    let takes-part = after-takes-part .takes-part in
-    let if3 = else3 .if3 in
-    let takes-part2 = after-takes-part2 .takes-part2 in
-    let if4 = c .if4 in
-    let last = partRow (args .sender) (args .t) [] in
-    let rest = partRow (args .receiver) (args .t) last in
-    let checks = voteChecks 128 (args .receiver) (args .sender) (args .verdict) (args .t) in
-    checks-pass (args .receiver) (args .me) checks rest (if1 .left) (vote-cause .ensures) refl (if2 .left)
-    (has-part (args .t) (args .receiver) (takes-part .ensures) last (if3 .left)
-    (no-part (args .t) (args .sender) (takes-part2 .ensures) [] (if4 .taken)))
+returns-4 c = answer (search) (own (search) (passed (search) (search (none, here-not, past-not))))
 
 returns-5 : tie.Need-returns-5
 unfolding deliverForm
-returns-5 c =
-    let after-takes-part2 : tie.After-takes-part2 = search in
-    let else3 : tie.Else3 = search in
-    let after-takes-part : tie.After-takes-part = search in
-    let else2 : tie.Else2 = search in
-    let after-vote-cause : tie.After-vote-cause = search in
-    let else1 : tie.Else1 = search in
-    let entry : tie.Start = search in
-    let args = entry .args in
-    let if1 = else1 .if1 in
-    let vote-cause = after-vote-cause .vote-cause in
-    let if2 = else2 .if2 in
-    let takes-part = after-takes-part .takes-part in
-    let if3 = else3 .if3 in
-    let takes-part2 = after-takes-part2 .takes-part2 in
-    let if4 = c .if4 in
-    let last = partRow (args .sender) (args .t) [] in
-    let rest = partRow (args .receiver) (args .t) last in
-    let checks = voteChecks 128 (args .receiver) (args .sender) (args .verdict) (args .t) in
-    checks-pass (args .receiver) (args .me) checks rest (if1 .left) (vote-cause .ensures) refl (if2 .left)
-    (has-part (args .t) (args .receiver) (takes-part .ensures) last (if3 .left)
-    (has-part (args .t) (args .sender) (takes-part2 .ensures) [] (if4 .left) refl))
+returns-5 c = answer (search) (own (search) (passed (search) (search (none, here-not, past-not))))
 
 pub deliver-form-spec : {M : Type 1} → statement M
 deliver-form-spec =

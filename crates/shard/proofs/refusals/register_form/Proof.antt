@@ -1,74 +1,72 @@
-use mathlib.Core.Path.{refl}
-use mathlib.Core.List.{[]}
+use mathlib.Core.Path.{_≡_, refl}
+use mathlib.Core.Bool.{not}
+use mathlib.Core.List.{[], _∷_, _++_}
+use Prim.Native.Nat.{ℕ}
+use lib.Dec.{eqb}
+use Rattle.transaction.specs.Lists.{firstOf}
+use Rattle.transaction.specs.Tokens.{takesPart}
 use Rattle.transaction.specs.Checks.{registerChecks}
-use Rattle.shard.proofs.Rows.{other-shard, check-fits, checks-pass, partRow, no-part, has-part}
+use Rattle.shard.proofs.Tables.{Table, Says, none, here-not, past-not, stands-first, behind-first, other-shard, own-shard}
 use borrow.Author.Needs.{needs}
 use Rattle.shard.proofs.refusals.register_form.Statement.{statement}
 use Rattle.shard.proofs.refusals.register_form.Tie as tie
 
+-- The checks of the fields, and who takes part.
+abbrev checks : tie.Start → Table
+checks entry = registerChecks 128 (entry .args .receiver) (entry .args .t)
+
+abbrev parts : tie.Start → Table
+parts entry = (not (takesPart (entry .args .receiver) (entry .args .t)), 6) ∷ []
+
+abbrev form : tie.Start → Table
+form entry = (not (eqb (entry .args .receiver) (entry .args .me)), 3) ∷ checks entry ++ parts entry
+
+answer : (entry : tie.Start) {number : ℕ} → Says (form entry) number → number ≡ firstOf (form entry)
+answer entry said = said .so
+
+-- It is addressed to this shard.
+own : {number : ℕ} (c : tie.Else1) → let entry : tie.Start = search in Says (checks entry ++ parts entry) number → Says (form entry) number
+own c s =
+    let entry : tie.Start = search in
+    own-shard (entry .args .receiver) (entry .args .me) (checks entry ++ parts entry) (c .if1 .left) (s .so)
+
+-- The checks of the fields have passed.
+passed : {number : ℕ} (c : tie.Else2) → let entry : tie.Start = search in Says (parts entry) number → Says (checks entry ++ parts entry) number
+passed c s =
+    let checked : tie.After-register-cause = search in
+    let entry : tie.Start = search in
+    behind-first (checks entry) (parts entry) (checked .register-cause .ensures) refl (c .if2 .left) (s .so)
+
 returns : tie.Need-returns
 returns c =
     let entry : tie.Start = search in
-    let args = entry .args in
-    let if1 = c .if1 in
-    let rest = partRow (args .receiver) (args .t) [] in
-    other-shard (args .receiver) (args .me) (registerChecks 128 (args .receiver) (args .t)) rest (if1 .taken)
+    other-shard (entry .args .receiver) (entry .args .me) (checks entry ++ parts entry) (c .if1 .taken) .so
 
 register-cause-requires : tie.Need-register-cause-requires
 register-cause-requires c κs = search needs
 
 returns-2 : tie.Need-returns-2
 returns-2 c =
-    let after-register-cause : tie.After-register-cause = search in
-    let else1 : tie.Else1 = search in
+    let checked : tie.After-register-cause = search in
     let entry : tie.Start = search in
-    let args = entry .args in
-    let if1 = else1 .if1 in
-    let register-cause = after-register-cause .register-cause in
-    let if2 = c .if2 in
-    let rest = partRow (args .receiver) (args .t) [] in
-    check-fits (args .receiver) (args .me) (registerChecks 128 (args .receiver) (args .t)) rest (if1 .left) (register-cause .ensures) (if2 .taken)
+    own (search) (stands-first (checks entry) (parts entry) (checked .register-cause .ensures) (c .if2 .taken)) .so
 
 takes-part-requires : tie.Need-takes-part-requires
 takes-part-requires c κs = search needs
 
 returns-3 : tie.Need-returns-3
-returns-3 c =
-    let after-takes-part : tie.After-takes-part = search in
-    let else2 : tie.Else2 = search in
-    let after-register-cause : tie.After-register-cause = search in
-    let else1 : tie.Else1 = search in
-    let entry : tie.Start = search in
-    let args = entry .args in
-    let if1 = else1 .if1 in
-    let register-cause = after-register-cause .register-cause in
-    let if2 = else2 .if2 in
-    let takes-part = after-takes-part .takes-part in
-    let if3 = c .if3 in
-    let rest = partRow (args .receiver) (args .t) [] in
-    let checks = registerChecks 128 (args .receiver) (args .t) in
-    checks-pass (args .receiver) (args .me) checks rest (if1 .left) (register-cause .ensures) refl (if2 .left)
-    (no-part (args .t) (args .receiver) (takes-part .ensures) [] (if3 .taken))
+returns-3 c = answer (search) (own (search) (passed (search) (search (none, here-not, past-not))))
 
 returns-4 : tie.Need-returns-4
-returns-4 c =
-    let after-takes-part : tie.After-takes-part = search in
-    let else2 : tie.Else2 = search in
-    let after-register-cause : tie.After-register-cause = search in
-    let else1 : tie.Else1 = search in
-    let entry : tie.Start = search in
-    let args = entry .args in
-    let if1 = else1 .if1 in
-    let register-cause = after-register-cause .register-cause in
-    let if2 = else2 .if2 in
-    let takes-part = after-takes-part .takes-part in
-    let if3 = c .if3 in
-    let rest = partRow (args .receiver) (args .t) [] in
-    let checks = registerChecks 128 (args .receiver) (args .t) in
-    checks-pass (args .receiver) (args .me) checks rest (if1 .left) (register-cause .ensures) refl (if2 .left)
-    (has-part (args .t) (args .receiver) (takes-part .ensures) [] (if3 .left) refl)
+returns-4 c = answer (search) (own (search) (passed (search) (search (none, here-not, past-not))))
 
 pub register-form-spec : {M : Type 1} → statement M
 register-form-spec =
     tie.close
-    (tie.spec returns register-cause-requires returns-2 takes-part-requires returns-3 returns-4)
+    (tie.spec
+    returns
+    register-cause-requires
+    returns-2
+    takes-part-requires
+    returns-3
+    returns-4)

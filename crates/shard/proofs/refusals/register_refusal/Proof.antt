@@ -1,14 +1,28 @@
-use mathlib.Core.Path.{refl, ap, _∙_}
+use mathlib.Core.Path.{_≡_, refl, ap, _∙_}
 use Prim.Native.Nat.{ℕ}
 use Rattle.transaction.specs.Lists.{firstOf}
-use Rattle.transaction.proofs.Tables.{table-stands, table-behind}
-use Rattle.model.specs.Shard.{registerRefusals}
+use Rattle.model.specs.Steps.{house}
+use Rattle.model.specs.Shard.{registerForm, registerRest, registerRefusals}
 use Rattle.shard.specs.View.{number, view}
-use Rattle.shard.specs.Tables.{registerForm, registerLedger}
+use Rattle.shard.proofs.Tables.{Table, stands-first, behind-first}
 use denote.Ref.{now}
 use borrow.Author.Needs.{needs}
 use Rattle.shard.proofs.refusals.register_refusal.Statement.{statement}
 use Rattle.shard.proofs.refusals.register_refusal.Tie as tie
+
+-- The two parts of the table.
+abbrev form : tie.Start → ℕ → Table
+form entry me = registerForm house me (entry .args .receiver) (entry .args .t)
+
+abbrev rest : tie.Start → Table
+rest entry = registerRest house (number (now (entry .args .s))) (view (now (entry .args .s))) (entry .args .t)
+
+-- The form's number is this shard's.
+formed : (c : tie.After-register-form) → let entry : tie.Start = search in c .register-form .result ≡ firstOf (form entry (number (now (entry .args .s))))
+formed c =
+    let numbered : tie.After-own-number = search in
+    let entry : tie.Start = search in
+    c .register-form .ensures ∙ ap (λ (me : ℕ). firstOf (form entry me)) (numbered .own-number .ensures)
 
 own-number-requires : tie.Need-own-number-requires
 own-number-requires c κs = search needs
@@ -19,36 +33,21 @@ register-form-requires c κs = search needs
 returns : tie.Need-returns
 unfolding registerRefusals
 returns c =
-    let after-register-form : tie.After-register-form = search in
-    let after-own-number : tie.After-own-number = search in
     let entry : tie.Start = search in
-    let args = entry .args in
-    let register-form = after-register-form .register-form in
-    let own-number = after-own-number .own-number in
-    let if1 = c .if1 in
-    let ws = now (args .s) in
-    let form = register-form .ensures ∙ ap (λ (me : ℕ). firstOf (registerForm me (args .receiver) (args .t))) (own-number .ensures) in
-    table-stands (registerForm (number ws) (args .receiver) (args .t)) (registerLedger (number ws) (view ws) (args .t)) form (if1 .taken)
+    stands-first (form entry (number (now (entry .args .s)))) (rest entry) (formed (search)) (c .if1 .taken) .so
 
-register-ledger-requires : tie.Need-register-ledger-requires
-register-ledger-requires c κs = search needs
+place-of-number-requires : tie.Need-place-of-number-requires
+place-of-number-requires c κs = search needs
+
+register-rest-requires : tie.Need-register-rest-requires
+register-rest-requires c κs = search needs
 
 returns-2 : tie.Need-returns-2
 unfolding registerRefusals
 returns-2 c =
-    let else1 : tie.Else1 = search in
-    let after-register-form : tie.After-register-form = search in
-    let after-own-number : tie.After-own-number = search in
+    let passed : tie.Else1 = search in
     let entry : tie.Start = search in
-    let args = entry .args in
-    let register-form = after-register-form .register-form in
-    let own-number = after-own-number .own-number in
-    let if1 = else1 .if1 in
-    let register-ledger = c .register-ledger in
-    let ws = now (args .s) in
-    let form = register-form .ensures ∙ ap (λ (me : ℕ). firstOf (registerForm me (args .receiver) (args .t))) (own-number .ensures) in
-    table-behind (registerForm (number ws) (args .receiver) (args .t)) (registerLedger (number ws) (view ws) (args .t)) form refl (if1 .left)
-    (register-ledger .ensures)
+    behind-first (form entry (number (now (entry .args .s)))) (rest entry) (formed (search)) refl (passed .if1 .left) (c .register-rest .ensures) .so
 
 pub register-refusal-spec : {M : Type 1} → statement M
 register-refusal-spec =
@@ -57,5 +56,6 @@ register-refusal-spec =
     own-number-requires
     register-form-requires
     returns
-    register-ledger-requires
+    place-of-number-requires
+    register-rest-requires
     returns-2)

@@ -1,9 +1,9 @@
-use Rattle.shard.proofs.Rows.{not-full, full-is}
+use Rattle.shard.proofs.Tables.{not-full, full-is}
 use native.Mathlib.Omega.{arith}
 use denote.Ref.{now}
 use borrow.Author.Needs.{needs}
-use Rattle.shard.proofs.refusals.is_too_full.Statement.{statement}
-use Rattle.shard.proofs.refusals.is_too_full.Tie as tie
+use Rattle.shard.proofs.rows.is_too_full.Statement.{statement}
+use Rattle.shard.proofs.rows.is_too_full.Tie as tie
 
 own-number-requires : tie.Need-own-number-requires
 own-number-requires c κs = search needs

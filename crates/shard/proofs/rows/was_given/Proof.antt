@@ -6,8 +6,8 @@ use Rattle.layout.specs.Layout.{view, givenOf}
 use Rattle.layout.proofs.Slots.{length-given}
 use denote.Ref.{now}
 use borrow.Author.Needs.{needs}
-use Rattle.shard.proofs.refusals.was_given.Statement.{statement}
-use Rattle.shard.proofs.refusals.was_given.Tie as tie
+use Rattle.shard.proofs.rows.was_given.Statement.{statement}
+use Rattle.shard.proofs.rows.was_given.Tie as tie
 
 is-given-requires : tie.Need-is-given-requires
 is-given-requires c κs = search needs
