@@ -264,7 +264,8 @@ pub keep-out : {A : Type 0} (f : A → Bool) (l : List A) {x : A} → List·Mem�
 keep-out f [] m = elim m [ ]
 keep-out f (y ∷ l) {x} m = go (f y) refl m (keep-out f l)
   where
-    go : (b : Bool) → f y ≡ b → List·Memᴰ x (cond b (y ∷ keep f l) (keep f l)) → (List·Memᴰ x (keep f l) → List·Memᴰ x l × (f x ≡ true)) → List·Memᴰ x (y ∷ l) × (f x ≡ true)
+    go : (b : Bool) → f y ≡ b → List·Memᴰ x (cond b (y ∷ keep f l) (keep f l))
+        → (List·Memᴰ x (keep f l) → List·Memᴰ x l × (f x ≡ true)) → List·Memᴰ x (y ∷ l) × (f x ≡ true)
     go true p (List·Memᴰ·head q) h = (List·Memᴰ·head q, ap f q ∙ p)
     go true p (List·Memᴰ·tail q) h = (List·Memᴰ·tail (h q .0), h q .1)
     go false p q h = (List·Memᴰ·tail (h q .0), h q .1)

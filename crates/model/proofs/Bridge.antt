@@ -100,7 +100,8 @@ module _ {limits : Limits} (engine : Engine limits) where
   played x = let h = run-from 1 (emptyModel limits) (engine .first-sound) (engine .first-empty) x in record { answered = h .answered; viewed = h .viewed }
 
   -- a run that goes on
-  run-append : {s s′ s″ : State} {calls more : List Call} {replies others : List Answer} → Run s calls replies s′ → Run s′ more others s″ → Run s (calls ++ more) (replies ++ others) s″
+  run-append : {s s′ s″ : State} {calls more : List Call} {replies others : List Answer} → Run s calls replies s′
+      → Run s′ more others s″ → Run s (calls ++ more) (replies ++ others) s″
   run-append done y = y
   run-append (then x rest) y = then x (run-append rest y)
 
@@ -110,7 +111,8 @@ module _ {limits : Limits} (engine : Engine limits) where
     pub answered : replies ≡ playAnswers limits calls
     pub viewed : engine .view s ≡ play limits calls .shards
     -- no two shards decide one transaction differently
-    pub agreement : (p q : ℕ) (t : Transaction) → outcomeIn (ledger s p) t ≢ Wait → outcomeIn (ledger s q) t ≢ Wait → outcomeIn (ledger s p) t ≡ outcomeIn (ledger s q) t
+    pub agreement : (p q : ℕ) (t : Transaction) → outcomeIn (ledger s p) t ≢ Wait → outcomeIn (ledger s q) t ≢ Wait
+        → outcomeIn (ledger s p) t ≡ outcomeIn (ledger s q) t
     -- and none changes its decision while the run goes on
     pub finality : (more : List Call) (others : List Answer) (s′ : State) → Run s more others s′ → (p : ℕ) (t : Transaction)
         → outcomeIn (ledger s p) t ≢ Wait → outcomeIn (ledger s′ p) t ≡ outcomeIn (ledger s p) t
@@ -130,7 +132,8 @@ module _ {limits : Limits} (engine : Engine limits) where
     answered = played x .answered;
     viewed = played x .viewed;
     agreement = λ p q t. subst
-        (λ (l : List Ledger). outcomeIn (ledgerAt limits l p) t ≢ Wait → outcomeIn (ledgerAt limits l q) t ≢ Wait → outcomeIn (ledgerAt limits l p) t ≡ outcomeIn (ledgerAt limits l q) t)
+        (λ (l : List Ledger). outcomeIn (ledgerAt limits l p) t ≢ Wait → outcomeIn (ledgerAt limits l q) t ≢ Wait
+        → outcomeIn (ledgerAt limits l p) t ≡ outcomeIn (ledgerAt limits l q) t)
         shown (demand-3 limits calls .agreement p q t);
     finality = λ more others s′ y p t h.
         let outcome : List Ledger → Outcome = λ l. outcomeIn (ledgerAt limits l p) t in
@@ -142,7 +145,8 @@ module _ {limits : Limits} (engine : Engine limits) where
     demand = demand-3 limits calls;
     one-ledger = subst
         (λ (l : List Ledger). ((t : Transaction) → any (commits t) l ≡ true → (p : ℕ) → List·Memᴰ p (shardsOf t) → outcomeIn (ledgerAt limits l p) t ≢ Wait)
-        → (id : TokenId) → mapOption tokenValue (tokenAt (ledgerAt limits l (id .shard) .tokens) (id .creator) (id .index)) ≡ demand-3 limits calls .serial .ledger id)
+        → (id : TokenId) → mapOption tokenValue (tokenAt (ledgerAt limits l (id .shard) .tokens) (id .creator) (id .index))
+        ≡ demand-3 limits calls .serial .ledger id)
         shown (demand-3 limits calls .one-ledger);
   }
     where

@@ -18,7 +18,36 @@ use Rattle.model.specs.declared.Outcome.{Outcome}
 use Rattle.model.specs.declared.Outcome.the-variants.{Wait, Commit, Abort}
 use Rattle.model.specs.declared.Answer.{Answer}
 use Rattle.model.specs.Lists.{keep, find}
-use Rattle.model.specs.Steps.{Limits, Ledger, emptyLedger, genesisToken, inputsHere, availableHere, pledges, vote, noted, newlyKnown, heardFrom, hearing, outcomeOf, outputHere, outputsHere, tokenOf, tokensFrom, madeHere, stays, commit, settle, isFor, nothingKnown, placeOf, entryOf, afterMint, afterRegister, afterVote}
+use Rattle.model.specs.Steps.{
+  Limits,
+  Ledger,
+  emptyLedger,
+  genesisToken,
+  inputsHere,
+  availableHere,
+  pledges,
+  vote,
+  noted,
+  newlyKnown,
+  heardFrom,
+  hearing,
+  outcomeOf,
+  outputHere,
+  outputsHere,
+  tokenOf,
+  tokensFrom,
+  madeHere,
+  stays,
+  commit,
+  settle,
+  isFor,
+  nothingKnown,
+  placeOf,
+  entryOf,
+  afterMint,
+  afterRegister,
+  afterVote,
+}
 use Rattle.model.specs.Shard.{Call, ifUndecided, reservedBy, reserved, shardStep}
 use Rattle.model.specs.Fit.{isSet, counted, Fit}
 use Rattle.model.specs.Cluster.{ledgerAt}
@@ -26,7 +55,22 @@ use Rattle.model.specs.Model.{Model, emptyModel, step, after, play}
 use Rattle.model.proofs.Basics.{find-at, set-elim, getD-same}
 use Rattle.model.proofs.Entries.{same-eq, whole-known, outcome-heard}
 use Rattle.model.proofs.Refusals.{shard-below, part-in, MintPasses, RegisterPasses, DeliverPasses}
-use Rattle.model.proofs.Effects.{ShardEffect, shard-refused, shard-minted, shard-registered, shard-heard, shard-again, shard-effect, Effect, did-refuse, did-mint, did-register, did-hear, did-repeat, effect}
+use Rattle.model.proofs.Effects.{
+  ShardEffect,
+  shard-refused,
+  shard-minted,
+  shard-registered,
+  shard-heard,
+  shard-again,
+  shard-effect,
+  Effect,
+  did-refuse,
+  did-mint,
+  did-register,
+  did-hear,
+  did-repeat,
+  effect,
+}
 use Rattle.model.proofs.Steps.{Inv, step-next, empty-inv}
 
 -- ---- Lengths and sums
@@ -87,7 +131,8 @@ counted-set (b ∷ l) zero h e = go b e
     go false e = omega arith
 counted-set (b ∷ l) (suc i) h e = go b (counted-set l i (omega arith) e)
   where
-    go : (b : Bool) → counted (set l i true) ≡ counted l + 1 → length (cond b (b ∷ keep isSet (set l i true)) (keep isSet (set l i true))) ≡ length (cond b (b ∷ keep isSet l) (keep isSet l)) + 1
+    go : (b : Bool) → counted (set l i true) ≡ counted l + 1
+        → length (cond b (b ∷ keep isSet (set l i true)) (keep isSet (set l i true))) ≡ length (cond b (b ∷ keep isSet l) (keep isSet l)) + 1
     go true r = omega arith
     go false r = r
 
@@ -101,7 +146,8 @@ made-length me t = from 0 (usedOutputs t)
     from i (y ∷ ys) = go (outputHere me y) (from (suc i) ys)
       where
         go : (b : Bool) → length (tokensFrom me (t .number) (suc i) ys) ≡ length (keep (outputHere me) ys)
-            → length (cond b (tokenOf (t .number) i y ∷ tokensFrom me (t .number) (suc i) ys) (tokensFrom me (t .number) (suc i) ys)) ≡ length (cond b (y ∷ keep (outputHere me) ys) (keep (outputHere me) ys))
+            → length (cond b (tokenOf (t .number) i y ∷ tokensFrom me (t .number) (suc i) ys) (tokensFrom me (t .number) (suc i) ys))
+            ≡ length (cond b (y ∷ keep (outputHere me) ys) (keep (outputHere me) ys))
         go true h = ap suc h
         go false h = h
 
@@ -183,12 +229,17 @@ module _ (limits : Limits) (sized : limits .genesis ≤ limits .tokens) (me : �
         known-room = omega arith;
         flags = f .flags;
         only-given = λ e. absurd (not-nothing (ledger .known) k e);
-        checked = λ j m. ⊎-elim (f .checked j) (λ d. ap (λ (a : Known). causeOf (limits .genesis) (a .transaction)) (List·Memᴰ·eq-of-singleton d) ∙ form-checked (limits .genesis) t (h .form .fields) (h .form .distinct) (h .form .balances)) (List·Memᴰ·append-cases (ledger .known) m);
-        eight = λ j m. ⊎-elim (f .eight j) (λ d. ap (λ (a : Known). length (a .heard)) (List·Memᴰ·eq-of-singleton d) ∙ length-set (replicate 8 0) me (noted (vote me (ledger .tokens) t))) (List·Memᴰ·append-cases (ledger .known) m);
+        checked = λ j m. ⊎-elim (f .checked j)
+            (λ d. ap (λ (a : Known). causeOf (limits .genesis) (a .transaction)) (List·Memᴰ·eq-of-singleton d)
+            ∙ form-checked (limits .genesis) t (h .form .fields) (h .form .distinct) (h .form .balances)) (List·Memᴰ·append-cases (ledger .known) m);
+        eight = λ j m. ⊎-elim (f .eight j)
+            (λ d. ap (λ (a : Known). length (a .heard)) (List·Memᴰ·eq-of-singleton d)
+            ∙ length-set (replicate 8 0) me (noted (vote me (ledger .tokens) t))) (List·Memᴰ·append-cases (ledger .known) m);
       }
 
   -- a fresh vote keeps it fit
-  vote-fit : {receiver sender verdict : ℕ} {t : Transaction} → DeliverPasses limits me ledger receiver sender verdict t → heardFrom sender (entryOf t (ledger .known)) ≡ 0
+  vote-fit : {receiver sender verdict : ℕ} {t : Transaction} → DeliverPasses limits me ledger receiver sender verdict t
+      → heardFrom sender (entryOf t (ledger .known)) ≡ 0
       → Fit limits me (afterVote me ledger sender verdict t)
   unfolding afterVote reserved reservedBy entryOf placeOf
   vote-fit {sender = sender} {verdict = verdict} {t = t} h fresh =
@@ -199,9 +250,11 @@ module _ (limits : Limits) (sized : limits .genesis ≤ limits .tokens) (me : �
       let at = find-at (isFor t) known nothingKnown there in
       let whole : k .transaction ≡ t = same-eq (k .transaction) t (at .1) in
       let below = find-below (isFor t) known there in
-      let waits : outcomeOf k ≡ Wait = waiting k sender (subst (λ (s : Transaction). List·Memᴰ sender (shardsOf s)) (sym whole) (part-in sender t (h .sender-part))) fresh in
+      let waits : outcomeOf k ≡ Wait =
+      waiting k sender (subst (λ (s : Transaction). List·Memᴰ sender (shardsOf s)) (sym whole) (part-in sender t (h .sender-part))) fresh in
       let sum = total-set (reservedBy me) known (find (isFor t) known) k′ nothingKnown below in
-      let old : reservedBy me k ≡ length (outputsHere me (k .transaction)) = ap (λ (o : Outcome). ifUndecided o (length (outputsHere me (k .transaction)))) waits in
+      let old : reservedBy me k ≡ length (outputsHere me (k .transaction)) =
+      ap (λ (o : Outcome). ifUndecided o (length (outputsHere me (k .transaction)))) waits in
       let room = f .token-room in
       let after = settle-room (outcomeOf k′) me (k .transaction) (ledger .tokens) in
       let count = length-set known (find (isFor t) known) k′ in
@@ -211,8 +264,10 @@ module _ (limits : Limits) (sized : limits .genesis ≤ limits .tokens) (me : �
         known-room = omega arith;
         flags = f .flags;
         only-given = λ e. let z : length (set known (find (isFor t) known) k′) ≡ 0 = ap length e in absurd (omega arith);
-        checked = λ j m. ⊎-elim (λ e. ap (λ (a : Known). causeOf (limits .genesis) (a .transaction)) e ∙ f .checked k (at .0)) (f .checked j) (mem-set known (find (isFor t) known) k′ m);
-        eight = λ j m. ⊎-elim (λ e. ap (λ (a : Known). length (a .heard)) e ∙ length-set (k .heard) sender (verdict + 1) ∙ f .eight k (at .0)) (f .eight j) (mem-set known (find (isFor t) known) k′ m);
+        checked = λ j m. ⊎-elim (λ e. ap (λ (a : Known). causeOf (limits .genesis) (a .transaction)) e ∙ f .checked k (at .0))
+            (f .checked j) (mem-set known (find (isFor t) known) k′ m);
+        eight = λ j m. ⊎-elim (λ e. ap (λ (a : Known). length (a .heard)) e ∙ length-set (k .heard) sender (verdict + 1) ∙ f .eight k (at .0))
+            (f .eight j) (mem-set known (find (isFor t) known) k′ m);
       }
     where
       -- where a vote is missing, nothing is decided
@@ -233,7 +288,8 @@ module _ (limits : Limits) (sized : limits .genesis ≤ limits .tokens) (me : �
   shard-fit call _ (shard-again h z) = f
 
 -- every call at a lone shard keeps its ledger fit
-pub fit-step : (limits : Limits) → limits .genesis ≤ limits .tokens → (me : ℕ) (ledger : Ledger) → Fit limits me ledger → (call : Call) → Fit limits me (shardStep limits me ledger call .0)
+pub fit-step : (limits : Limits) → limits .genesis ≤ limits .tokens → (me : ℕ) (ledger : Ledger) → Fit limits me ledger
+    → (call : Call) → Fit limits me (shardStep limits me ledger call .0)
 fit-step limits sized me ledger f call = shard-fit limits sized me ledger f call (shardStep limits me ledger call) (shard-effect limits me ledger call)
 
 -- ---- In a cluster
@@ -248,10 +304,12 @@ module _ (limits : Limits) (sized : limits .genesis ≤ limits .tokens) where
       set-elim (λ q l. Fit limits q l) (model .shards) (emptyLedger limits) p _ (let e = w .eight in let b = shard-below p (h .receiver-fits) in omega arith)
       (mint-fit limits sized p (ledgerAt limits (model .shards) p) (f p) h) (λ q n. f q)
   step-fit place model w f call _ (did-register {p = p} h) =
-      set-elim (λ q l. Fit limits q l) (model .shards) (emptyLedger limits) p _ (let e = w .eight in let b = shard-below p (h .form .receiver-fits) in omega arith)
+      set-elim (λ q l. Fit limits q l) (model .shards) (emptyLedger limits) p _
+      (let e = w .eight in let b = shard-below p (h .form .receiver-fits) in omega arith)
       (register-fit limits sized p (ledgerAt limits (model .shards) p) (f p) h) (λ q n. f q)
   step-fit place model w f call _ (did-hear {p = p} h g z) =
-      set-elim (λ q l. Fit limits q l) (model .shards) (emptyLedger limits) p _ (let e = w .eight in let b = shard-below p (h .form .receiver-fits) in omega arith)
+      set-elim (λ q l. Fit limits q l) (model .shards) (emptyLedger limits) p _
+      (let e = w .eight in let b = shard-below p (h .form .receiver-fits) in omega arith)
       (vote-fit limits sized p (ledgerAt limits (model .shards) p) (f p) h z) (λ q n. f q)
 
   -- and so does every list of calls
@@ -261,7 +319,8 @@ module _ (limits : Limits) (sized : limits .genesis ≤ limits .tokens) where
   after-fit place model w f [] = f
   after-fit place model w f (call ∷ calls) =
       let e = effect limits place model call in
-      after-fit (suc place) (step limits place model call .0) (step-next limits place model w call (step limits place model call) e .inv) (step-fit place model w f call (step limits place model call) e) calls
+      after-fit (suc place) (step limits place model call .0)
+      (step-next limits place model w call (step limits place model call) e .inv) (step-fit place model w f call (step limits place model call) e) calls
 
   -- every shard of every play keeps its limits
   pub play-fit : (calls : List Call) (p : ℕ) → Fit limits p (ledgerAt limits (play limits calls .shards) p)

@@ -21,7 +21,18 @@ use Rattle.model.specs.Cluster.{ledgerAt}
 use Rattle.model.specs.Model.{Entry, Model, play}
 use Rattle.model.specs.Demand.{outcomeIn, heardAllIn, outcomeAt, heardAllAt, isCommit, commits, committed, WasAvailable}
 use Rattle.model.proofs.Basics.{eqb-yes, eqb-apart, both, clash, all-at, all-of, any-at, any-of, place-of, getD-mem}
-use Rattle.model.proofs.Entries.{look, entry-look, look-entry, look-number, outcome-yes, outcome-heard, outcome-cong, outcome-commit, commit≢wait, wait≢commit}
+use Rattle.model.proofs.Entries.{
+  look,
+  entry-look,
+  look-entry,
+  look-number,
+  outcome-yes,
+  outcome-heard,
+  outcome-cong,
+  outcome-commit,
+  commit≢wait,
+  wait≢commit,
+}
 use Rattle.model.proofs.Holdings.{here-shard, in-here}
 use Rattle.model.proofs.Invariant.{Voted, voted-available}
 use Rattle.model.proofs.Steps.{Inv, Grows, play-inv, play-grows}
@@ -95,16 +106,20 @@ module _ (limits : Limits) (model : Model) (w : Inv limits model) where
   -- ---- Agreement
 
   -- two shards that decided a transaction decided alike
-  pub agree-at : (p q : ℕ) (t : Transaction) → outcomeAt limits model p t ≢ Wait → outcomeAt limits model q t ≢ Wait → outcomeAt limits model p t ≡ outcomeAt limits model q t
+  pub agree-at : (p q : ℕ) (t : Transaction) → outcomeAt limits model p t ≢ Wait → outcomeAt limits model q t ≢ Wait
+      → outcomeAt limits model p t ≡ outcomeAt limits model q t
   agree-at p q t f g =
       let j = knows p t f in
       let k = knows q t g in
-      let hj : (a : ℕ) → List·Memᴰ a (shardsOf (j .entry .transaction)) → heardFrom a (j .entry) ≡ 0 → ⊥ = outcome-heard (j .entry) (λ e. f (j .is-outcome ∙ e)) in
-      let hk : (a : ℕ) → List·Memᴰ a (shardsOf (k .entry .transaction)) → heardFrom a (k .entry) ≡ 0 → ⊥ = outcome-heard (k .entry) (λ e. g (k .is-outcome ∙ e)) in
+      let hj : (a : ℕ) → List·Memᴰ a (shardsOf (j .entry .transaction)) → heardFrom a (j .entry) ≡ 0 → ⊥ =
+      outcome-heard (j .entry) (λ e. f (j .is-outcome ∙ e)) in
+      let hk : (a : ℕ) → List·Memᴰ a (shardsOf (k .entry .transaction)) → heardFrom a (k .entry) ≡ 0 → ⊥ =
+      outcome-heard (k .entry) (λ e. g (k .is-outcome ∙ e)) in
       let one : j .entry .transaction ≡ k .entry .transaction = j .whole ∙ sym (k .whole) in
       j .is-outcome
       ∙ outcome-cong (j .entry) (k .entry) one
-      (λ a m. voted-same a t (heardFrom a (j .entry)) (heardFrom a (k .entry)) (votes-at p t j a (hj a m)) (votes-at q t k a (hk a (subst (λ (s : Transaction). List·Memᴰ a (shardsOf s)) one m))))
+      (λ a m. voted-same a t (heardFrom a (j .entry)) (heardFrom a (k .entry)) (votes-at p t j a (hj a m))
+      (votes-at q t k a (hk a (subst (λ (s : Transaction). List·Memᴰ a (shardsOf s)) one m))))
       ∙ sym (k .is-outcome)
 
   -- ---- The commit rule
@@ -113,7 +128,8 @@ module _ (limits : Limits) (model : Model) (w : Inv limits model) where
   pub commit-votes : (p : ℕ) (t : Transaction) → outcomeAt limits model p t ≡ Commit → (q : ℕ) → List·Memᴰ q (shardsOf t) → Voted (model .log) q t 2
   commit-votes p t e q m =
       let k = knows p t (λ z. commit≢wait (sym e ∙ z)) in
-      let two : heardFrom q (k .entry) ≡ 2 = outcome-yes (k .entry) (sym (k .is-outcome) ∙ e) q (subst (λ (s : Transaction). List·Memᴰ q (shardsOf s)) (sym (k .whole)) m) in
+      let two : heardFrom q (k .entry) ≡ 2 =
+      outcome-yes (k .entry) (sym (k .is-outcome) ∙ e) q (subst (λ (s : Transaction). List·Memᴰ q (shardsOf s)) (sym (k .whole)) m) in
       subst (λ (c : ℕ). Voted (model .log) q t c) two (votes-at p t k q (λ z. eqb-apart {m = 0} {n = 2} refl (sym z ∙ two)))
 
   -- a committed transaction found each of its inputs available
@@ -148,7 +164,8 @@ module _ (limits : Limits) (model : Model) (w : Inv limits model) where
           let y = both (any (isFor t) known) (heardAll t (entryOf t known .heard)) h in
           let r = entry-look t known (w .at p .core .one-each) (y .0) in
           let k = knows-of p t (entryOf t known) (r .0) (r .1) in
-          let a : heardAll (entryOf t known .transaction) (entryOf t known .heard) ≡ true = subst (λ (s : Transaction). heardAll s (entryOf t known .heard) ≡ true) (sym (r .1)) (y .1) in
+          let a : heardAll (entryOf t known .transaction) (entryOf t known .heard) ≡ true =
+          subst (λ (s : Transaction). heardAll s (entryOf t known .heard) ≡ true) (sym (r .1)) (y .1) in
           outcome-of p t (entryOf t known) (r .0) (r .1)
           ∙ outcome-commit (entryOf t known) a (available-yes p t k a f)
 
@@ -170,11 +187,13 @@ module _ (limits : Limits) (model : Model) (w : Inv limits model) where
       go : (b : Bool) → ltb p (length (model .shards)) ≡ b → any (commits t) (model .shards) ≡ true
       go true z = any-of (commits t) (getD-mem (model .shards) p (emptyLedger limits) (ltb-true p (length (model .shards)) z)) (ap isCommit e)
       go false z =
-          let none-there : ledgerAt limits (model .shards) p ≡ emptyLedger limits = List·getD-eq-default (model .shards) (emptyLedger limits) (ltb-false p (length (model .shards)) z) in
+          let none-there : ledgerAt limits (model .shards) p ≡ emptyLedger limits =
+          List·getD-eq-default (model .shards) (emptyLedger limits) (ltb-false p (length (model .shards)) z) in
           absurd (wait≢commit (sym (ap (λ (l : Ledger). outcomeIn l t) none-there) ∙ e))
 
   -- a known transaction with that outcome is committed
-  pub committed-of : (p n : ℕ) (k : Known) → look (ledgerAt limits (model .shards) p .known) n ≡ some k → outcomeOf k ≡ Commit → committed model (k .transaction) ≡ true
+  pub committed-of : (p n : ℕ) (k : Known) → look (ledgerAt limits (model .shards) p .known) n ≡ some k → outcomeOf k
+      ≡ Commit → committed model (k .transaction) ≡ true
   committed-of p n k e y =
       let known : List Known = ledgerAt limits (model .shards) p .known in
       committed-at p (k .transaction) (outcome-of p (k .transaction) k (ap (look known) (look-number known n e) ∙ e) refl ∙ y)

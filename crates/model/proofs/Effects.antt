@@ -30,7 +30,8 @@ module _ (limits : Limits) (me : ℕ) (ledger : Ledger) where
     shard-heard : {receiver sender verdict : ℕ} {t : Transaction} → DeliverPasses limits me ledger receiver sender verdict t
         → firstOf (deliverForm limits me receiver sender verdict t) ≡ 0
         → heardFrom sender (entryOf t (ledger .known)) ≡ 0
-        → ShardEffect (deliver receiver sender verdict t) (afterVote me ledger sender verdict t, Heard (outcomeOf (hearing sender verdict (entryOf t (ledger .known)))))
+        → ShardEffect (deliver receiver sender verdict t)
+        (afterVote me ledger sender verdict t, Heard (outcomeOf (hearing sender verdict (entryOf t (ledger .known)))))
     shard-again : {receiver sender verdict : ℕ} {t : Transaction} → DeliverPasses limits me ledger receiver sender verdict t
         → (heardFrom sender (entryOf t (ledger .known)) ≡ 0 → ⊥)
         → ShardEffect (deliver receiver sender verdict t) (ledger, Again (outcomeOf (entryOf t (ledger .known))))
@@ -41,13 +42,17 @@ module _ (limits : Limits) (me : ℕ) (ledger : Ledger) where
   shard-effect (mint receiver index owner amount) = go (eqb (firstOf (mintRefusals limits me ledger receiver index owner amount)) 0) refl
     where
       go : (b : Bool) → eqb (firstOf (mintRefusals limits me ledger receiver index owner amount)) 0 ≡ b
-          → ShardEffect (mint receiver index owner amount) (cond b (afterMint ledger index owner amount, Minted) (ledger, Refused (firstOf (mintRefusals limits me ledger receiver index owner amount))))
-      go true e = shard-minted (mint-passes limits me ledger receiver index owner amount (eqb-eq (firstOf (mintRefusals limits me ledger receiver index owner amount)) 0 e))
+          → ShardEffect (mint receiver index owner amount)
+          (cond b (afterMint ledger index owner amount, Minted) (ledger, Refused (firstOf (mintRefusals limits me ledger receiver index owner amount))))
+      go true e = shard-minted (mint-passes limits me ledger receiver index owner amount
+          (eqb-eq (firstOf (mintRefusals limits me ledger receiver index owner amount)) 0 e))
       go false e = shard-refused (eqb-apart e)
   shard-effect (register receiver t) = go (eqb (firstOf (registerRefusals limits me ledger receiver t)) 0) refl
     where
       go : (b : Bool) → eqb (firstOf (registerRefusals limits me ledger receiver t)) 0 ≡ b
-          → ShardEffect (register receiver t) (cond b (afterRegister me ledger t, Registered (vote me (ledger .tokens) t) (outcomeOf (newlyKnown me (ledger .tokens) t))) (ledger, Refused (firstOf (registerRefusals limits me ledger receiver t))))
+          → ShardEffect (register receiver t)
+          (cond b (afterRegister me ledger t, Registered (vote me (ledger .tokens) t) (outcomeOf (newlyKnown me (ledger .tokens) t)))
+          (ledger, Refused (firstOf (registerRefusals limits me ledger receiver t))))
       go true e = shard-registered (register-passes limits me ledger receiver t (eqb-eq (firstOf (registerRefusals limits me ledger receiver t)) 0 e))
       go false e = shard-refused (eqb-apart e)
   shard-effect (deliver receiver sender verdict t) =
@@ -56,11 +61,13 @@ module _ (limits : Limits) (me : ℕ) (ledger : Ledger) where
       go : (b : Bool) → eqb (firstOf (deliverRefusals limits me ledger receiver sender verdict t)) 0 ≡ b
           → (c : Bool) → eqb (heardFrom sender (entryOf t (ledger .known))) 0 ≡ c
           → ShardEffect (deliver receiver sender verdict t) (cond b
-          (cond c (afterVote me ledger sender verdict t, Heard (outcomeOf (hearing sender verdict (entryOf t (ledger .known))))) (ledger, Again (outcomeOf (entryOf t (ledger .known)))))
+          (cond c (afterVote me ledger sender verdict t, Heard (outcomeOf (hearing sender verdict (entryOf t (ledger .known)))))
+          (ledger, Again (outcomeOf (entryOf t (ledger .known)))))
           (ledger, Refused (firstOf (deliverRefusals limits me ledger receiver sender verdict t))))
       go true e true f =
           let z = eqb-eq (firstOf (deliverRefusals limits me ledger receiver sender verdict t)) 0 e in
-          shard-heard (deliver-passes limits me ledger receiver sender verdict t z) (form-passes limits me ledger receiver sender verdict t z) (eqb-eq (heardFrom sender (entryOf t (ledger .known))) 0 f)
+          shard-heard (deliver-passes limits me ledger receiver sender verdict t z)
+          (form-passes limits me ledger receiver sender verdict t z) (eqb-eq (heardFrom sender (entryOf t (ledger .known))) 0 f)
       go true e false f =
           let z = eqb-eq (firstOf (deliverRefusals limits me ledger receiver sender verdict t)) 0 e in
           shard-again (deliver-passes limits me ledger receiver sender verdict t z) (eqb-apart f)
@@ -81,11 +88,16 @@ module _ (limits : Limits) (place : ℕ) (model : Model) where
   pub data Effect : Call → Model × Answer → Type 0 where
     did-refuse : {call : Call} {n : ℕ} → (n ≡ 0 → ⊥) → Effect call (model, Refused n)
     did-mint : {p index owner amount : ℕ} → MintPasses limits p (at p) p index owner amount
-        → Effect (mint p index owner amount)
-        (replaced p (afterMint (at p) index owner amount) (model .log) (record { shard = p; index = index; owner = owner; amount = amount } ∷ model .minted), Minted)
+        → Effect (mint p index owner amount) (
+          replaced p (afterMint (at p) index owner amount) (model .log)
+              (record { shard = p; index = index; owner = owner; amount = amount } ∷ model .minted),
+          Minted,
+        )
     did-register : {p : ℕ} {t : Transaction} → RegisterPasses limits p (at p) p t
-        → Effect (register p t)
-        (replaced p (afterRegister p (at p) t) (entryFor limits place (model .shards) p t ∷ model .log) (model .minted), Registered (vote p (at p .tokens) t) (outcomeOf (newlyKnown p (at p .tokens) t)))
+        → Effect (register p t) (
+          replaced p (afterRegister p (at p) t) (entryFor limits place (model .shards) p t ∷ model .log) (model .minted),
+          Registered (vote p (at p .tokens) t) (outcomeOf (newlyKnown p (at p .tokens) t)),
+        )
     did-hear : {p sender verdict : ℕ} {t : Transaction} → DeliverPasses limits p (at p) p sender verdict t
         → gave (at sender) sender verdict t ≡ true → heardFrom sender (entryOf t (at p .known)) ≡ 0
         → Effect (deliver p sender verdict t)
@@ -114,14 +126,16 @@ module _ (limits : Limits) (place : ℕ) (model : Model) where
   mint-effect p index owner amount _ (shard-minted h) = did-mint h
 
   -- a registration's effect from that at its shard
-  register-effect : (p : ℕ) (t : Transaction) (r : Ledger × Answer) → ShardEffect limits p (at p) (register p t) r → Effect (register p t) (noted-at p (register p t) r)
+  register-effect : (p : ℕ) (t : Transaction) (r : Ledger × Answer) → ShardEffect limits p (at p) (register p t) r
+      → Effect (register p t) (noted-at p (register p t) r)
   unfolding logAfter mintedAfter
   register-effect p t _ (shard-refused h) = back p (did-refuse h)
   register-effect p t _ (shard-registered h) = did-register h
 
   -- a vote's effect from that at its shard
   deliver-effect : (p sender verdict : ℕ) (t : Transaction) → notGiven limits (model .shards) p sender verdict t ≡ false
-      → (r : Ledger × Answer) → ShardEffect limits p (at p) (deliver p sender verdict t) r → Effect (deliver p sender verdict t) (noted-at p (deliver p sender verdict t) r)
+      → (r : Ledger × Answer) → ShardEffect limits p (at p) (deliver p sender verdict t) r
+      → Effect (deliver p sender verdict t) (noted-at p (deliver p sender verdict t) r)
   unfolding logAfter mintedAfter notGiven
   deliver-effect p sender verdict t g _ (shard-refused h) = back p (did-refuse h)
   deliver-effect p sender verdict t g _ (shard-heard h f z) =
@@ -139,6 +153,9 @@ module _ (limits : Limits) (place : ℕ) (model : Model) where
       done = atShard limits (model .shards) p (deliver p sender verdict t)
 
       go : (b : Bool) → notGiven limits (model .shards) p sender verdict t ≡ b
-          → Effect (deliver p sender verdict t) (record { shards = cond {A = List Ledger × Answer} b (model .shards, Refused 16) done .0; log = model .log; minted = model .minted }, cond {A = List Ledger × Answer} b (model .shards, Refused 16) done .1)
+          → Effect (deliver p sender verdict t) (
+            record { shards = cond {A = List Ledger × Answer} b (model .shards, Refused 16) done .0; log = model .log; minted = model .minted },
+            cond {A = List Ledger × Answer} b (model .shards, Refused 16) done .1,
+          )
       go true e = did-refuse (eqb-apart {m = 16} {n = 0} refl)
       go false e = deliver-effect p sender verdict t e _ (shard-effect limits p (at p) (deliver p sender verdict t))

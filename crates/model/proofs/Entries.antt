@@ -17,7 +17,28 @@ use Rattle.model.specs.declared.Outcome.the-variants.{Wait, Commit, Abor
 use Rattle.model.specs.Lists.{find, lookup}
 use Rattle.model.specs.Steps.{isFor, nothingKnown, placeOf, entryOf, heardFrom, isHeard, isYes, heardAll, allYes, decide, outcomeOf}
 use Rattle.model.specs.Shard.{hasNumber, isOther}
-use Rattle.model.proofs.Basics.{eqb-eq, eqb-same, eqb-yes, eqb-no, eqb-apart, not-yes, not-no, clash, and-intro, some≢none, some-inj, all-at, all-cong, any-at, any-of, any-none, any-no, find-at, all-append, all-map}
+use Rattle.model.proofs.Basics.{
+  eqb-eq,
+  eqb-same,
+  eqb-yes,
+  eqb-no,
+  eqb-apart,
+  not-yes,
+  not-no,
+  clash,
+  and-intro,
+  some≢none,
+  some-inj,
+  all-at,
+  all-cong,
+  any-at,
+  any-of,
+  any-none,
+  any-no,
+  find-at,
+  all-append,
+  all-map,
+}
 use Rattle.model.proofs.Lookups.{lookup-passes, lookup-mem, lookup-no, Alone, alone-lookup}
 
 -- the test of whole-field equality, both ways
@@ -52,7 +73,8 @@ look-number l n {k} e = eqb-eq (k .transaction .number) n (lookup-passes (number
 
 -- a known transaction is found by its number
 pub mem-look : (l : List Known) → OneEach l → {k : Known} → List·Memᴰ k l → look l (k .transaction .number) ≡ some k
-mem-look l s m = alone-lookup sameNumber (λ k. eqb-same (k .transaction .number)) (λ a b e. eqb-yes (sym (eqb-eq (b .transaction .number) (a .transaction .number) e))) l s m
+mem-look l s m = alone-lookup sameNumber (λ k. eqb-same (k .transaction .number))
+    (λ a b e. eqb-yes (sym (eqb-eq (b .transaction .number) (a .transaction .number) e))) l s m
 
 -- an entry put in the place of the one of its number, or behind the others: one form for registrations and votes
 abbrev pub put : Known → List Known → List Known
@@ -72,7 +94,8 @@ look-put k (j ∷ l) n = go (eqb (j .transaction .number) (k .transaction .numbe
     go : (b : Bool) → eqb (j .transaction .number) (k .transaction .number) ≡ b → look (put k l) n ≡ cond (eqb (k .transaction .number) n) (some k) (look l n)
         → look (cond b (k ∷ l) (j ∷ put k l)) n ≡ cond (eqb (k .transaction .number) n) (some k) (cond (eqb (j .transaction .number) n) (some j) (look l n))
     go true p h =
-        let q : eqb (j .transaction .number) n ≡ eqb (k .transaction .number) n = ap (λ (m : ℕ). eqb m n) (eqb-eq (j .transaction .number) (k .transaction .number) p) in
+        let q : eqb (j .transaction .number) n ≡ eqb (k .transaction .number) n =
+        ap (λ (m : ℕ). eqb m n) (eqb-eq (j .transaction .number) (k .transaction .number) p) in
         skip (eqb (k .transaction .number) n) (eqb (j .transaction .number) n) q
       where
         skip : (a b : Bool) → b ≡ a → cond a (some k) (look l n) ≡ cond a (some k) (cond b (some j) (look l n))
@@ -81,7 +104,8 @@ look-put k (j ∷ l) n = go (eqb (j .transaction .number) (k .transaction .numbe
     go false p h =
         ap (λ (o : Option Known). cond (eqb (j .transaction .number) n) (some j) o) h
         ∙ two (eqb (j .transaction .number) n) (eqb (k .transaction .number) n) (some j) (look l n)
-        (λ a b. eqb-apart {m = j .transaction .number} {n = k .transaction .number} p (eqb-eq (j .transaction .number) n a ∙ sym (eqb-eq (k .transaction .number) n b)))
+        (λ a b. eqb-apart {m = j .transaction .number} {n = k .transaction .number} p
+        (eqb-eq (j .transaction .number) n a ∙ sym (eqb-eq (k .transaction .number) n b)))
 
 -- the entry put in is found by its number
 pub look-put-same : (k : Known) (l : List Known) {n : ℕ} → k .transaction .number ≡ n → look (put k l) n ≡ some k
@@ -122,7 +146,8 @@ append-put k (j ∷ l) e = go (eqb (j .transaction .number) (k .transaction .num
     go false q h = ap (λ (m : List Known). j ∷ m) (h q)
 
 -- in the place of the one that is known
-pub set-put : (t : Transaction) (k : Known) (l : List Known) → OneEach l → k .transaction .number ≡ t .number → any (isFor t) l ≡ true → set l (find (isFor t) l) k ≡ put k l
+pub set-put : (t : Transaction) (k : Known) (l : List Known) → OneEach l → k .transaction .number ≡ t .number
+    → any (isFor t) l ≡ true → set l (find (isFor t) l) k ≡ put k l
 set-put t k [] s n e = absurd (false≢true e)
 set-put t k (j ∷ l) s n e = go (isFor t j) refl e (set-put t k l (s .1) n)
   where
@@ -136,7 +161,8 @@ set-put t k (j ∷ l) s n e = go (isFor t j) refl e (set-put t k l (s .1) n)
         let z : r .0 .transaction .number ≡ t .number = ap (λ (a : Transaction). a .number) (same-eq (r .0 .transaction) t (r .2)) in
         let apart : j .transaction .number ≡ k .transaction .number → ⊥ =
         λ w. some≢none (mem-look l (s .1) (r .1)) (ap (look l) (z ∙ sym n ∙ sym w) ∙ s .0) in
-        ap (λ (m : List Known). j ∷ m) (h q) ∙ sym (ap (λ (b : Bool). cond b (k ∷ l) (j ∷ put k l)) (eqb-no {m = j .transaction .number} {n = k .transaction .number} apart))
+        ap (λ (m : List Known). j ∷ m) (h q)
+        ∙ sym (ap (λ (b : Bool). cond b (k ∷ l) (j ∷ put k l)) (eqb-no {m = j .transaction .number} {n = k .transaction .number} apart))
 
 -- refusals 7 and 8 passed: the number is unknown
 pub number-unknown : (t : Transaction) (l : List Known) → any (isOther t) l ≡ false → any (isFor t) l ≡ false → look l (t .number) ≡ none
@@ -150,7 +176,8 @@ whole-known t l number other =
     any-of (isFor t) (r .1) (not-no (isFor t (r .0)) (not-yes (λ n. clash (and-intro (r .2) n) (any-none (isOther t) other (r .1)))))
 
 -- the entry of a known transaction, by its place and by its number
-pub entry-look : (t : Transaction) (l : List Known) → OneEach l → any (isFor t) l ≡ true → (look l (t .number) ≡ some (entryOf t l)) × (entryOf t l .transaction ≡ t)
+pub entry-look : (t : Transaction) (l : List Known) → OneEach l → any (isFor t) l ≡ true
+    → (look l (t .number) ≡ some (entryOf t l)) × (entryOf t l .transaction ≡ t)
 unfolding entryOf placeOf
 entry-look t l s e =
     let r = find-at (isFor t) l nothingKnown e in
@@ -158,7 +185,8 @@ entry-look t l s e =
     (ap (λ (a : Transaction). look l (a .number)) (sym w) ∙ mem-look l s (r .0), w)
 
 -- the entry by its number is the entry by its place
-pub look-entry : (t : Transaction) (l : List Known) → OneEach l → {k : Known} → look l (t .number) ≡ some k → k .transaction ≡ t → (any (isFor t) l ≡ true) × (entryOf t l ≡ k)
+pub look-entry : (t : Transaction) (l : List Known) → OneEach l → {k : Known} → look l (t .number) ≡ some k
+    → k .transaction ≡ t → (any (isFor t) l ≡ true) × (entryOf t l ≡ k)
 look-entry t l s {k} e w =
     let a : any (isFor t) l ≡ true = any-of (isFor t) (lookup-mem (numbered (t .number)) l e) (same-true w) in
     (a, some-inj (sym (entry-look t l s a .0) ∙ e))
@@ -192,16 +220,19 @@ pub outcome-heard : (k : Known) → (outcomeOf k ≡ Wait → ⊥) → (q : ℕ)
 unfolding decide
 outcome-heard k f q m = go (heardAll (k .transaction) (k .heard)) refl f
   where
-    go : (a : Bool) → heardAll (k .transaction) (k .heard) ≡ a → (cond a (cond (allYes (k .transaction) (k .heard)) Commit Abort) Wait ≡ Wait → ⊥) → heardFrom q k ≡ 0 → ⊥
+    go : (a : Bool) → heardAll (k .transaction) (k .heard) ≡ a
+        → (cond a (cond (allYes (k .transaction) (k .heard)) Commit Abort) Wait ≡ Wait → ⊥) → heardFrom q k ≡ 0 → ⊥
     go true p f e = clash (all-at (isHeard (k .heard)) (shardsOf (k .transaction)) p q m) (ap not (eqb-yes e))
     go false p f e = f refl
 
 -- the outcome depends on what was heard from the transaction's shards only
-pub outcome-cong : (j k : Known) → j .transaction ≡ k .transaction → ((q : ℕ) → List·Memᴰ q (shardsOf (j .transaction)) → heardFrom q j ≡ heardFrom q k) → outcomeOf j ≡ outcomeOf k
+pub outcome-cong : (j k : Known) → j .transaction ≡ k .transaction
+    → ((q : ℕ) → List·Memᴰ q (shardsOf (j .transaction)) → heardFrom q j ≡ heardFrom q k) → outcomeOf j ≡ outcomeOf k
 unfolding decide
 outcome-cong j k e h =
     let move : (f : ℕ → Bool) → all f (shardsOf (j .transaction)) ≡ all f (shardsOf (k .transaction)) = λ f. ap (λ (s : Transaction). all f (shardsOf s)) e in
-    let a : heardAll (j .transaction) (j .heard) ≡ heardAll (k .transaction) (k .heard) = all-cong _ _ _ (λ q m. ap (λ (c : ℕ). not (eqb c 0)) (h q m)) ∙ move _ in
+    let a : heardAll (j .transaction) (j .heard) ≡ heardAll (k .transaction) (k .heard) =
+    all-cong _ _ _ (λ q m. ap (λ (c : ℕ). not (eqb c 0)) (h q m)) ∙ move _ in
     let b : allYes (j .transaction) (j .heard) ≡ allYes (k .transaction) (k .heard) = all-cong _ _ _ (λ q m. ap (λ (c : ℕ). eqb c 2) (h q m)) ∙ move _ in
     λ i. cond (a i) (cond (b i) Commit Abort) Wait
 
@@ -211,7 +242,8 @@ unfolding decide
 outcome-commit k a b = λ i. cond (a i) (cond (b i) Commit Abort) Wait
 
 -- a test of all shards of a transaction, by its inputs and by its outputs
-pub all-shards : (f : ℕ → Bool) (t : Transaction) → all f (shardsOf t) ≡ all (λ (x : Input). f (inputShard x)) (usedInputs t) && all (λ (y : Output). f (outputShard y)) (usedOutputs t)
+pub all-shards : (f : ℕ → Bool) (t : Transaction) → all f (shardsOf t)
+    ≡ all (λ (x : Input). f (inputShard x)) (usedInputs t) && all (λ (y : Output). f (outputShard y)) (usedOutputs t)
 all-shards f t =
     all-append f (map inputShard (usedInputs t)) (map outputShard (usedOutputs t))
     ∙ (λ i. all-map f inputShard (usedInputs t) i && all-map f outputShard (usedOutputs t) i)

@@ -15,8 +15,39 @@ use Rattle.model.specs.declared.Token.{Token}
 use Rattle.model.specs.declared.Outcome.the-variants.{Wait, Commit, Abort}
 use Rattle.model.specs.declared.Answer.the-variants.{Refused, Minted, Registered, Heard, Again}
 use Rattle.model.specs.Lists.{andThen}
-use Rattle.model.specs.Steps.{Limits, house, inputsHere, available, availableHere, pledges, vote, newlyKnown, decide, outputsHere, madeHere, commit, afterMint, afterRegister, afterVote, placeOf, entryOf}
-use Rattle.model.specs.Shard.{Call, mint, register, deliver, reservedBy, reserved, mintRefusals, registerRefusals, deliverForm, deliverRefusals, hear, shardStep}
+use Rattle.model.specs.Steps.{
+  Limits,
+  house,
+  inputsHere,
+  available,
+  availableHere,
+  pledges,
+  vote,
+  newlyKnown,
+  decide,
+  outputsHere,
+  madeHere,
+  commit,
+  afterMint,
+  afterRegister,
+  afterVote,
+  placeOf,
+  entryOf,
+}
+use Rattle.model.specs.Shard.{
+  Call,
+  mint,
+  register,
+  deliver,
+  reservedBy,
+  reserved,
+  mintRefusals,
+  registerRefusals,
+  deliverForm,
+  deliverRefusals,
+  hear,
+  shardStep,
+}
 use Rattle.model.specs.Cluster.{ledgerAt, gave, notGiven, atShard, clusterStep}
 use Rattle.model.specs.Model.{logAfter, mintedAfter, step, after, answers, play, playAnswers}
 use Rattle.model.specs.Demand.{outcomeIn, committed, serialFrom, serialOrder, Value, genesisLedger, takeInputs, addOutputs, spend, serialRun}
@@ -106,7 +137,8 @@ small = record { tokens = 2; transactions = 2; genesis = 2 }
 -- the facts
 pub record Examples : Type 0 where
   -- document 01's seven calls, and what the shards then hold
-  seven-answers : playAnswers house (known-at-both ++ votes) ≡ Minted ∷ Minted ∷ Registered true Wait ∷ Registered true Wait ∷ Heard Commit ∷ Heard Commit ∷ Again Commit ∷ []
+  seven-answers : playAnswers house (known-at-both ++ votes) ≡ Minted ∷ Minted ∷ Registered true Wait
+      ∷ Registered true Wait ∷ Heard Commit ∷ Heard Commit ∷ Again Commit ∷ []
   seven-0 : tokensAfter (known-at-both ++ votes) 0 ≡ token 5 1 20 2 0 ∷ []
   seven-1 : tokensAfter (known-at-both ++ votes) 1 ≡ token 5 0 10 3 0 ∷ []
   seven-order : serialOrder (play house (known-at-both ++ votes)) ≡ both ∷ []
@@ -117,7 +149,8 @@ pub record Examples : Type 0 where
   cut-0 : tokensAfter (known-at-both ++ (deliver 0 1 1 both ∷ [])) 0 ≡ token 5 1 20 2 0 ∷ []
   cut-1 : tokensAfter (known-at-both ++ (deliver 0 1 1 both ∷ [])) 1 ≡ token 0 0 20 2 5 ∷ []
   -- two transactions name one held token rightly: the first registered votes yes, the other no
-  two-claims : playAnswers house (mint 0 0 10 3 ∷ register 0 (alone 1) ∷ register 0 (alone 2) ∷ []) ≡ Minted ∷ Registered true Commit ∷ Registered false Abort ∷ []
+  two-claims : playAnswers house (mint 0 0 10 3 ∷ register 0 (alone 1) ∷ register 0 (alone 2) ∷ []) ≡ Minted
+      ∷ Registered true Commit ∷ Registered false Abort ∷ []
   two-claims-held : tokensAfter (mint 0 0 10 3 ∷ register 0 both ∷ register 0 (alone 2) ∷ []) 0 ≡ token 0 0 10 3 5 ∷ []
   -- right token, wrong owner: no, and nothing is pledged
   wrong-owner : playAnswers house (mint 0 0 10 3 ∷ register 0 wrong ∷ []) ≡ Minted ∷ Registered false Abort ∷ []
@@ -126,7 +159,8 @@ pub record Examples : Type 0 where
   half-there : playAnswers house (mint 0 0 10 3 ∷ register 0 half ∷ register 0 (alone 1) ∷ []) ≡ Minted ∷ Registered false Abort ∷ Registered false Abort ∷ []
   half-there-held : tokensAfter (mint 0 0 10 3 ∷ register 0 half ∷ register 0 (alone 1) ∷ []) 0 ≡ token 0 0 10 3 6 ∷ []
   -- registered again: 8; another of that number: 7; also once it is decided
-  again-8 : playAnswers house (mint 0 0 10 3 ∷ register 0 both ∷ register 0 both ∷ register 0 other5 ∷ []) ≡ Minted ∷ Registered true Wait ∷ Refused 8 ∷ Refused 7 ∷ []
+  again-8 : playAnswers house (mint 0 0 10 3 ∷ register 0 both ∷ register 0 both ∷ register 0 other5 ∷ []) ≡ Minted
+      ∷ Registered true Wait ∷ Refused 8 ∷ Refused 7 ∷ []
   decided-8 : playAnswers house (known-at-both ++ (deliver 0 1 1 both ∷ register 0 both ∷ register 0 other5 ∷ []))
       ≡ Minted ∷ Minted ∷ Registered true Wait ∷ Registered true Wait ∷ Heard Commit ∷ Refused 8 ∷ Refused 7 ∷ []
   -- two transactions numbered 7, one of shards 0 and 1, one of 2 and 3: both commit
@@ -143,10 +177,12 @@ pub record Examples : Type 0 where
       )
       ≡ Minted ∷ Minted ∷ Registered true Wait ∷ Registered true Wait ∷ Registered true Wait ∷ Registered true Wait ∷ Heard Commit ∷ Heard Commit ∷ []
   -- one no among the votes: abort at both shards, and the pledge stays, so that a later transaction finds nothing
-  one-no : playAnswers house (torn-apart ++ (register 0 (alone 1) ∷ [])) ≡ Minted ∷ Registered true Wait ∷ Registered false Wait ∷ Heard Abort ∷ Heard Abort ∷ Registered false Abort ∷ []
+  one-no : playAnswers house (torn-apart ++ (register 0 (alone 1) ∷ [])) ≡ Minted ∷ Registered true Wait
+      ∷ Registered false Wait ∷ Heard Abort ∷ Heard Abort ∷ Registered false Abort ∷ []
   one-no-held : tokensAfter torn-apart 0 ≡ token 0 0 10 3 8 ∷ []
   -- a genesis token after a transaction is known: 13; an index given twice: 14
-  late-mint : playAnswers house (mint 0 0 10 3 ∷ mint 0 0 10 3 ∷ register 0 both ∷ mint 0 1 10 3 ∷ []) ≡ Minted ∷ Refused 14 ∷ Registered true Wait ∷ Refused 13 ∷ []
+  late-mint : playAnswers house (mint 0 0 10 3 ∷ mint 0 0 10 3 ∷ register 0 both ∷ mint 0 1 10 3 ∷ []) ≡ Minted
+      ∷ Refused 14 ∷ Registered true Wait ∷ Refused 13 ∷ []
   -- a vote that was not given: 16, also on a transaction that differs in one field; given, and the receiver does not know it: 11
   not-given : playAnswers house (mint 0 0 10 3 ∷ register 0 both ∷ deliver 0 1 1 both ∷ deliver 1 0 0 both ∷ deliver 1 0 1 near5 ∷ deliver 1 0 1 both ∷ [])
       ≡ Minted ∷ Registered true Wait ∷ Refused 16 ∷ Refused 16 ∷ Refused 16 ∷ Refused 11 ∷ []
@@ -154,18 +190,25 @@ pub record Examples : Type 0 where
   near-vote : playAnswers house (mint 0 0 10 3 ∷ mint 1 0 20 2 ∷ register 0 near5 ∷ register 1 both ∷ deliver 0 1 1 both ∷ [])
       ≡ Minted ∷ Minted ∷ Registered true Wait ∷ Registered true Wait ∷ Refused 7 ∷ []
   -- a vote to the shard itself: its own is a repeat, the other is not given
-  own-vote : playAnswers house (mint 0 0 10 3 ∷ register 0 both ∷ deliver 0 0 1 both ∷ deliver 0 0 0 both ∷ []) ≡ Minted ∷ Registered true Wait ∷ Again Wait ∷ Refused 16 ∷ []
+  own-vote : playAnswers house (mint 0 0 10 3 ∷ register 0 both ∷ deliver 0 0 1 both ∷ deliver 0 0 0 both ∷ []) ≡ Minted
+      ∷ Registered true Wait ∷ Again Wait ∷ Refused 16 ∷ []
   -- at a lone shard: a record for another shard is 3, and the other verdict from one sender is 12
   lone-3 : shardStep house 0 (ledgerAt house (play house known-at-both .shards) 0) (register 1 both) .1 ≡ Refused 3
   lone-12 : shardStep house 0 (ledgerAt house (play house (known-at-both ++ votes) .shards) 0) (deliver 0 1 0 both) .1 ≡ Refused 12
   -- a full shard: 9 and 10 at the stated counts only
-  full-9 : playAnswers small (mint 0 0 10 3 ∷ register 0 (alone 1) ∷ register 0 (alone 2) ∷ register 0 (alone 3) ∷ []) ≡ Minted ∷ Registered true Commit ∷ Registered false Abort ∷ Refused 9 ∷ []
+  full-9 : playAnswers small (mint 0 0 10 3 ∷ register 0 (alone 1) ∷ register 0 (alone 2) ∷ register 0 (alone 3) ∷ [])
+      ≡ Minted ∷ Registered true Commit ∷ Registered false Abort ∷ Refused 9 ∷ []
   full-10 : playAnswers small (mint 0 0 10 3 ∷ register 0 (alone 1) ∷ []) ≡ Minted ∷ Registered true Commit ∷ []
   over-10 : playAnswers small (mint 0 0 10 3 ∷ mint 0 1 10 3 ∷ register 0 (alone 1) ∷ []) ≡ Minted ∷ Minted ∷ Refused 10 ∷ []
 
 -- each of them by computation
 pub examples : Examples
-unfolding input output make tokensAfter token both known-at-both votes alone wrong half other5 near5 pass torn torn-apart small takesPart sameToken sameInput sameOutput sameTransaction indexFits valueFits inputFits outputFits countsFit fieldsFit sameName namedTwice balanced mintFits inputsHere available availableHere pledges vote newlyKnown decide outputsHere madeHere commit afterMint afterRegister afterVote placeOf entryOf reservedBy reserved mintRefusals registerRefusals deliverForm deliverRefusals hear shardStep gave notGiven atShard clusterStep logAfter mintedAfter step after answers play playAnswers outcomeIn committed serialFrom serialValue genesisLedger takeInputs addOutputs spend serialRun
+unfolding input output make tokensAfter token both known-at-both votes alone wrong half other5 near5 pass torn
+    torn-apart small takesPart sameToken sameInput sameOutput sameTransaction indexFits valueFits inputFits outputFits
+    countsFit fieldsFit sameName namedTwice balanced mintFits inputsHere available availableHere pledges vote newlyKnown
+    decide outputsHere madeHere commit afterMint afterRegister afterVote placeOf entryOf reservedBy reserved
+    mintRefusals registerRefusals deliverForm deliverRefusals hear shardStep gave notGiven atShard clusterStep logAfter
+    mintedAfter step after answers play playAnswers outcomeIn committed serialFrom serialValue genesisLedger takeInputs addOutputs spend serialRun
 examples = record {
   seven-answers = refl;
   seven-0 = refl;

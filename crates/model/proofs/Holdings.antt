@@ -14,9 +14,40 @@ use Rattle.transaction.specs.Lists.{any}
 use Rattle.transaction.specs.Tokens.{usedInputs, usedOutputs, inputShard, outputShard, shardsOf}
 use Rattle.model.specs.declared.Token.{Token}
 use Rattle.model.specs.Lists.{keep, mapOption}
-use Rattle.model.specs.Steps.{inputHere, inputsHere, names, namedBy, freeFor, available, pledgedTo, pledgeIf, pledges, tokenOf, tokensFrom, madeHere, stays, commit}
+use Rattle.model.specs.Steps.{
+  inputHere,
+  inputsHere,
+  names,
+  namedBy,
+  freeFor,
+  available,
+  pledgedTo,
+  pledgeIf,
+  pledges,
+  tokenOf,
+  tokensFrom,
+  madeHere,
+  stays,
+  commit,
+}
 use Rattle.model.specs.Demand.{inputValue, tokenValue, hasSpot, tokenAt, sameSpot}
-use Rattle.model.proofs.Basics.{eqb-eq, eqb-same, eqb-yes, both, and-intro, orElse, some≢none, CaseO, is-some, is-none, caseO, any-at, any-of, keep-in, keep-out}
+use Rattle.model.proofs.Basics.{
+  eqb-eq,
+  eqb-same,
+  eqb-yes,
+  both,
+  and-intro,
+  orElse,
+  some≢none,
+  CaseO,
+  is-some,
+  is-none,
+  caseO,
+  any-at,
+  any-of,
+  keep-in,
+  keep-out,
+}
 use Rattle.model.proofs.Lookups.{lookup-passes, lookup-append, lookup-map, lookup-keep, Alone, alone-append, alone-map, alone-keep, alone-lookup}
 
 -- the id of a token of shard p
@@ -45,7 +76,8 @@ mem-tok l s m =
 -- ---- Inputs at a shard
 
 -- an input at a shard is one of the transaction, and the shard takes part
-pub here-shard : (p : ℕ) (t : Transaction) (x : Input) → List·Memᴰ x (inputsHere p t) → (List·Memᴰ x (usedInputs t)) × (x .token .shard ≡ p) × List·Memᴰ p (shardsOf t)
+pub here-shard : (p : ℕ) (t : Transaction) (x : Input) → List·Memᴰ x (inputsHere p t) → (List·Memᴰ x (usedInputs t))
+    × (x .token .shard ≡ p) × List·Memᴰ p (shardsOf t)
 unfolding inputsHere
 here-shard p t x m =
     let r = keep-out (inputHere p) (usedInputs t) m in
@@ -111,10 +143,12 @@ available-token tokens x s e =
 -- ---- Pledges
 
 -- a pledge changes neither creator, index nor value
-pledge-keeps : (n : ℕ) (xs : List Input) (t : Token) → ((pledgeIf n xs t) .creator ≡ t .creator) × ((pledgeIf n xs t) .index ≡ t .index) × (tokenValue (pledgeIf n xs t) ≡ tokenValue t)
+pledge-keeps : (n : ℕ) (xs : List Input) (t : Token) → ((pledgeIf n xs t) .creator ≡ t .creator)
+    × ((pledgeIf n xs t) .index ≡ t .index) × (tokenValue (pledgeIf n xs t) ≡ tokenValue t)
 pledge-keeps n xs t = go (any (namedBy t) xs)
   where
-    go : (b : Bool) → ((cond b (pledgedTo n t) t) .creator ≡ t .creator) × ((cond b (pledgedTo n t) t) .index ≡ t .index) × (tokenValue (cond b (pledgedTo n t) t) ≡ tokenValue t)
+    go : (b : Bool) → ((cond b (pledgedTo n t) t) .creator ≡ t .creator)
+        × ((cond b (pledgedTo n t) t) .index ≡ t .index) × (tokenValue (cond b (pledgedTo n t) t) ≡ tokenValue t)
     go true = (refl, refl, refl)
     go false = (refl, refl, refl)
 
@@ -138,7 +172,8 @@ pledge-stays n xs t h g = go (any (namedBy t) xs)
     go false e = g e
 
 -- the token of an available input is pledged
-pub pledge-set : (n : ℕ) (xs : List Input) (t : Token) (x : Input) → List·Memᴰ x xs → t .creator ≡ x .token .creator → t .index ≡ x .token .index → (pledgeIf n xs t) .pledge ≡ n
+pub pledge-set : (n : ℕ) (xs : List Input) (t : Token) (x : Input) → List·Memᴰ x xs → t .creator ≡ x .token .creator
+    → t .index ≡ x .token .index → (pledgeIf n xs t) .pledge ≡ n
 pledge-set n xs t x m a b =
     ap (λ (c : Bool). (cond c (pledgedTo n t) t) .pledge) (any-of (namedBy t) m (and-intro (eqb-yes a) (eqb-yes b)))
 
@@ -153,7 +188,8 @@ no-twice-pledges n xs tokens s =
 -- ---- Tokens made
 
 -- a made token has the transaction's number, its shard is that of an output, and its index is not below the first one
-pub made-from : (p n j : ℕ) (l : List Output) (m i : ℕ) {t : Token} → tokenAt (tokensFrom p n j l) m i ≡ some t → (m ≡ n) × List·Memᴰ p (map outputShard l) × (j ≤ i)
+pub made-from : (p n j : ℕ) (l : List Output) (m i : ℕ) {t : Token} → tokenAt (tokensFrom p n j l) m i ≡ some t
+    → (m ≡ n) × List·Memᴰ p (map outputShard l) × (j ≤ i)
 made-from p n j [] m i e = some≢none e refl
 made-from p n j (o ∷ l) m i {t} e = go (eqb (o .shard) p) refl e (made-from p n (suc j) l m i)
   where
@@ -163,11 +199,13 @@ made-from p n j (o ∷ l) m i {t} e = go (eqb (o .shard) p) refl e (made-from p 
     Later : Type 0
     Later = tokenAt rest m i ≡ some t → (m ≡ n) × List·Memᴰ p (map outputShard l) × (suc j ≤ i)
 
-    go : (b : Bool) → eqb (o .shard) p ≡ b → tokenAt (cond b (tokenOf n j o ∷ rest) rest) m i ≡ some t → Later → (m ≡ n) × List·Memᴰ p (o .shard ∷ map outputShard l) × (j ≤ i)
+    go : (b : Bool) → eqb (o .shard) p ≡ b → tokenAt (cond b (tokenOf n j o ∷ rest) rest) m i ≡ some t → Later → (m ≡ n)
+        × List·Memᴰ p (o .shard ∷ map outputShard l) × (j ≤ i)
     go false y q h = let z : suc j ≤ i = h q .2 in (h q .0, List·Memᴰ·tail (h q .1), omega arith)
     go true y q h = hit (eqb n m && eqb j i) refl q
       where
-        hit : (c : Bool) → eqb n m && eqb j i ≡ c → cond c (some (tokenOf n j o)) (tokenAt rest m i) ≡ some t → (m ≡ n) × List·Memᴰ p (o .shard ∷ map outputShard l) × (j ≤ i)
+        hit : (c : Bool) → eqb n m && eqb j i ≡ c → cond c (some (tokenOf n j o)) (tokenAt rest m i) ≡ some t → (m ≡ n)
+            × List·Memᴰ p (o .shard ∷ map outputShard l) × (j ≤ i)
         hit true z q =
             let r = both (eqb n m) (eqb j i) z in
             let w : j ≡ i = eqb-eq j i (r .1) in
@@ -210,7 +248,8 @@ stays-untaken p t m i k e =
     λ j. not (any (takesSpot (eqb-eq (k .creator) m (r .0) j) (eqb-eq (k .index) i (r .1) j)) (inputsHere p t))
 
 -- a lookup among the tokens that stay
-tok-left : (p : ℕ) (t : Transaction) (tokens : List Token) (m i : ℕ) → tokenAt (keep (stays (inputsHere p t)) tokens) m i ≡ cond (taken p t m i) none (tokenAt tokens m i)
+tok-left : (p : ℕ) (t : Transaction) (tokens : List Token) (m i : ℕ)
+    → tokenAt (keep (stays (inputsHere p t)) tokens) m i ≡ cond (taken p t m i) none (tokenAt tokens m i)
 tok-left p t tokens m i = lookup-keep (hasSpot m i) (stays (inputsHere p t)) (taken p t m i) (stays-untaken p t m i) tokens
 
 -- a lookup after a commit
@@ -222,7 +261,8 @@ tok-commit p t tokens m i =
     ∙ ap (λ (o : Option Token). orElse o (tokenAt (madeHere p t) m i)) (tok-left p t tokens m i)
 
 -- a commit makes no token twice, where none was made by its number before
-pub no-twice-commit : (p : ℕ) (t : Transaction) (tokens : List Token) → NoTwice tokens → ((i : ℕ) → tokenAt tokens (t .number) i ≡ none) → NoTwice (commit p t tokens)
+pub no-twice-commit : (p : ℕ) (t : Transaction) (tokens : List Token) → NoTwice tokens
+    → ((i : ℕ) → tokenAt tokens (t .number) i ≡ none) → NoTwice (commit p t tokens)
 unfolding commit madeHere
 no-twice-commit p t tokens s h =
     alone-append sameSpot (keep (stays (inputsHere p t)) tokens) (madeHere p t)
@@ -231,4 +271,5 @@ no-twice-commit p t tokens s h =
   where
     go : (k : Token) → List·Memᴰ k tokens → CaseO (tokenAt (madeHere p t) (k .creator) (k .index)) → tokenAt (madeHere p t) (k .creator) (k .index) ≡ none
     go k m (is-none e) = e
-    go k m (is-some u e) = some≢none (mem-tok tokens s m) (ap (λ (n : ℕ). tokenAt tokens n (k .index)) (made-number p t (k .creator) (k .index) e) ∙ h (k .index))
+    go k m (is-some u e) = some≢none (mem-tok tokens s m)
+        (ap (λ (n : ℕ). tokenAt tokens n (k .index)) (made-number p t (k .creator) (k .index) e) ∙ h (k .index))

@@ -20,7 +20,26 @@ use Rattle.model.specs.Lists.{mapOption}
 use Rattle.model.specs.Steps.{Limits, Ledger, inputsHere, heardFrom, outcomeOf, madeHere, commit, settle}
 use Rattle.model.specs.Model.{Entry}
 use Rattle.model.specs.Demand.{Value, inputValue, tokenValue, tokenAt}
-use Rattle.model.proofs.Basics.{eqb-eq, eqb-apart, not-yes, clash, Case, yes-case, no-case, case, orElse, orElse-none, isSome, some≢none, CaseO, is-some, is-none, caseO, map-none, map-or}
+use Rattle.model.proofs.Basics.{
+  eqb-eq,
+  eqb-apart,
+  not-yes,
+  clash,
+  Case,
+  yes-case,
+  no-case,
+  case,
+  orElse,
+  orElse-none,
+  isSome,
+  some≢none,
+  CaseO,
+  is-some,
+  is-none,
+  caseO,
+  map-none,
+  map-or,
+}
 use Rattle.model.proofs.Entries.{look, OneEach, put, look-put-same, look-put-other, look-put-elim, one-each-put, outcome-yes, abort≢commit, wait≢commit}
 use Rattle.model.proofs.Holdings.{NoTwice, taken, taken-by, here-shard, made-number, tok-commit, no-twice-commit}
 
@@ -123,7 +142,8 @@ pub record Ok (limits : Limits) (log : List Entry) (p : ℕ) (genesis : ℕ → 
   pub indices : (i : ℕ) → getD (ledger .given) i false ≡ isSome (genesis 0 i)
   pub no-twice : NoTwice (ledger .tokens)
   -- what the log has of this shard is known here, and an input once available is consumed or still held with a pledge
-  pub entered : (r : Entry) → List·Memᴰ r log → r .shard ≡ p → (k : Known) × (look (ledger .known) (r .transaction .number) ≡ some k) × (k .transaction ≡ r .transaction)
+  pub entered : (r : Entry) → List·Memᴰ r log → r .shard ≡ p → (k : Known)
+      × (look (ledger .known) (r .transaction .number) ≡ some k) × (k .transaction ≡ r .transaction)
   pub bound : (r : Entry) → List·Memᴰ r log → r .shard ≡ p → (x : Input) → List·Memᴰ x (r .available)
       → Consumed p (ledger .known) (x .token .creator) (x .token .index) ⊎ Pledged (ledger .tokens) (x .token .creator) (x .token .index)
 
@@ -137,7 +157,8 @@ sources-at p genesis known (r₀ ∷ older) x src r (List·Memᴰ·head e) at a 
 sources-at p genesis known (r₀ ∷ older) x src r (List·Memᴰ·tail d) at a = sources-at p genesis known older x (src .1) r d at a
 
 -- a yes vote found each input available
-pub voted-available : {log : List Entry} {p : ℕ} {t : Transaction} (v : Voted log p t 2) (x : Input) → List·Memᴰ x (inputsHere p t) → List·Memᴰ x (v .entry .available)
+pub voted-available : {log : List Entry} {p : ℕ} {t : Transaction} (v : Voted log p t 2) (x : Input)
+    → List·Memᴰ x (inputsHere p t) → List·Memᴰ x (v .entry .available)
 voted-available v x m = v .says .0 refl x m
 
 -- so each input of a yes vote has a source
@@ -164,9 +185,12 @@ module _ {log : List Entry} {p : ℕ} {tokens : List Token} {genesis : ℕ → �
   consumed-made m i d z =
       let t = taken-by p (d .entry .transaction) m i (d .is-taken) in
       let two : heardFrom p (d .entry) ≡ 2 = outcome-yes (d .entry) (d .is-commit) p (here-shard p (d .entry .transaction) (t .input) (t .is-here) .2) in
-      let v : Voted log p (d .entry .transaction) 2 = subst (λ (v : ℕ). Voted log p (d .entry .transaction) v) two (c .votes (d .number) (d .entry) (d .is-known) p (c .own (d .number) (d .entry) (d .is-known))) in
+      let v : Voted log p (d .entry .transaction) 2 =
+      subst (λ (v : ℕ). Voted log p (d .entry .transaction) v) two
+      (c .votes (d .number) (d .entry) (d .is-known) p (c .own (d .number) (d .entry) (d .is-known))) in
       let s = sourced p genesis known log (d .entry .transaction) (t .input) (c .sources) v (t .is-here) in
-      some≢none (source-made p genesis known (s .0) (t .input) (c .number) (c .zero-only) (s .1)) ((λ j. made p genesis known (t .is-creator j) (t .is-index j)) ∙ z)
+      some≢none (source-made p genesis known (s .0) (t .input) (c .number) (c .zero-only) (s .1))
+      ((λ j. made p genesis known (t .is-creator j) (t .is-index j)) ∙ z)
 
   -- nothing is held that was not made, and what is held was made with its value
   pub unmade : (m i : ℕ) → made p genesis known m i ≡ none → tokenAt tokens m i ≡ none
@@ -235,7 +259,8 @@ module _ {log : List Entry} {p : ℕ} {tokens : List Token} {genesis : ℕ → �
           cut (is-none z) = ap (mapOption tokenValue) z
           cut (is-some t z) = absurd (h (sym (made-number p (k .transaction) m i z)))
 
-      go : Case (eqb (k .transaction .number) m) → made p genesis new m i ≡ orElse (made p genesis known m i) (onCommit (outcomeOf k) (gain p (k .transaction) m i))
+      go : Case (eqb (k .transaction .number) m) → made p genesis new m i
+          ≡ orElse (made p genesis known m i) (onCommit (outcomeOf k) (gain p (k .transaction) m i))
       go (yes-case e) =
           let n : k .transaction .number ≡ m = eqb-eq (k .transaction .number) m e in
           (λ j. orElse (c .zero-only m i (λ z. en .positive (n ∙ z)) j) (byCommit p (look-put-same k known n j) m i))
@@ -263,7 +288,8 @@ module _ {log : List Entry} {p : ℕ} {tokens : List Token} {genesis : ℕ → �
   -- nothing else is
   consumed-cases : (m i : ℕ) → Consumed p new m i → Consumed p known m i ⊎ ((outcomeOf k ≡ Commit) × (taken p (k .transaction) m i ≡ true))
   consumed-cases m i d =
-      look-put-elim (λ n j. outcomeOf j ≡ Commit → taken p (j .transaction) m i ≡ true → Consumed p known m i ⊎ ((outcomeOf k ≡ Commit) × (taken p (k .transaction) m i ≡ true)))
+      look-put-elim (λ n j. outcomeOf j ≡ Commit → taken p (j .transaction) m i ≡ true → Consumed p known m i
+      ⊎ ((outcomeOf k ≡ Commit) × (taken p (k .transaction) m i ≡ true)))
       k known (λ y t. inr (y, t))
       (λ n j e y t. inl (record { number = n; entry = j; is-known = e; is-commit = y; is-taken = t }))
       (d .number) (d .entry) (d .is-known) (d .is-commit) (d .is-taken)
@@ -273,8 +299,10 @@ module _ {log : List Entry} {p : ℕ} {tokens : List Token} {genesis : ℕ → �
   commit-made y m i t z =
       let w = taken-by p (k .transaction) m i t in
       let two : heardFrom p k ≡ 2 = outcome-yes k y p (here-shard p (k .transaction) (w .input) (w .is-here) .2) in
-      let s = sourced p genesis known log (k .transaction) (w .input) (c .sources) (subst (λ (v : ℕ). Voted log p (k .transaction) v) two (en .votes p (en .own))) (w .is-here) in
-      some≢none (source-made p genesis known (s .0) (w .input) (c .number) (c .zero-only) (s .1)) ((λ j. made p genesis known (w .is-creator j) (w .is-index j)) ∙ z)
+      let s = sourced p genesis known log (k .transaction) (w .input) (c .sources)
+      (subst (λ (v : ℕ). Voted log p (k .transaction) v) two (en .votes p (en .own))) (w .is-here) in
+      some≢none (source-made p genesis known (s .0) (w .input) (c .number) (c .zero-only) (s .1))
+      ((λ j. made p genesis known (w .is-creator j) (w .is-index j)) ∙ z)
 
   -- what is consumed was made before
   made-before : (m i : ℕ) → Consumed p new m i → made p genesis known m i ≡ none → ⊥
@@ -316,7 +344,8 @@ module _ {log : List Entry} {p : ℕ} {tokens : List Token} {genesis : ℕ → �
       old = keeps m i ∙ c .there m i (λ d. f (consumed-more m i d))
 
       go : (o : Outcome) → outcomeOf k ≡ o
-          → mapOption tokenValue (tokenAt (settle o p (k .transaction) tokens₁) m i) ≡ orElse (made p genesis known m i) (onCommit o (gain p (k .transaction) m i))
+          → mapOption tokenValue (tokenAt (settle o p (k .transaction) tokens₁) m i)
+          ≡ orElse (made p genesis known m i) (onCommit o (gain p (k .transaction) m i))
       go Wait e = old ∙ sym (orElse-none (made p genesis known m i))
       go Abort e = old ∙ sym (orElse-none (made p genesis known m i))
       go Commit e =

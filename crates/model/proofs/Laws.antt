@@ -22,7 +22,22 @@ use Rattle.model.specs.Demand.{committed}
 use Rattle.model.proofs.Basics.{eqb-eq}
 use Rattle.model.proofs.Lookups.{alone-repeats}
 use Rattle.model.proofs.Entries.{sameNumber}
-use Rattle.model.proofs.Effects.{ShardEffect, shard-refused, shard-minted, shard-registered, shard-heard, shard-again, shard-effect, Effect, did-refuse, did-mint, did-register, did-hear, did-repeat, effect}
+use Rattle.model.proofs.Effects.{
+  ShardEffect,
+  shard-refused,
+  shard-minted,
+  shard-registered,
+  shard-heard,
+  shard-again,
+  shard-effect,
+  Effect,
+  did-refuse,
+  did-mint,
+  did-register,
+  did-hear,
+  did-repeat,
+  effect,
+}
 use Rattle.model.proofs.Steps.{play-inv}
 use Rattle.model.proofs.Order.{committed-logged}
 use Rattle.model.proofs.Holdings.{here-shard, in-here}
@@ -40,7 +55,8 @@ leaves (Heard outcome) = false
 leaves (Again outcome) = true
 
 -- by cases on what a call did at a shard
-shard-left : (limits : Limits) (me : ℕ) (ledger : Ledger) (call : Call) (r : Ledger × Answer) → ShardEffect limits me ledger call r → leaves (r .1) ≡ true → r .0 ≡ ledger
+shard-left : (limits : Limits) (me : ℕ) (ledger : Ledger) (call : Call) (r : Ledger × Answer)
+    → ShardEffect limits me ledger call r → leaves (r .1) ≡ true → r .0 ≡ ledger
 shard-left limits me ledger call _ (shard-refused h) e = refl
 shard-left limits me ledger call _ (shard-again h z) e = refl
 shard-left limits me ledger call _ (shard-minted h) e = absurd (true≢false (sym e))
@@ -48,16 +64,19 @@ shard-left limits me ledger call _ (shard-registered h) e = absurd (true≢false
 shard-left limits me ledger call _ (shard-heard h g z) e = absurd (true≢false (sym e))
 
 -- a refused call and a repeat change no shard
-pub shard-unchanged : (limits : Limits) (me : ℕ) (ledger : Ledger) (call : Call) → leaves (shardStep limits me ledger call .1) ≡ true → shardStep limits me ledger call .0 ≡ ledger
+pub shard-unchanged : (limits : Limits) (me : ℕ) (ledger : Ledger) (call : Call)
+    → leaves (shardStep limits me ledger call .1) ≡ true → shardStep limits me ledger call .0 ≡ ledger
 shard-unchanged limits me ledger call e = shard-left limits me ledger call (shardStep limits me ledger call) (shard-effect limits me ledger call) e
 
 -- the same at the receiving shard of a cluster
-at-unchanged : (limits : Limits) (shards : List Ledger) (p : ℕ) (call : Call) → leaves (atShard limits shards p call .1) ≡ true → atShard limits shards p call .0 ≡ shards
+at-unchanged : (limits : Limits) (shards : List Ledger) (p : ℕ) (call : Call) → leaves (atShard limits shards p call .1)
+    ≡ true → atShard limits shards p call .0 ≡ shards
 unfolding atShard
 at-unchanged limits shards p call e = ap (set shards p) (shard-unchanged limits p (ledgerAt limits shards p) call e) ∙ set-getD shards p (emptyLedger limits)
 
 -- they change no shard of a cluster
-pub cluster-unchanged : (limits : Limits) (shards : List Ledger) (call : Call) → leaves (clusterStep limits shards call .1) ≡ true → clusterStep limits shards call .0 ≡ shards
+pub cluster-unchanged : (limits : Limits) (shards : List Ledger) (call : Call)
+    → leaves (clusterStep limits shards call .1) ≡ true → clusterStep limits shards call .0 ≡ shards
 unfolding clusterStep
 cluster-unchanged limits shards (mint p index owner amount) e = at-unchanged limits shards p (mint p index owner amount) e
 cluster-unchanged limits shards (register p t) e = at-unchanged limits shards p (register p t) e
@@ -71,7 +90,8 @@ cluster-unchanged limits shards (deliver p sender verdict t) e = go (notGiven li
     go false e = at-unchanged limits shards p (deliver p sender verdict t) e
 
 -- by cases on what a call did to the model
-model-left : (limits : Limits) (place : ℕ) (model : Model) (call : Call) (r : Model × Answer) → Effect limits place model call r → leaves (r .1) ≡ true → r .0 ≡ model
+model-left : (limits : Limits) (place : ℕ) (model : Model) (call : Call) (r : Model × Answer)
+    → Effect limits place model call r → leaves (r .1) ≡ true → r .0 ≡ model
 model-left limits place model call _ (did-refuse h) e = refl
 model-left limits place model call _ (did-repeat h z) e = refl
 model-left limits place model call _ (did-mint h) e = absurd (true≢false (sym e))
@@ -79,11 +99,13 @@ model-left limits place model call _ (did-register h) e = absurd (true≢false (
 model-left limits place model call _ (did-hear h g z) e = absurd (true≢false (sym e))
 
 -- nor do they change the model's notes
-pub model-unchanged : (limits : Limits) (place : ℕ) (model : Model) (call : Call) → leaves (step limits place model call .1) ≡ true → step limits place model call .0 ≡ model
+pub model-unchanged : (limits : Limits) (place : ℕ) (model : Model) (call : Call)
+    → leaves (step limits place model call .1) ≡ true → step limits place model call .0 ≡ model
 model-unchanged limits place model call e = model-left limits place model call (step limits place model call) (effect limits place model call) e
 
 -- a refusal has a number
-number-left : (limits : Limits) (me : ℕ) (ledger : Ledger) (call : Call) (r : Ledger × Answer) → ShardEffect limits me ledger call r → (n : ℕ) → r .1 ≡ Refused n → n ≢ 0
+number-left : (limits : Limits) (me : ℕ) (ledger : Ledger) (call : Call) (r : Ledger × Answer)
+    → ShardEffect limits me ledger call r → (n : ℕ) → r .1 ≡ Refused n → n ≢ 0
 number-left limits me ledger call _ (shard-refused {n = m} h) n e z = let y : m ≡ n = cc in h (y ∙ z)
 number-left limits me ledger call _ (shard-minted h) n e z = let y : _≡_ {A = ℕ} 0 1 = cc in omega arith
 number-left limits me ledger call _ (shard-registered h) n e z = let y : _≡_ {A = ℕ} 0 1 = cc in omega arith
@@ -97,14 +119,16 @@ refused-number limits me ledger call = number-left limits me ledger call (shardS
 -- ---- Tokens and numbers
 
 -- two distinct transactions never both found one token available
-pub available-once : (limits : Limits) (calls : List Call) (a b : Entry) (x y : Input) → List·Memᴰ a (play limits calls .log) → List·Memᴰ b (play limits calls .log)
+pub available-once : (limits : Limits) (calls : List Call) (a b : Entry) (x y : Input)
+    → List·Memᴰ a (play limits calls .log) → List·Memᴰ b (play limits calls .log)
     → a .shard ≡ b .shard → List·Memᴰ x (a .available) → List·Memᴰ y (b .available) → x .token ≡ y .token → a .transaction ≡ b .transaction
 available-once limits calls a b x y ma mb s mx my e =
     ap (λ (r : Entry). r .transaction)
     (play-inv limits calls .logged .disjoint a b ma mb s x y mx my (λ i. e i .creator) (λ i. e i .index))
 
 -- two distinct committed transactions never name one token: a token is destroyed once
-pub spent-once : (limits : Limits) (calls : List Call) (t s : Transaction) (x y : Input) → committed (play limits calls) t ≡ true → committed (play limits calls) s ≡ true
+pub spent-once : (limits : Limits) (calls : List Call) (t s : Transaction) (x y : Input)
+    → committed (play limits calls) t ≡ true → committed (play limits calls) s ≡ true
     → List·Memᴰ x (usedInputs t) → List·Memᴰ y (usedInputs s) → x .token ≡ y .token → t ≡ s
 spent-once limits calls t s x y ct cs mx my e =
     let model : Model = play limits calls in
@@ -114,7 +138,8 @@ spent-once limits calls t s x y ct cs mx my e =
     let v = commit-votes limits model w (a .0) t (a .1) (x .token .shard) (here-shard (x .token .shard) t x (in-here t x mx) .2) in
     let u = commit-votes limits model w (b .0) s (b .1) (y .token .shard) (here-shard (y .token .shard) s y (in-here s y my) .2) in
     sym (v .of)
-    ∙ available-once limits calls (v .entry) (u .entry) x y (v .logged) (u .logged) (v .at ∙ (λ i. e i .shard) ∙ sym (u .at)) (voted-available v x (in-here t x mx)) (voted-available u y (in-here s y my)) e
+    ∙ available-once limits calls (v .entry) (u .entry) x y (v .logged) (u .logged)
+    (v .at ∙ (λ i. e i .shard) ∙ sym (u .at)) (voted-available v x (in-here t x mx)) (voted-available u y (in-here s y my)) e
     ∙ u .of
 
 -- no shard knows two transactions of one number
@@ -142,7 +167,8 @@ balanced-after : (limits : Limits) (place : ℕ) (model : Model) → ((e : Entry
 unfolding after
 balanced-after limits place model f [] = f
 balanced-after limits place model f (call ∷ calls) =
-    balanced-after limits (suc place) (step limits place model call .0) (balanced-step limits place model f call (step limits place model call) (effect limits place model call)) calls
+    balanced-after limits (suc place) (step limits place model call .0)
+    (balanced-step limits place model f call (step limits place model call) (effect limits place model call)) calls
 
 -- the amounts of a committed transaction balance
 pub committed-balance : (limits : Limits) (calls : List Call) (t : Transaction) → committed (play limits calls) t ≡ true
@@ -166,10 +192,12 @@ after-append limits place model (call ∷ calls) more =
 
 -- and their answers
 pub answers-append : (limits : Limits) (place : ℕ) (model : Model) (calls more : List Call)
-    → answers limits place model (calls ++ more) ≡ answers limits place model calls ++ answers limits (length calls + place) (after limits place model calls) more
+    → answers limits place model (calls ++ more) ≡ answers limits place model calls
+    ++ answers limits (length calls + place) (after limits place model calls) more
 unfolding after answers
 answers-append limits place model [] more = ap (λ (n : ℕ). answers limits n model more) (omega arith)
 answers-append limits place model (call ∷ calls) more =
     ap (λ (l : List Answer). step limits place model call .1 ∷ l)
     (answers-append limits (suc place) (step limits place model call .0) calls more
-    ∙ ap (λ (n : ℕ). answers limits (suc place) (step limits place model call .0) calls ++ answers limits n (after limits (suc place) (step limits place model call .0) calls) more) (omega arith))
+    ∙ ap (λ (n : ℕ). answers limits (suc place) (step limits place model call .0) calls
+    ++ answers limits n (after limits (suc place) (step limits place model call .0) calls) more) (omega arith))

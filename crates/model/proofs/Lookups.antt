@@ -5,7 +5,23 @@ use mathlib.Core.Option.{Option, none, some}
 use mathlib.Core.List.{List, [], _∷_, _++_, map, List·Memᴰ, List·Memᴰ·head, List·Memᴰ·tail}
 use Rattle.transaction.specs.Lists.{any, repeats}
 use Rattle.model.specs.Lists.{keep, lookup, mapOption}
-use Rattle.model.proofs.Basics.{not-yes, clash, Case, yes-case, no-case, case, orElse, some≢none, some-inj, CaseO, is-some, is-none, caseO, or-none, any-of}
+use Rattle.model.proofs.Basics.{
+  not-yes,
+  clash,
+  Case,
+  yes-case,
+  no-case,
+  case,
+  orElse,
+  some≢none,
+  some-inj,
+  CaseO,
+  is-some,
+  is-none,
+  caseO,
+  or-none,
+  any-of,
+}
 
 module _ {A : Type 0} where
   -- what is found passes, and is an element
@@ -48,7 +64,8 @@ module _ {A : Type 0} where
   lookup-append f [] b = refl
   lookup-append f (y ∷ a) b = go (f y) (lookup-append f a b)
     where
-      go : (c : Bool) → lookup f (a ++ b) ≡ orElse (lookup f a) (lookup f b) → cond c (some y) (lookup f (a ++ b)) ≡ orElse (cond c (some y) (lookup f a)) (lookup f b)
+      go : (c : Bool) → lookup f (a ++ b) ≡ orElse (lookup f a) (lookup f b) → cond c (some y) (lookup f (a ++ b))
+          ≡ orElse (cond c (some y) (lookup f a)) (lookup f b)
       go true h = refl
       go false h = h
 
@@ -70,7 +87,8 @@ module _ {A : Type 0} where
       go false = refl
   lookup-keep f g gone h (y ∷ l) = go (case (f y)) (g y) refl (lookup-keep f g gone h l)
     where
-      hit : (b : Bool) → gone ≡ b → f y ≡ true → lookup f (keep g l) ≡ cond b none (lookup f l) → lookup f (cond (not b) (y ∷ keep g l) (keep g l)) ≡ cond b none (some y)
+      hit : (b : Bool) → gone ≡ b → f y ≡ true → lookup f (keep g l) ≡ cond b none (lookup f l)
+          → lookup f (cond (not b) (y ∷ keep g l) (keep g l)) ≡ cond b none (some y)
       hit true z e q = q
       hit false z e q = ap (λ (c : Bool). cond c (some y) (lookup f (keep g l))) e
 
@@ -79,7 +97,8 @@ module _ {A : Type 0} where
       go (yes-case e) b p q =
           ap (λ (c : Bool). lookup f (cond c (y ∷ keep g l) (keep g l))) (sym p ∙ h y e)
           ∙ hit gone refl e q ∙ sym (ap (λ (c : Bool). cond gone none (cond c (some y) (lookup f l))) e)
-      go (no-case e) true p q = ap (λ (c : Bool). cond c (some y) (lookup f (keep g l))) e ∙ q ∙ sym (ap (λ (c : Bool). cond gone none (cond c (some y) (lookup f l))) e)
+      go (no-case e) true p q = ap (λ (c : Bool). cond c (some y) (lookup f (keep g l))) e ∙ q
+          ∙ sym (ap (λ (c : Bool). cond gone none (cond c (some y) (lookup f l))) e)
       go (no-case e) false p q = q ∙ sym (ap (λ (c : Bool). cond gone none (cond c (some y) (lookup f l))) e)
 
   -- Lists in which no element is like a later one.
@@ -93,7 +112,8 @@ module _ {A : Type 0} where
   alone-repeats like (x ∷ l) s = λ i. lookup-none (like x) l (s .0) i || alone-repeats like l (s .1) i
 
   -- two such lists whose elements are not alike
-  pub alone-append : (like : A → A → Bool) (a b : List A) → Alone like a → Alone like b → ((x : A) → List·Memᴰ x a → lookup (like x) b ≡ none) → Alone like (a ++ b)
+  pub alone-append : (like : A → A → Bool) (a b : List A) → Alone like a → Alone like b
+      → ((x : A) → List·Memᴰ x a → lookup (like x) b ≡ none) → Alone like (a ++ b)
   alone-append like [] b sa sb h = sb
   alone-append like (x ∷ a) b sa sb h = (
     lookup-append (like x) a b ∙ or-none (lookup (like x) a) (lookup (like x) b) (sa .0) (h x (List·Memᴰ·head refl)),
@@ -110,7 +130,8 @@ module _ {A : Type 0} where
   keep-none f g [] e = refl
   keep-none f g (y ∷ l) e = go (f y) (g y) refl e (keep-none f g l)
     where
-      go : (b c : Bool) → f y ≡ b → cond b (some y) (lookup f l) ≡ none → (lookup f l ≡ none → lookup f (keep g l) ≡ none) → lookup f (cond c (y ∷ keep g l) (keep g l)) ≡ none
+      go : (b c : Bool) → f y ≡ b → cond b (some y) (lookup f l) ≡ none
+          → (lookup f l ≡ none → lookup f (keep g l) ≡ none) → lookup f (cond c (y ∷ keep g l) (keep g l)) ≡ none
       go true c p q h = some≢none refl q
       go false true p q h = ap (λ (b : Bool). cond b (some y) (lookup f (keep g l))) p ∙ h q
       go false false p q h = h q

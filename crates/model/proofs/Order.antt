@@ -26,10 +26,13 @@ module _ (limits : Limits) (model : Model) (w : Inv limits model) where
   unfolding serialFrom
   serial-in [] newer t m = elim m [ ]
   serial-in (r ∷ older) newer t m =
-      go (isLast newer (r .transaction) && committed model (r .transaction)) refl m (λ d. let h = serial-in older (r ∷ newer) t d in (h .0, last-tail r newer t (h .1)))
+      go (isLast newer (r .transaction) && committed model (r .transaction)) refl m
+      (λ d. let h = serial-in older (r ∷ newer) t d in (h .0, last-tail r newer t (h .1)))
     where
-      go : (b : Bool) → isLast newer (r .transaction) && committed model (r .transaction) ≡ b → List·Memᴰ t (cond b (r .transaction ∷ serialFrom model (r ∷ newer) older) (serialFrom model (r ∷ newer) older))
-          → (List·Memᴰ t (serialFrom model (r ∷ newer) older) → (committed model t ≡ true) × (isLast newer t ≡ true)) → (committed model t ≡ true) × (isLast newer t ≡ true)
+      go : (b : Bool) → isLast newer (r .transaction) && committed model (r .transaction) ≡ b
+          → List·Memᴰ t (cond b (r .transaction ∷ serialFrom model (r ∷ newer) older) (serialFrom model (r ∷ newer) older))
+          → (List·Memᴰ t (serialFrom model (r ∷ newer) older) → (committed model t ≡ true) × (isLast newer t ≡ true))
+          → (committed model t ≡ true) × (isLast newer t ≡ true)
       go true e (List·Memᴰ·head z) h =
           let y = both (isLast newer (r .transaction)) (committed model (r .transaction)) e in
           (subst (λ (s : Transaction). committed model s ≡ true) (sym z) (y .1), subst (λ (s : Transaction). isLast newer s ≡ true) (sym z) (y .0))
@@ -42,29 +45,35 @@ module _ (limits : Limits) (model : Model) (w : Inv limits model) where
   serial-once [] newer = tt
   serial-once (r ∷ older) newer = go (isLast newer (r .transaction) && committed model (r .transaction)) (serial-once older (r ∷ newer))
     where
-      go : (b : Bool) → EachOnce (serialFrom model (r ∷ newer) older) → EachOnce (cond b (r .transaction ∷ serialFrom model (r ∷ newer) older) (serialFrom model (r ∷ newer) older))
+      go : (b : Bool) → EachOnce (serialFrom model (r ∷ newer) older)
+          → EachOnce (cond b (r .transaction ∷ serialFrom model (r ∷ newer) older) (serialFrom model (r ∷ newer) older))
       go true h = (λ m. last-entry (r ∷ newer) (r .transaction) (serial-in older (r ∷ newer) (r .transaction) m .1) r (List·Memᴰ·head refl) refl, h)
       go false h = h
 
   -- a committed transaction of the log is listed
-  serial-has : (rest newer : List Entry) (t : Transaction) → committed model t ≡ true → isLast newer t ≡ true → (e : Entry) → List·Memᴰ e rest → e .transaction ≡ t → List·Memᴰ t (serialFrom model newer rest)
+  serial-has : (rest newer : List Entry) (t : Transaction) → committed model t ≡ true → isLast newer t ≡ true
+      → (e : Entry) → List·Memᴰ e rest → e .transaction ≡ t → List·Memᴰ t (serialFrom model newer rest)
   unfolding serialFrom
   serial-has [] newer t c u e m z = elim m [ ]
   serial-has (r ∷ older) newer t c u e m z = go (case (isLast (r ∷ newer) t)) m (λ v d. serial-has older (r ∷ newer) t c v e d z)
     where
-      skip : (b : Bool) → List·Memᴰ t (serialFrom model (r ∷ newer) older) → List·Memᴰ t (cond b (r .transaction ∷ serialFrom model (r ∷ newer) older) (serialFrom model (r ∷ newer) older))
+      skip : (b : Bool) → List·Memᴰ t (serialFrom model (r ∷ newer) older)
+          → List·Memᴰ t (cond b (r .transaction ∷ serialFrom model (r ∷ newer) older) (serialFrom model (r ∷ newer) older))
       skip true d = List·Memᴰ·tail d
       skip false d = d
 
-      go : Case (isLast (r ∷ newer) t) → List·Memᴰ e (r ∷ older) → (isLast (r ∷ newer) t ≡ true → List·Memᴰ e older → List·Memᴰ t (serialFrom model (r ∷ newer) older))
-          → List·Memᴰ t (cond (isLast newer (r .transaction) && committed model (r .transaction)) (r .transaction ∷ serialFrom model (r ∷ newer) older) (serialFrom model (r ∷ newer) older))
+      go : Case (isLast (r ∷ newer) t) → List·Memᴰ e (r ∷ older)
+          → (isLast (r ∷ newer) t ≡ true → List·Memᴰ e older → List·Memᴰ t (serialFrom model (r ∷ newer) older))
+          → List·Memᴰ t (cond (isLast newer (r .transaction) && committed model (r .transaction))
+          (r .transaction ∷ serialFrom model (r ∷ newer) older) (serialFrom model (r ∷ newer) older))
       go (yes-case v) (List·Memᴰ·head y) h = absurd (last-entry (r ∷ newer) t v r (List·Memᴰ·head refl) (ap (λ (a : Entry). a .transaction) (sym y) ∙ z))
       go (yes-case v) (List·Memᴰ·tail d) h = skip (isLast newer (r .transaction) && committed model (r .transaction)) (h v d)
       go (no-case v) q h =
           let y : r .transaction ≡ t = late r newer t u v in
           let b : isLast newer (r .transaction) && committed model (r .transaction) ≡ true =
           and-intro (subst (λ (s : Transaction). isLast newer s ≡ true) (sym y) u) (subst (λ (s : Transaction). committed model s ≡ true) (sym y) c) in
-          subst (λ (a : Bool). List·Memᴰ t (cond a (r .transaction ∷ serialFrom model (r ∷ newer) older) (serialFrom model (r ∷ newer) older))) (sym b) (List·Memᴰ·head (sym y))
+          subst (λ (a : Bool). List·Memᴰ t (cond a (r .transaction ∷ serialFrom model (r ∷ newer) older) (serialFrom model (r ∷ newer) older)))
+          (sym b) (List·Memᴰ·head (sym y))
 
   -- a committed transaction stands in the log
   pub committed-logged : (t : Transaction) → committed model t ≡ true → (e : Entry) × List·Memᴰ e (model .log) × (e .transaction ≡ t)
@@ -107,7 +116,8 @@ placed-new place log r z h = record { below = go; falls = (λ e m. let y = h .be
     go e (List·Memᴰ·tail m) = let y = h .below e m in omega arith
 
 -- by cases on what a call did
-placed-step : (limits : Limits) (place : ℕ) (model : Model) → Placed place (model .log) → (call : Call) (r : Model × Answer) → Effect limits place model call r → Placed (suc place) (r .0 .log)
+placed-step : (limits : Limits) (place : ℕ) (model : Model) → Placed place (model .log)
+    → (call : Call) (r : Model × Answer) → Effect limits place model call r → Placed (suc place) (r .0 .log)
 placed-step limits place model h call _ (did-refuse n) = placed-same place (model .log) h
 placed-step limits place model h call _ (did-mint n) = placed-same place (model .log) h
 placed-step limits place model h call _ (did-register {p = p} {t = t} n) = placed-new place (model .log) (entryFor limits place (model .shards) p t) refl h
@@ -119,7 +129,8 @@ falls-after : (limits : Limits) (place : ℕ) (model : Model) (calls : List Call
 unfolding after
 falls-after limits place model [] h = h .falls
 falls-after limits place model (call ∷ calls) h =
-    falls-after limits (suc place) (step limits place model call .0) calls (placed-step limits place model h call (step limits place model call) (effect limits place model call))
+    falls-after limits (suc place) (step limits place model call .0) calls
+    (placed-step limits place model h call (step limits place model call) (effect limits place model call))
 
 -- ---- By last registration
 
@@ -131,21 +142,29 @@ last-rest (e ∷ newer) rest t u =
     ∙ ap (λ (c : Bool). cond c (e .place) (lastPlace rest t)) (not-yes (λ y. last-entry (e ∷ newer) t u e (List·Memᴰ·head refl) (same-eq (e .transaction) t y)))
 
 -- a last entry's place is the last registration's
-last-at : (newer : List Entry) (r : Entry) (older : List Entry) (t : Transaction) → isLast newer t ≡ true → r .transaction ≡ t → lastPlace (reverseAux newer (r ∷ older)) t ≡ r .place
+last-at : (newer : List Entry) (r : Entry) (older : List Entry) (t : Transaction) → isLast newer t ≡ true
+    → r .transaction ≡ t → lastPlace (reverseAux newer (r ∷ older)) t ≡ r .place
 last-at newer r older t u z = last-rest newer (r ∷ older) t u ∙ ap (λ (c : Bool). cond c (r .place) (lastPlace older t)) (same-true z)
 
 -- what is listed has its last registration in the rest
-serial-last : (model : Model) (rest newer : List Entry) (t : Transaction) → List·Memᴰ t (serialFrom model newer rest) → (e : Entry) × List·Memᴰ e rest × (lastPlace (reverseAux newer rest) t ≡ e .place)
+serial-last : (model : Model) (rest newer : List Entry) (t : Transaction) → List·Memᴰ t (serialFrom model newer rest)
+    → (e : Entry) × List·Memᴰ e rest × (lastPlace (reverseAux newer rest) t ≡ e .place)
 unfolding serialFrom
 serial-last model [] newer t m = elim m [ ]
 serial-last model (r ∷ older) newer t m =
-    go (isLast newer (r .transaction) && committed model (r .transaction)) refl m (λ d. let h = serial-last model older (r ∷ newer) t d in (h .0, List·Memᴰ·tail (h .1), h .2))
+    go (isLast newer (r .transaction) && committed model (r .transaction)) refl m
+    (λ d. let h = serial-last model older (r ∷ newer) t d in (h .0, List·Memᴰ·tail (h .1), h .2))
   where
-    go : (b : Bool) → isLast newer (r .transaction) && committed model (r .transaction) ≡ b → List·Memᴰ t (cond b (r .transaction ∷ serialFrom model (r ∷ newer) older) (serialFrom model (r ∷ newer) older))
+    go : (b : Bool) → isLast newer (r .transaction) && committed model (r .transaction) ≡ b
+        → List·Memᴰ t (cond b (r .transaction ∷ serialFrom model (r ∷ newer) older) (serialFrom model (r ∷ newer) older))
         → (List·Memᴰ t (serialFrom model (r ∷ newer) older) → (e : Entry) × List·Memᴰ e (r ∷ older) × (lastPlace (reverseAux newer (r ∷ older)) t ≡ e .place))
         → (e : Entry) × List·Memᴰ e (r ∷ older) × (lastPlace (reverseAux newer (r ∷ older)) t ≡ e .place)
-    go true y (List·Memᴰ·head z) h =
-        (r, List·Memᴰ·head refl, last-at newer r older t (subst (λ (a : Transaction). isLast newer a ≡ true) (sym z) (both (isLast newer (r .transaction)) (committed model (r .transaction)) y .0)) (sym z))
+    go true y (List·Memᴰ·head z) h = (
+      r,
+      List·Memᴰ·head refl,
+      last-at newer r older t
+          (subst (λ (a : Transaction). isLast newer a ≡ true) (sym z) (both (isLast newer (r .transaction)) (committed model (r .transaction)) y .0)) (sym z),
+    )
     go true y (List·Memᴰ·tail d) h = h d
     go false y d h = h d
 
@@ -162,7 +181,8 @@ by-last model (r ∷ older) newer f = go (isLast newer (r .transaction) && commi
         → ByLast log (cond b (r .transaction ∷ serialFrom model (r ∷ newer) older) (serialFrom model (r ∷ newer) older))
     go false y h = h
     go true y h =
-        let here : lastPlace log (r .transaction) ≡ r .place = last-at newer r older (r .transaction) (both (isLast newer (r .transaction)) (committed model (r .transaction)) y .0) refl in
+        let here : lastPlace log (r .transaction) ≡ r .place =
+        last-at newer r older (r .transaction) (both (isLast newer (r .transaction)) (committed model (r .transaction)) y .0) refl in
         (λ t m. let e = serial-last model older (r ∷ newer) t m in let z = f .0 (e .0) (e .1) in let x : lastPlace log t ≡ e .0 .place = e .2 in omega arith, h)
 
 -- the serial order of a play

@@ -14,7 +14,7 @@ use Rattle.transaction.specs.Checks.{shardFits, indexFits, valueFits, countsFit
 use Rattle.transaction.proofs.Causes.{counts}
 use Rattle.model.specs.declared.Known.{Known}
 use Rattle.model.specs.Steps.{Limits, Ledger, isFor, entryOf, heardFrom, outputsHere}
-use Rattle.model.specs.Shard.{hasNumber, isOther, reserved, otherVerdict, mintRefusals, registerRefusals, deliverForm, deliverRefusals}
+use Rattle.model.specs.Shard.{hasNumber, isOther, reserved, otherVerdict, mintRefusals, registerRefusals, deliverForm, deliverRest, deliverRefusals}
 use Rattle.model.proofs.Basics.{eqb-eq, eqb-apart, both, not-no, not-is, passed, first-append, any-at}
 
 -- ---- Parts of the field checks
@@ -60,7 +60,8 @@ module _ (limits : Limits) (me : ℕ) (ledger : Ledger) (receiver : ℕ) where
   unfolding mintRefusals mintFits indexFits
   mint-passes index owner amount e =
       let g = passed (mintRefusals limits me ledger receiver index owner amount) refl e in
-      let f = both (shardFits receiver && indexFits (limits .genesis) 0 index) (valueFits owner amount) (not-no (mintFits (limits .genesis) receiver index owner amount) (g .1 .0)) in
+      let f = both (shardFits receiver && indexFits (limits .genesis) 0 index) (valueFits owner amount)
+      (not-no (mintFits (limits .genesis) receiver index owner amount) (g .1 .0)) in
       let h = both (shardFits receiver) (indexFits (limits .genesis) 0 index) (f .0) in
       record {
         addressed = eqb-eq receiver me (not-no (eqb receiver me) (g .0));
@@ -104,7 +105,8 @@ module _ (limits : Limits) (me : ℕ) (ledger : Ledger) (receiver : ℕ) where
         no-other = g .1 .1 .1 .1 .1 .1 .0;
         unknown = g .1 .1 .1 .1 .1 .1 .1 .0;
         known-room = leb-false (limits .transactions) (length (ledger .known)) (g .1 .1 .1 .1 .1 .1 .1 .1 .0);
-        token-room = ltb-false (limits .tokens) (length (ledger .tokens) + reserved me (ledger .known) + length (outputsHere me t)) (g .1 .1 .1 .1 .1 .1 .1 .1 .1 .0);
+        token-room = ltb-false (limits .tokens)
+            (length (ledger .tokens) + reserved me (ledger .known) + length (outputsHere me t)) (g .1 .1 .1 .1 .1 .1 .1 .1 .1 .0);
       }
 
   -- a vote that passes
@@ -118,7 +120,8 @@ module _ (limits : Limits) (me : ℕ) (ledger : Ledger) (receiver : ℕ) where
     pub no-clash : otherVerdict (heardFrom sender (entryOf t (ledger .known))) verdict ≡ false
 
   -- what its table says
-  pub deliver-passes : (sender verdict : ℕ) (t : Transaction) → firstOf (deliverRefusals limits me ledger receiver sender verdict t) ≡ 0 → DeliverPasses sender verdict t
+  pub deliver-passes : (sender verdict : ℕ) (t : Transaction)
+      → firstOf (deliverRefusals limits me ledger receiver sender verdict t) ≡ 0 → DeliverPasses sender verdict t
   unfolding deliverRefusals deliverForm
   deliver-passes sender verdict t e =
       let g = passed (deliverRefusals limits me ledger receiver sender verdict t) refl e in
@@ -144,6 +147,4 @@ module _ (limits : Limits) (me : ℕ) (ledger : Ledger) (receiver : ℕ) where
       → firstOf (deliverForm limits me receiver sender verdict t) ≡ 0
   unfolding deliverRefusals deliverForm
   form-passes sender verdict t e =
-      first-append (deliverForm limits me receiver sender verdict t)
-      ((not (any (hasNumber t) (ledger .known)), 11) ∷ (any (isOther t) (ledger .known), 7) ∷ (otherVerdict (heardFrom sender (entryOf t (ledger .known))) verdict, 12) ∷ [])
-      refl e
+      first-append (deliverForm limits me receiver sender verdict t) (deliverRest ledger sender verdict t) refl e

@@ -20,11 +20,61 @@ use Rattle.model.specs.Lists.{mapOption, andThen}
 use Rattle.model.specs.Steps.{Limits, inputsHere, outcomeOf, madeHere}
 use Rattle.model.specs.Cluster.{ledgerAt}
 use Rattle.model.specs.Model.{Entry, Model}
-use Rattle.model.specs.Demand.{outcomeAt, committed, Settled, logsIt, isLast, serialFrom, Value, SerialLedger, inputValue, tokenValue, tokenAt, genesisLedger, spend, serialRun, heldValue, SerialEnd}
-use Rattle.model.proofs.Basics.{not-yes, both, and-intro, clash, Case, yes-case, no-case, case, orElse, orElse-none, some≢none, some-inj, CaseO, is-some, is-none, caseO, same-some, any-at, any-of}
+use Rattle.model.specs.Demand.{
+  outcomeAt,
+  committed,
+  Settled,
+  logsIt,
+  isLast,
+  serialFrom,
+  Value,
+  SerialLedger,
+  inputValue,
+  tokenValue,
+  tokenAt,
+  genesisLedger,
+  spend,
+  serialRun,
+  heldValue,
+  SerialEnd,
+}
+use Rattle.model.proofs.Basics.{
+  not-yes,
+  both,
+  and-intro,
+  clash,
+  Case,
+  yes-case,
+  no-case,
+  case,
+  orElse,
+  orElse-none,
+  some≢none,
+  some-inj,
+  CaseO,
+  is-some,
+  is-none,
+  caseO,
+  same-some,
+  any-at,
+  any-of,
+}
 use Rattle.model.proofs.Entries.{same-eq, same-true, look, commit≢wait}
 use Rattle.model.proofs.Holdings.{idOf, taken, Takes, taken-by, here-shard, in-here, made-number, made-shard}
-use Rattle.model.proofs.Invariant.{Voted, voted-available, Complete, onCommit, gain, byCommit, made, Consumed, Source, from-genesis, from-commit, Sources}
+use Rattle.model.proofs.Invariant.{
+  Voted,
+  voted-available,
+  Complete,
+  onCommit,
+  gain,
+  byCommit,
+  made,
+  Consumed,
+  Source,
+  from-genesis,
+  from-commit,
+  Sources,
+}
 use Rattle.model.proofs.Steps.{Once, genesisAt, Inv}
 use Rattle.model.proofs.Decisions.{outcome-of, agree-at, commit-votes, commit-at, committed-of}
 use Rattle.model.proofs.Spending.{Spends, spends}
@@ -54,7 +104,8 @@ late r newer t u f = go (case (sameTransaction (r .transaction) t))
 -- ---- Sources, seen from the rest of the log
 
 -- a source in fewer entries is one in more
-source-mono : (p : ℕ) (genesis : ℕ → ℕ → Option Value) (known : List Known) (a c : List Entry) (x : Input) → ((e : Entry) → List·Memᴰ e a → List·Memᴰ e c) → Source p genesis known a x → Source p genesis known c x
+source-mono : (p : ℕ) (genesis : ℕ → ℕ → Option Value) (known : List Known) (a c : List Entry) (x : Input)
+    → ((e : Entry) → List·Memᴰ e a → List·Memᴰ e c) → Source p genesis known a x → Source p genesis known c x
 source-mono p genesis known a c x h (from-genesis g) = from-genesis g
 source-mono p genesis known a c x h (from-commit k e y g all) =
     from-commit k e y g (λ q m. let r = all q m in record { entry = r .entry; logged = h (r .entry) (r .logged); at = r .at; of = r .of })
@@ -62,9 +113,11 @@ source-mono p genesis known a c x h (from-commit k e y g all) =
 -- what an entry found available has its source among the older ones
 source-in : (p : ℕ) (genesis : ℕ → ℕ → Option Value) (known : List Known) (r : Entry) (older : List Entry) (x : Input) → Sources p genesis known (r ∷ older)
     → (e : Entry) → List·Memᴰ e (r ∷ older) → e .shard ≡ p → List·Memᴰ x (e .available) → Source p genesis known older x
-source-in p genesis known r [] x src e (List·Memᴰ·head z) at a = src .0 (ap (λ (c : Entry). c .shard) (sym z) ∙ at) x (subst (λ (c : Entry). List·Memᴰ x (c .available)) z a)
+source-in p genesis known r [] x src e (List·Memᴰ·head z) at a =
+    src .0 (ap (λ (c : Entry). c .shard) (sym z) ∙ at) x (subst (λ (c : Entry). List·Memᴰ x (c .available)) z a)
 source-in p genesis known r [] x src e (List·Memᴰ·tail d) at a = elim d [ ]
-source-in p genesis known r (r₁ ∷ older) x src e (List·Memᴰ·head z) at a = src .0 (ap (λ (c : Entry). c .shard) (sym z) ∙ at) x (subst (λ (c : Entry). List·Memᴰ x (c .available)) z a)
+source-in p genesis known r (r₁ ∷ older) x src e (List·Memᴰ·head z) at a =
+    src .0 (ap (λ (c : Entry). c .shard) (sym z) ∙ at) x (subst (λ (c : Entry). List·Memᴰ x (c .available)) z a)
 source-in p genesis known r (r₁ ∷ older) x src e (List·Memᴰ·tail d) at a =
     source-mono p genesis known older (r₁ ∷ older) x (λ c q. List·Memᴰ·tail q) (source-in p genesis known r₁ older x (src .1) e d at a)
 
@@ -180,19 +233,23 @@ module _ (limits : Limits) (model : Model) (w : Inv limits model) where
         let t = taken-by p (d .transaction) m i (d .is-taken) in
         let v = in-rest newer [] s (d .transaction) (d .is-committed) (d .is-last) p (here-shard p (d .transaction) (t .input) (t .is-here) .2) in
         absurd (elim (v .logged) [ ]);
-    unspent = λ p m i h. sym (ap (λ (o : Option Value). orElse (genesis-at p m i) o) (nothing p m i (caseO (look (known-at p) m))) ∙ orElse-none (genesis-at p m i));
+    unspent = λ p m i h. sym (ap (λ (o : Option Value). orElse (genesis-at p m i) o) (nothing p m i (caseO (look (known-at p) m)))
+        ∙ orElse-none (genesis-at p m i));
   }
     where
       nothing : (p m i : ℕ) → CaseO (look (known-at p) m) → byCommitIn newer p (look (known-at p) m) m i ≡ none
       nothing p m i (is-none e) = ap (λ (o : Option Known). byCommitIn newer p o m i) e
-      nothing p m i (is-some k e) = ap (λ (o : Option Known). byCommitIn newer p o m i) e ∙ cut (isLast newer (k .transaction) && committed model (k .transaction)) refl
+      nothing p m i (is-some k e) = ap (λ (o : Option Known). byCommitIn newer p o m i) e
+          ∙ cut (isLast newer (k .transaction) && committed model (k .transaction)) refl
         where
-          zero-gain : isLast newer (k .transaction) ≡ true → committed model (k .transaction) ≡ true → CaseO (tokenAt (madeHere p (k .transaction)) m i) → gain p (k .transaction) m i ≡ none
+          zero-gain : isLast newer (k .transaction) ≡ true → committed model (k .transaction) ≡ true
+              → CaseO (tokenAt (madeHere p (k .transaction)) m i) → gain p (k .transaction) m i ≡ none
           zero-gain u y (is-none z) = ap (mapOption tokenValue) z
           zero-gain u y (is-some t z) = absurd (elim (in-rest newer [] s (k .transaction) y u p (made-shard p (k .transaction) m i z) .logged) [ ])
 
           cut : (b : Bool) → isLast newer (k .transaction) && committed model (k .transaction) ≡ b → cond b (gain p (k .transaction) m i) none ≡ none
-          cut true y = let r = both (isLast newer (k .transaction)) (committed model (k .transaction)) y in zero-gain (r .0) (r .1) (caseO (tokenAt (madeHere p (k .transaction)) m i))
+          cut true y = let r = both (isLast newer (k .transaction)) (committed model (k .transaction)) y in zero-gain
+              (r .0) (r .1) (caseO (tokenAt (madeHere p (k .transaction)) m i))
           cut false y = refl
 
   -- ---- One entry more
@@ -204,11 +261,18 @@ module _ (limits : Limits) (model : Model) (w : Inv limits model) where
 
     -- what is taken by the older entries is taken by the rest
     spent-tail : (p m i : ℕ) → Spent (r ∷ newer) p m i → Spent newer p m i
-    spent-tail p m i d = record { transaction = d .transaction; is-committed = d .is-committed; is-taken = d .is-taken; is-last = last-tail r newer (d .transaction) (d .is-last) }
+    spent-tail p m i d = record {
+      transaction = d .transaction;
+      is-committed = d .is-committed;
+      is-taken =
+          d .is-taken;
+      is-last = last-tail r newer (d .transaction) (d .is-last);
+    }
 
     -- the same is made where the entry's transaction makes nothing under that id
     made-shift : (p m i : ℕ)
-        → ((k : Known) → look (known-at p) m ≡ some k → committed model (k .transaction) ≡ true → isLast newer (k .transaction) ≡ true → isLast (r ∷ newer) (k .transaction) ≡ false → gain p (k .transaction) m i ≡ none)
+        → ((k : Known) → look (known-at p) m ≡ some k → committed model (k .transaction) ≡ true
+        → isLast newer (k .transaction) ≡ true → isLast (r ∷ newer) (k .transaction) ≡ false → gain p (k .transaction) m i ≡ none)
         → madeIn (r ∷ newer) p m i ≡ madeIn newer p m i
     made-shift p m i h = ap (λ (o : Option Value). orElse (genesis-at p m i) o) (go (look (known-at p) m) refl)
       where
@@ -227,21 +291,24 @@ module _ (limits : Limits) (model : Model) (w : Inv limits model) where
             drop false = refl
 
             cut : Case (committed model (k .transaction)) → Case (isLast (r ∷ newer) (k .transaction)) → Case (isLast newer (k .transaction))
-                → by (isLast (r ∷ newer) (k .transaction)) (committed model (k .transaction)) ≡ by (isLast newer (k .transaction)) (committed model (k .transaction))
+                → by (isLast (r ∷ newer) (k .transaction)) (committed model (k .transaction))
+                ≡ by (isLast newer (k .transaction)) (committed model (k .transaction))
             cut y (yes-case a) (yes-case c) = ap (λ (t : Bool). by t (committed model (k .transaction))) (a ∙ sym c)
             cut y (no-case a) (no-case c) = ap (λ (t : Bool). by t (committed model (k .transaction))) (a ∙ sym c)
             cut y (yes-case a) (no-case c) = clash (last-tail r newer (k .transaction) a) c
             cut (yes-case y) (no-case a) (yes-case c) =
                 ap (λ (t : Bool). by t (committed model (k .transaction))) a ∙ sym ((λ j. by (c j) (y j)) ∙ h k e y c a)
             cut (no-case y) (no-case a) (yes-case c) =
-                ap (by (isLast (r ∷ newer) (k .transaction))) y ∙ drop (isLast (r ∷ newer) (k .transaction)) ∙ sym (ap (by (isLast newer (k .transaction))) y ∙ drop (isLast newer (k .transaction)))
+                ap (by (isLast (r ∷ newer) (k .transaction))) y ∙ drop (isLast (r ∷ newer) (k .transaction))
+                ∙ sym (ap (by (isLast newer (k .transaction))) y ∙ drop (isLast newer (k .transaction)))
 
     -- an entry that is not the last one of a committed transaction
     claim-skip : isLast newer (r .transaction) && committed model (r .transaction) ≡ false → Claim newer (r ∷ older)
     unfolding serialFrom
     claim-skip f = record {
       ledger = ih .ledger;
-      runs = ap (λ (c : Bool). serialRun (genesisLedger (model .minted)) (cond c (r .transaction ∷ serialFrom model (r ∷ newer) older) (serialFrom model (r ∷ newer) older))) f ∙ ih .runs;
+      runs = ap (λ (c : Bool). serialRun (genesisLedger (model .minted))
+          (cond c (r .transaction ∷ serialFrom model (r ∷ newer) older) (serialFrom model (r ∷ newer) older))) f ∙ ih .runs;
       spent = λ p m i d. ih .spent p m i (record {
         transaction = d .transaction;
         is-committed = d .is-committed;
@@ -274,12 +341,15 @@ module _ (limits : Limits) (model : Model) (w : Inv limits model) where
         next .apart e (g .entry) m (g .logged) (sym (g .at)) (z ∙ sym (g .of)))
 
     -- what has a source was made in the rest
-    source-made-in : (p : ℕ) (x : Input) → Source p (genesis-at p) (known-at p) older x → madeIn (r ∷ newer) p (x .token .creator) (x .token .index) ≡ some (inputValue x)
+    source-made-in : (p : ℕ) (x : Input) → Source p (genesis-at p) (known-at p) older x
+        → madeIn (r ∷ newer) p (x .token .creator) (x .token .index) ≡ some (inputValue x)
     source-made-in p x (from-genesis g) =
         ap (λ (o : Option Value). orElse o (byCommitIn (r ∷ newer) p (look (known-at p) (x .token .creator)) (x .token .creator) (x .token .index))) g
     source-made-in p x (from-commit k e y g all) =
-        (λ j. orElse (w .at p .core .zero-only (x .token .creator) (x .token .index) (w .at p .core .number (x .token .creator) k e) j) (byCommitIn (r ∷ newer) p (e j) (x .token .creator) (x .token .index)))
-        ∙ (λ j. cond (complete-last (k .transaction) all j && committed-of limits model w p (x .token .creator) k e y j) (gain p (k .transaction) (x .token .creator) (x .token .index)) none) ∙ g
+        (λ j. orElse (w .at p .core .zero-only (x .token .creator) (x .token .index) (w .at p .core .number (x .token .creator) k e) j)
+        (byCommitIn (r ∷ newer) p (e j) (x .token .creator) (x .token .index)))
+        ∙ (λ j. cond (complete-last (k .transaction) all j && committed-of limits model w p (x .token .creator) k e y j)
+        (gain p (k .transaction) (x .token .creator) (x .token .index)) none) ∙ g
 
     -- the last entry of a committed transaction
     module _ (u : isLast newer (r .transaction) ≡ true) (c : committed model (r .transaction) ≡ true) where
@@ -315,7 +385,8 @@ module _ (limits : Limits) (model : Model) (w : Inv limits model) where
 
       -- no token is named twice
       is-distinct : namedTwice t ≡ false
-      is-distinct = subst (λ (s : Transaction). namedTwice s ≡ false) (own-at .whole) (w .at (r .shard) .core .distinct (t .number) (own-at .entry) (own-at .is-known))
+      is-distinct = subst (λ (s : Transaction). namedTwice s ≡ false) (own-at .whole)
+          (w .at (r .shard) .core .distinct (t .number) (own-at .entry) (own-at .is-known))
 
       -- nothing was made under its number before
       is-free : (p m i : ℕ) (k : Token) → tokenAt (madeHere p t) m i ≡ some k → ih .ledger (idOf p m i) ≡ none
@@ -332,7 +403,8 @@ module _ (limits : Limits) (model : Model) (w : Inv limits model) where
 
           unmade : madeIn (r ∷ newer) p m i ≡ none
           unmade =
-              (λ j. orElse (w .at p .core .zero-only m i (λ z. positive-at p t a (sym e ∙ z)) j) (byCommitIn (r ∷ newer) p ((ap (look (known-at p)) e ∙ a .is-known) j) m i))
+              (λ j. orElse (w .at p .core .zero-only m i (λ z. positive-at p t a (sym e ∙ z)) j)
+              (byCommitIn (r ∷ newer) p ((ap (look (known-at p)) e ∙ a .is-known) j) m i))
               ∙ (λ j. cond (isLast (r ∷ newer) (a .whole j) && committed model (a .whole j)) (gain p (a .whole j) m i) none)
               ∙ (λ j. cond (passed j && committed model t) (gain p t m i) none)
 
@@ -352,7 +424,8 @@ module _ (limits : Limits) (model : Model) (w : Inv limits model) where
           y = taken-by p (d .transaction) m i (d .is-taken)
 
           bad : (a : At p t) → m ≡ t .number → Source p (genesis-at p) (known-at p) older (y .input) → ⊥
-          bad a e (from-genesis g) = some≢none g (w .at p .core .zero-only (y .input .token .creator) (y .input .token .index) (λ z. positive-at p t a (sym e ∙ sym (y .is-creator) ∙ z)))
+          bad a e (from-genesis g) = some≢none g
+              (w .at p .core .zero-only (y .input .token .creator) (y .input .token .index) (λ z. positive-at p t a (sym e ∙ sym (y .is-creator) ∙ z)))
           bad a e (from-commit k l z g all) =
               let one : k ≡ a .entry = some-inj (sym l ∙ ap (look (known-at p)) (y .is-creator ∙ e) ∙ a .is-known) in
               let sw : k .transaction ≡ t = ap (λ (j : Known). j .transaction) one ∙ a .whole in
@@ -362,7 +435,8 @@ module _ (limits : Limits) (model : Model) (w : Inv limits model) where
           go : CaseO (tokenAt (madeHere p t) m i) → gain p t m i ≡ none
           go (is-none z) = ap (mapOption tokenValue) z
           go (is-some h z) =
-              absurd (bad (at-shard t c p (made-shard p t m i z)) (made-number p t m i z) (rest-source p (d .transaction) (d .is-committed) (d .is-last) (y .input) (y .is-here)))
+              absurd (bad (at-shard t c p (made-shard p t m i z)) (made-number p t m i z)
+              (rest-source p (d .transaction) (d .is-committed) (d .is-last) (y .input) (y .is-here)))
 
       -- what it and the older ones take is gone
       spent-new : (p m i : ℕ) → Spent newer p m i → spending .left (idOf p m i) ≡ none
@@ -379,7 +453,8 @@ module _ (limits : Limits) (model : Model) (w : Inv limits model) where
           go (yes-case z) (no-case y) =
               ap (λ (c : Bool). cond c none old) y
               ∙ ih .spent p m i (record { transaction = d .transaction; is-committed = d .is-committed; is-taken = d .is-taken; is-last = z })
-          go (no-case z) (no-case y) = clash (subst (λ (s : Transaction). taken p s m i ≡ true) (sym (late r newer (d .transaction) (d .is-last) z)) (d .is-taken)) y
+          go (no-case z) (no-case y) = clash
+              (subst (λ (s : Transaction). taken p s m i ≡ true) (sym (late r newer (d .transaction) (d .is-last) z)) (d .is-taken)) y
 
       -- and what they make and do not take is there
       unspent-new : (p m i : ℕ) → (Spent newer p m i → ⊥) → spending .left (idOf p m i) ≡ madeIn newer p m i
@@ -394,7 +469,8 @@ module _ (limits : Limits) (model : Model) (w : Inv limits model) where
 
           hit : (v : Value) → gain p t m i ≡ some v → (a : At p t) → m ≡ t .number → madeIn newer p m i ≡ some v
           hit v g a e =
-              (λ j. orElse (w .at p .core .zero-only m i (λ z. positive-at p t a (sym e ∙ z)) j) (byCommitIn newer p ((ap (look (known-at p)) e ∙ a .is-known) j) m i))
+              (λ j. orElse (w .at p .core .zero-only m i (λ z. positive-at p t a (sym e ∙ z)) j)
+              (byCommitIn newer p ((ap (look (known-at p)) e ∙ a .is-known) j) m i))
               ∙ (λ j. cond (isLast newer (a .whole j) && committed model (a .whole j)) (gain p (a .whole j) m i) none)
               ∙ (λ j. cond (u j && c j) (gain p t m i) none) ∙ g
 
@@ -413,7 +489,8 @@ module _ (limits : Limits) (model : Model) (w : Inv limits model) where
       unfolding serialFrom serialRun
       claim-emit = record {
         ledger = spending .left;
-        runs = ap (λ (b : Bool). serialRun (genesisLedger (model .minted)) (cond b (t ∷ serialFrom model (r ∷ newer) older) (serialFrom model (r ∷ newer) older))) (and-intro u c)
+        runs = ap (λ (b : Bool). serialRun (genesisLedger (model .minted))
+            (cond b (t ∷ serialFrom model (r ∷ newer) older) (serialFrom model (r ∷ newer) older))) (and-intro u c)
             ∙ ap (andThen (spend t)) (ih .runs) ∙ spending .is-spent;
         spent = spent-new;
         unspent = unspent-new;
@@ -461,8 +538,10 @@ module _ (limits : Limits) (model : Model) (w : Inv limits model) where
         sym (agree-at limits model w (r .0) q t (λ z. commit≢wait (sym (r .1) ∙ z)) (settled t c q m)) ∙ r .1
 
     -- what is committed is committed here
-    outcome-here : (p n : ℕ) (k : Known) → look (known-at p) n ≡ some k → n ≡ k .transaction .number → committed model (k .transaction) ≡ true → List·Memᴰ p (shardsOf (k .transaction)) → outcomeOf k ≡ Commit
-    outcome-here p n k e z c m = sym (outcome-of limits model w p (k .transaction) k (ap (look (known-at p)) (sym z) ∙ e) refl) ∙ commits-at (k .transaction) c p m
+    outcome-here : (p n : ℕ) (k : Known) → look (known-at p) n ≡ some k → n ≡ k .transaction .number
+        → committed model (k .transaction) ≡ true → List·Memᴰ p (shardsOf (k .transaction)) → outcomeOf k ≡ Commit
+    outcome-here p n k e z c m = sym (outcome-of limits model w p (k .transaction) k (ap (look (known-at p)) (sym z) ∙ e) refl)
+        ∙ commits-at (k .transaction) c p m
 
     -- what was made by the whole log was made by the shards
     made-all : (p m i : ℕ) → madeIn [] p m i ≡ made p (genesis-at p) (known-at p) m i
@@ -478,14 +557,17 @@ module _ (limits : Limits) (model : Model) (w : Inv limits model) where
             absent Commit z = z
             absent Abort z = refl
 
-            there : outcomeOf k ≡ Commit → (b : Bool) → committed model (k .transaction) ≡ b → cond b (gain p (k .transaction) m i) none ≡ gain p (k .transaction) m i
+            there : outcomeOf k ≡ Commit → (b : Bool) → committed model (k .transaction) ≡ b
+                → cond b (gain p (k .transaction) m i) none ≡ gain p (k .transaction) m i
             there y true c = refl
             there y false c = clash (committed-of limits model w p m k e y) c
 
             cut : (o : Outcome) → outcomeOf k ≡ o → (b : Bool) → committed model (k .transaction) ≡ b → CaseO (tokenAt (madeHere p (k .transaction)) m i)
                 → cond b (gain p (k .transaction) m i) none ≡ onCommit o (gain p (k .transaction) m i)
             cut o y true c (is-none z) = ap (mapOption tokenValue) z ∙ sym (absent o (ap (mapOption tokenValue) z))
-            cut o y true c (is-some h z) = ap (λ (a : Outcome). onCommit a (gain p (k .transaction) m i)) (sym (outcome-here p m k e (made-number p (k .transaction) m i z) c (made-shard p (k .transaction) m i z)) ∙ y)
+            cut o y true c (is-some h z) =
+                ap (λ (a : Outcome). onCommit a (gain p (k .transaction) m i))
+                (sym (outcome-here p m k e (made-number p (k .transaction) m i z) c (made-shard p (k .transaction) m i z)) ∙ y)
             cut Wait y false c n = refl
             cut Abort y false c n = refl
             cut Commit y false c n = there y false c
@@ -500,7 +582,8 @@ module _ (limits : Limits) (model : Model) (w : Inv limits model) where
           number = d .transaction .number;
           entry = a .entry;
           is-known = a .is-known;
-          is-commit = sym (outcome-of limits model w p (d .transaction) (a .entry) (a .is-known) (a .whole)) ∙ commits-at (d .transaction) (d .is-committed) p h;
+          is-commit = sym (outcome-of limits model w p (d .transaction) (a .entry) (a .is-known) (a .whole))
+              ∙ commits-at (d .transaction) (d .is-committed) p h;
           is-taken = subst (λ (s : Transaction). taken p s m i ≡ true) (sym (a .whole)) (d .is-taken);
         }
 

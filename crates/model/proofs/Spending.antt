@@ -16,8 +16,41 @@ use Rattle.transaction.specs.Checks.{sameName, namedTwice}
 use Rattle.model.specs.declared.Token.{Token}
 use Rattle.model.specs.Lists.{mapOption, passes, isNone, andThen}
 use Rattle.model.specs.Steps.{inputHere, inputsHere, outputHere, tokenOf, tokensFrom, madeHere}
-use Rattle.model.specs.Demand.{Value, SerialLedger, inputValue, outputValue, tokenValue, tokenAt, hasValue, present, without, takeInputs, outputId, withToken, addOutputs, spend}
-use Rattle.model.proofs.Basics.{eqb-eq, eqb-same, eqb-yes, eqb-no, both, neither, and-intro, clash, same-test, orElse, none-of, CaseO, is-some, is-none, caseO, any-none, any-keep}
+use Rattle.model.specs.Demand.{
+  Value,
+  SerialLedger,
+  inputValue,
+  outputValue,
+  tokenValue,
+  tokenAt,
+  hasValue,
+  present,
+  without,
+  takeInputs,
+  outputId,
+  withToken,
+  addOutputs,
+  spend,
+}
+use Rattle.model.proofs.Basics.{
+  eqb-eq,
+  eqb-same,
+  eqb-yes,
+  eqb-no,
+  both,
+  neither,
+  and-intro,
+  clash,
+  same-test,
+  orElse,
+  none-of,
+  CaseO,
+  is-some,
+  is-none,
+  caseO,
+  any-none,
+  any-keep,
+}
 use Rattle.model.proofs.Holdings.{idOf, takesSpot, taken, made-from}
 use Rattle.model.proofs.Invariant.{gain}
 
@@ -40,7 +73,8 @@ pub record Taken (l : List Input) (ledger : SerialLedger) : Type 0 where
   pub is-left : (id : TokenId) → left id ≡ cond (any (namesIt id) l) none (ledger id)
 
 -- distinct inputs that are present are taken away
-take-all : (l : List Input) (ledger : SerialLedger) → repeats sameName l ≡ false → ((x : Input) → List·Memᴰ x l → ledger (x .token) ≡ some (inputValue x)) → Taken l ledger
+take-all : (l : List Input) (ledger : SerialLedger) → repeats sameName l ≡ false
+    → ((x : Input) → List·Memᴰ x l → ledger (x .token) ≡ some (inputValue x)) → Taken l ledger
 unfolding takeInputs sameName
 take-all [] ledger d h = record { left = ledger; is-taken = refl; is-left = λ id. refl }
 take-all (x ∷ l) ledger d h =
@@ -63,7 +97,8 @@ any-cong f g h (x ∷ l) = λ i. h x i || any-cong f g h l i
 names-spot : (p m i : ℕ) (x : Input) → sameToken (x .token) (idOf p m i) ≡ inputHere p x && takesSpot m i x
 unfolding sameToken
 names-spot p m i x =
-    same-test (eqb (x .token .shard) p && eqb (x .token .creator) m && eqb (x .token .index) i) (eqb (x .token .shard) p && (eqb m (x .token .creator) && eqb i (x .token .index)))
+    same-test (eqb (x .token .shard) p && eqb (x .token .creator) m && eqb (x .token .index) i)
+    (eqb (x .token .shard) p && (eqb m (x .token .creator) && eqb i (x .token .index)))
     (λ e.
     let a = both (eqb (x .token .shard) p && eqb (x .token .creator) m) (eqb (x .token .index) i) e in
     let b = both (eqb (x .token .shard) p) (eqb (x .token .creator) m) (a .0) in
@@ -108,7 +143,8 @@ later-index : (n j p m i : ℕ) (ys : List Output) (k : Token) → tokenAt (toke
 later-index n j p m i ys k e = eqb-no {m = j} {n = i} (λ z. let h : suc j ≤ i = made-from p n (suc j) ys m i e .2 in omega arith)
 
 -- and so are the others once it is added
-free-rest : (n j : ℕ) (y : Output) (ys : List Output) (ledger : SerialLedger) → Free n j (y ∷ ys) ledger → Free n (suc j) ys (withToken ledger (outputId n j y) (outputValue y))
+free-rest : (n j : ℕ) (y : Output) (ys : List Output) (ledger : SerialLedger) → Free n j (y ∷ ys) ledger
+    → Free n (suc j) ys (withToken ledger (outputId n j y) (outputValue y))
 unfolding sameToken
 free-rest n j y ys ledger f p m i k e =
     let apart : eqb j i ≡ false = later-index n j p m i ys k e in
@@ -122,7 +158,8 @@ free-rest n j y ys ledger f p m i k e =
 
     behind : (b : Bool) → eqb j i ≡ false → tokenAt (cond b (tokenOf n j y ∷ tokensFrom p n (suc j) ys) (tokensFrom p n (suc j) ys)) m i ≡ some k
     behind false z = e
-    behind true z = ap (λ (c : Bool). cond c (some (tokenOf n j y)) (tokenAt (tokensFrom p n (suc j) ys) m i)) (ap (λ (c : Bool). eqb n m && c) z ∙ and-no (eqb n m)) ∙ e
+    behind true z = ap (λ (c : Bool). cond c (some (tokenOf n j y)) (tokenAt (tokensFrom p n (suc j) ys) m i))
+        (ap (λ (c : Bool). eqb n m && c) z ∙ and-no (eqb n m)) ∙ e
 
 -- one output's token beside those of the later ones
 one-more : (n j : ℕ) (y : Output) (ys : List Output) (ledger : SerialLedger) (p m i : ℕ)
@@ -142,7 +179,8 @@ one-more n j y ys ledger p m i = go (eqb (y .shard) p) (eqb n m) (eqb j i) refl 
     alone e (is-none z) = z
     alone e (is-some k z) = clash e (later-index n j p m i ys k z)
 
-    hit : (b c : Bool) → eqb j i ≡ c → orElse (mapOption tokenValue rest) (cond (b && c) (some (outputValue y)) old) ≡ orElse (mapOption tokenValue (cond (b && c) (some (tokenOf n j y)) rest)) old
+    hit : (b c : Bool) → eqb j i ≡ c → orElse (mapOption tokenValue rest) (cond (b && c) (some (outputValue y)) old)
+        ≡ orElse (mapOption tokenValue (cond (b && c) (some (tokenOf n j y)) rest)) old
     hit true true e = ap (λ (o : Option Token). orElse (mapOption tokenValue o) (some (outputValue y))) (alone e (caseO rest))
     hit true false e = refl
     hit false c e = refl
@@ -161,7 +199,8 @@ add-all n j (y ∷ ys) ledger f =
     let r = add-all n (suc j) ys (withToken ledger (outputId n j y) (outputValue y)) (free-rest n j y ys ledger f) in
     record {
       more = r .more;
-      is-added = ap (λ (o : Option Value). cond (isNone o) (addOutputs n (suc j) ys (withToken ledger (outputId n j y) (outputValue y))) none) (free-first n j y ys ledger f) ∙ r .is-added;
+      is-added = ap (λ (o : Option Value). cond (isNone o) (addOutputs n (suc j) ys (withToken ledger (outputId n j y) (outputValue y))) none)
+          (free-first n j y ys ledger f) ∙ r .is-added;
       is-more = λ p m i. r .is-more p m i ∙ one-more n j y ys ledger p m i;
     }
 
@@ -174,7 +213,8 @@ pub record Spends (t : Transaction) (ledger : SerialLedger) : Type 0 where
   pub is-left : (p m i : ℕ) → left (idOf p m i) ≡ orElse (gain p t m i) (cond (taken p t m i) none (ledger (idOf p m i)))
 
 -- a transaction whose distinct inputs are present, and whose outputs have free ids, is carried out
-pub spends : (t : Transaction) (ledger : SerialLedger) → namedTwice t ≡ false → ((x : Input) → List·Memᴰ x (usedInputs t) → ledger (x .token) ≡ some (inputValue x))
+pub spends : (t : Transaction) (ledger : SerialLedger) → namedTwice t ≡ false
+    → ((x : Input) → List·Memᴰ x (usedInputs t) → ledger (x .token) ≡ some (inputValue x))
     → ((p m i : ℕ) (k : Token) → tokenAt (madeHere p t) m i ≡ some k → ledger (idOf p m i) ≡ none) → Spends t ledger
 unfolding spend namedTwice madeHere
 spends t ledger d h free =

@@ -19,16 +19,104 @@ use Rattle.model.specs.declared.Outcome.{Outcome}
 use Rattle.model.specs.declared.Outcome.the-variants.{Wait, Commit, Abort}
 use Rattle.model.specs.declared.Answer.{Answer}
 use Rattle.model.specs.Lists.{mapOption}
-use Rattle.model.specs.Steps.{Limits, Ledger, emptyLedger, holding, genesisToken, inputsHere, available, availableHere, pledgeIf, pledges, vote, noted, knownWith, newlyKnown, heardFrom, hearing, outcomeOf, settle, isFor, placeOf, entryOf, afterMint, afterRegister, afterVote}
+use Rattle.model.specs.Steps.{
+  Limits,
+  Ledger,
+  emptyLedger,
+  holding,
+  genesisToken,
+  inputsHere,
+  available,
+  availableHere,
+  pledgeIf,
+  pledges,
+  vote,
+  noted,
+  knownWith,
+  newlyKnown,
+  heardFrom,
+  hearing,
+  outcomeOf,
+  settle,
+  isFor,
+  placeOf,
+  entryOf,
+  afterMint,
+  afterRegister,
+  afterVote,
+}
 use Rattle.model.specs.Shard.{Call}
 use Rattle.model.specs.Cluster.{emptyShards, ledgerAt, hasGiven, gave}
 use Rattle.model.specs.Model.{Entry, Genesis, Model, emptyModel, entryFor, step, after, play}
 use Rattle.model.specs.Demand.{Value, inputValue, tokenValue, hasSpot, tokenAt, sameSpot, genesisLedger}
-use Rattle.model.proofs.Basics.{eqb-eq, eqb-same, eqb-no, eqb-apart, not-yes, Case, yes-case, no-case, case, both, orElse, orElse-none, isSome, some≢none, some-inj, CaseO, is-some, is-none, caseO, map-or, all-at, all-of, any-at, keep-in, keep-out, set-elim, getD-same}
+use Rattle.model.proofs.Basics.{
+  eqb-eq,
+  eqb-same,
+  eqb-no,
+  eqb-apart,
+  not-yes,
+  Case,
+  yes-case,
+  no-case,
+  case,
+  both,
+  orElse,
+  orElse-none,
+  isSome,
+  some≢none,
+  some-inj,
+  CaseO,
+  is-some,
+  is-none,
+  caseO,
+  map-or,
+  all-at,
+  all-of,
+  any-at,
+  keep-in,
+  keep-out,
+  set-elim,
+  getD-same,
+}
 use Rattle.model.proofs.Lookups.{lookup-append, alone-append}
-use Rattle.model.proofs.Entries.{same-eq, look, mem-look, put, look-put-same, look-put-other, append-put, set-put, number-unknown, whole-known, entry-look, outcome-yes}
+use Rattle.model.proofs.Entries.{
+  same-eq,
+  look,
+  mem-look,
+  put,
+  look-put-same,
+  look-put-other,
+  append-put,
+  set-put,
+  number-unknown,
+  whole-known,
+  entry-look,
+  outcome-yes,
+}
 use Rattle.model.proofs.Holdings.{idOf, tok-name, mem-tok, available-token, tok-pledges, value-pledged, pledge-stays, pledge-set, no-twice-pledges}
-use Rattle.model.proofs.Invariant.{Voted, voted-more, onCommit, gain, byCommit, made, Consumed, Pledged, Source, from-genesis, from-commit, Sources, Core, Ok, unmade, held-made, Enters, core-enter, bound-enter, bound-more, no-twice-enter}
+use Rattle.model.proofs.Invariant.{
+  Voted,
+  voted-more,
+  onCommit,
+  gain,
+  byCommit,
+  made,
+  Consumed,
+  Pledged,
+  Source,
+  from-genesis,
+  from-commit,
+  Sources,
+  Core,
+  Ok,
+  unmade,
+  held-made,
+  Enters,
+  core-enter,
+  bound-enter,
+  bound-more,
+  no-twice-enter,
+}
 use Rattle.model.proofs.Refusals.{shard-below, number-positive, part-in}
 use Rattle.model.proofs.Effects.{Effect, did-refuse, did-mint, did-register, did-hear, did-repeat, effect}
 
@@ -98,7 +186,8 @@ core-more r c s = record {
 }
 
 -- another shard's registration
-ok-other : {limits : Limits} {log : List Entry} {p : ℕ} {genesis : ℕ → ℕ → Option Value} {l : Ledger} (r : Entry) → (r .shard ≡ p → ⊥) → Ok limits log p genesis l → Ok limits (r ∷ log) p genesis l
+ok-other : {limits : Limits} {log : List Entry} {p : ℕ} {genesis : ℕ → ℕ → Option Value} {l : Ledger} (r : Entry)
+    → (r .shard ≡ p → ⊥) → Ok limits log p genesis l → Ok limits (r ∷ log) p genesis l
 ok-other {log = log} {p} {genesis} {l} r h o = record {
   core = core-more r (o .core) (λ e. absurd (h e), o .core .sources);
   flags = o .flags;
@@ -108,7 +197,8 @@ ok-other {log = log} {p} {genesis} {l} r h o = record {
   bound = bnd;
 }
   where
-    ent : (r₀ : Entry) → List·Memᴰ r₀ (r ∷ log) → r₀ .shard ≡ p → (k : Known) × (look (l .known) (r₀ .transaction .number) ≡ some k) × (k .transaction ≡ r₀ .transaction)
+    ent : (r₀ : Entry) → List·Memᴰ r₀ (r ∷ log) → r₀ .shard ≡ p → (k : Known)
+        × (look (l .known) (r₀ .transaction .number) ≡ some k) × (k .transaction ≡ r₀ .transaction)
     ent r₀ (List·Memᴰ·head e) at = absurd (h (ap (λ (c : Entry). c .shard) (sym e) ∙ at))
     ent r₀ (List·Memᴰ·tail m) at = o .entered r₀ m at
 
@@ -120,7 +210,8 @@ ok-other {log = log} {p} {genesis} {l} r h o = record {
 -- ---- What was made has a source
 
 -- what was made has a source
-made-source : {log : List Entry} {p : ℕ} {tokens : List Token} {genesis : ℕ → ℕ → Option Value} {known : List Known} (c : Core log p tokens genesis known) (x : Input)
+made-source : {log : List Entry} {p : ℕ} {tokens : List Token} {genesis : ℕ → ℕ → Option Value} {known : List Known}
+    (c : Core log p tokens genesis known) (x : Input)
     → made p genesis known (x .token .creator) (x .token .index) ≡ some (inputValue x) → Source p genesis known log x
 unfolding made
 made-source {log} {p} {tokens} {genesis} {known} c x e = go (caseO (genesis (x .token .creator) (x .token .index)))
@@ -150,12 +241,14 @@ made-source {log} {p} {tokens} {genesis} {known} c x e = go (caseO (genesis (x .
 -- ---- Available inputs and the vote
 
 -- the available ones among the inputs here
-pub available-in : (p : ℕ) (tokens : List Token) (t : Transaction) (x : Input) → List·Memᴰ x (availableHere p tokens t) → List·Memᴰ x (inputsHere p t) × (available tokens x ≡ true)
+pub available-in : (p : ℕ) (tokens : List Token) (t : Transaction) (x : Input) → List·Memᴰ x (availableHere p tokens t)
+    → List·Memᴰ x (inputsHere p t) × (available tokens x ≡ true)
 unfolding availableHere
 available-in p tokens t x m = keep-out (available tokens) (inputsHere p t) m
 
 -- the vote is yes exactly if all inputs here are available
-vote-says : (p : ℕ) (tokens : List Token) (t : Transaction) → (noted (vote p tokens t) ≡ 2) ↔ ((x : Input) → List·Memᴰ x (inputsHere p t) → List·Memᴰ x (availableHere p tokens t))
+vote-says : (p : ℕ) (tokens : List Token) (t : Transaction) → (noted (vote p tokens t) ≡ 2)
+    ↔ ((x : Input) → List·Memᴰ x (inputsHere p t) → List·Memᴰ x (availableHere p tokens t))
 unfolding availableHere vote
 vote-says p tokens t = (
   λ e x m. keep-in (available tokens) (inputsHere p t) m (all-at (available tokens) (inputsHere p t) (yes-of (all (available tokens) (inputsHere p t)) e) x m),
@@ -179,7 +272,8 @@ noted-positive false e = eqb-apart {m = 1} {n = 0} refl e
 -- ---- A registration
 
 module _ {limits : Limits} {log : List Entry} {p : ℕ} {genesis : ℕ → ℕ → Option Value} {l : Ledger} (o : Ok limits log p genesis l) (t : Transaction)
-    (positive : t .number ≡ 0 → ⊥) (unknown : look (l .known) (t .number) ≡ none) (distinct : namedTwice t ≡ false) (member : List·Memᴰ p (shardsOf t)) (below : p < 8) (place : ℕ) where
+    (positive : t .number ≡ 0 → ⊥) (unknown : look (l .known) (t .number) ≡ none) (distinct : namedTwice t ≡ false)
+    (member : List·Memᴰ p (shardsOf t)) (below : p < 8) (place : ℕ) where
   -- its entry in the log
   abbrev r : Entry
   r = record { place = place; shard = p; transaction = t; available = availableHere p (l .tokens) t }
@@ -208,9 +302,18 @@ module _ {limits : Limits} {log : List Entry} {p : ℕ} {genesis : ℕ → ℕ �
     positive = positive;
     distinct = distinct;
     eight = length-set (replicate 8 0) p (noted (vote p (l .tokens) t));
-    own = set-elim (λ q c. q ≡ p → c ≡ 0 → ⊥) (replicate 8 0) 0 p (noted (vote p (l .tokens) t)) below (λ _ z. noted-positive (vote p (l .tokens) t) z) (λ q n e z. n e) p refl;
+    own = set-elim (λ q c. q ≡ p → c ≡ 0 → ⊥) (replicate 8 0) 0 p (noted (vote p (l .tokens) t)) below
+        (λ _ z. noted-positive (vote p (l .tokens) t) z) (λ q n e z. n e) p refl;
     votes = set-elim (λ q c. (c ≡ 0 → ⊥) → Voted (r ∷ log) q t c) (replicate 8 0) 0 p (noted (vote p (l .tokens) t)) below
-        (λ h. record { entry = r; logged = List·Memᴰ·head refl; at = refl; of = refl; is-vote = noted-cases (vote p (l .tokens) t); says = vote-says p (l .tokens) t })
+        (λ h. record {
+          entry = r;
+          logged = List·Memᴰ·head refl;
+          at = refl;
+          of = refl;
+          is-vote =
+              noted-cases (vote p (l .tokens) t);
+          says = vote-says p (l .tokens) t;
+        })
         (λ q n h. absurd (h (getD-same 8 0 q)));
   }
 
@@ -225,7 +328,8 @@ module _ {limits : Limits} {log : List Entry} {p : ℕ} {genesis : ℕ → ℕ �
   pledged-more m i b = record {
     token = pledgeIf (t .number) (availableHere p (l .tokens) t) (b .token);
     is-pledged = pledge-stays (t .number) (availableHere p (l .tokens) t) (b .token) positive (b .is-pledged);
-    is-there = tok-pledges (t .number) (availableHere p (l .tokens) t) (l .tokens) m i ∙ ap (mapOption (pledgeIf (t .number) (availableHere p (l .tokens) t))) (b .is-there);
+    is-there = tok-pledges (t .number) (availableHere p (l .tokens) t) (l .tokens) m i
+        ∙ ap (mapOption (pledgeIf (t .number) (availableHere p (l .tokens) t))) (b .is-there);
   }
 
   -- an available input is pledged
@@ -254,16 +358,20 @@ module _ {limits : Limits} {log : List Entry} {p : ℕ} {genesis : ℕ → ℕ �
         bound = bnd;
       })
     where
-      ent : (r₀ : Entry) → List·Memᴰ r₀ (r ∷ log) → r₀ .shard ≡ p → (j : Known) × (look (put k (l .known)) (r₀ .transaction .number) ≡ some j) × (j .transaction ≡ r₀ .transaction)
-      ent r₀ (List·Memᴰ·head e) at = (k, look-put-same k (l .known) (ap (λ (c : Entry). c .transaction .number) (sym e)), ap (λ (c : Entry). c .transaction) (sym e))
+      ent : (r₀ : Entry) → List·Memᴰ r₀ (r ∷ log) → r₀ .shard ≡ p → (j : Known)
+          × (look (put k (l .known)) (r₀ .transaction .number) ≡ some j) × (j .transaction ≡ r₀ .transaction)
+      ent r₀ (List·Memᴰ·head e) at =
+          (k, look-put-same k (l .known) (ap (λ (c : Entry). c .transaction .number) (sym e)), ap (λ (c : Entry). c .transaction) (sym e))
       ent r₀ (List·Memᴰ·tail m) at =
           let h = o .entered r₀ m at in
           (h .0, look-put-other k (l .known) (λ n. some≢none (ap (look (l .known)) n ∙ h .1) unknown) ∙ h .1, h .2)
 
       bnd : (r₀ : Entry) → List·Memᴰ r₀ (r ∷ log) → r₀ .shard ≡ p → (x : Input) → List·Memᴰ x (r₀ .available)
-          → Consumed p (put k (l .known)) (x .token .creator) (x .token .index) ⊎ Pledged (settle (outcomeOf k) p t tokens₁) (x .token .creator) (x .token .index)
+          → Consumed p (put k (l .known)) (x .token .creator) (x .token .index)
+          ⊎ Pledged (settle (outcomeOf k) p t tokens₁) (x .token .creator) (x .token .index)
       bnd r₀ (List·Memᴰ·head e) at x a =
-          bound-enter core₁ k tokens₁ enters₁ keeps (x .token .creator) (x .token .index) (pledged-new x (subst (λ (c : Entry). List·Memᴰ x (c .available)) e a))
+          bound-enter core₁ k tokens₁ enters₁ keeps (x .token .creator) (x .token .index)
+          (pledged-new x (subst (λ (c : Entry). List·Memᴰ x (c .available)) e a))
       bnd r₀ (List·Memᴰ·tail d) at x a =
           bound-more core₁ k tokens₁ enters₁ keeps (x .token .creator) (x .token .index)
           (⊎-elim inl (λ b. inr (pledged-more (x .token .creator) (x .token .index) b)) (o .bound r₀ d at x a))
@@ -273,7 +381,8 @@ module _ {limits : Limits} {log : List Entry} {p : ℕ} {genesis : ℕ → ℕ �
   unfolding Grows afterRegister newlyKnown
   register-grows n j e = (
     j,
-    ap (λ (known : List Known). look known n) (append-put k (l .known) unknown) ∙ look-put-other k (l .known) (λ z. some≢none (ap (look (l .known)) z ∙ e) unknown) ∙ e,
+    ap (λ (known : List Known). look known n) (append-put k (l .known) unknown)
+        ∙ look-put-other k (l .known) (λ z. some≢none (ap (look (l .known)) z ∙ e) unknown) ∙ e,
     refl,
     λ q h. refl,
   )
@@ -355,7 +464,8 @@ module _ {limits : Limits} {log : List Entry} {p : ℕ} {genesis : ℕ → ℕ �
   enters₂ = record {
     undecided = λ j e y.
         let same-k : k₀ ≡ j = some-inj (sym is-known ∙ ap (look (l .known)) (sym num) ∙ e) in
-        eqb-apart {m = 0} {n = 2} refl (sym unheard ∙ outcome-yes k₀ (ap outcomeOf same-k ∙ y) q (subst (λ (a : Transaction). List·Memᴰ q (shardsOf a)) (sym whole) member));
+        eqb-apart {m = 0} {n = 2} refl
+        (sym unheard ∙ outcome-yes k₀ (ap outcomeOf same-k ∙ y) q (subst (λ (a : Transaction). List·Memᴰ q (shardsOf a)) (sym whole) member));
     positive = λ e. o .core .number (t .number) k₀ is-known (sym num ∙ e);
     distinct = o .core .distinct (t .number) k₀ is-known;
     eight = length-set (k₀ .heard) q (v + 1) ∙ o .core .eight (t .number) k₀ is-known;
@@ -375,7 +485,8 @@ module _ {limits : Limits} {log : List Entry} {p : ℕ} {genesis : ℕ → ℕ �
   pub vote-ok : Ok limits log p genesis (afterVote p l q v t)
   unfolding afterVote
   vote-ok =
-      subst (λ (known : List Known). Ok limits log p genesis (holding l (settle (outcomeOf k′) p (k₀ .transaction) (l .tokens)) known)) (sym set-known) (record {
+      subst (λ (known : List Known). Ok limits log p genesis (holding l (settle (outcomeOf k′) p (k₀ .transaction) (l .tokens)) known))
+      (sym set-known) (record {
         core = core-enter (o .core) k′ (l .tokens) enters₂ (λ m i. refl);
         flags = o .flags;
         indices = o .indices;
@@ -384,14 +495,20 @@ module _ {limits : Limits} {log : List Entry} {p : ℕ} {genesis : ℕ → ℕ �
         bound = λ r d at x a. bound-more (o .core) k′ (l .tokens) enters₂ (λ m i. refl) (x .token .creator) (x .token .index) (o .bound r d at x a);
       })
     where
-      ent : (r : Entry) → List·Memᴰ r log → r .shard ≡ p → (j : Known) × (look (put k′ (l .known)) (r .transaction .number) ≡ some j) × (j .transaction ≡ r .transaction)
+      ent : (r : Entry) → List·Memᴰ r log → r .shard ≡ p → (j : Known)
+          × (look (put k′ (l .known)) (r .transaction .number) ≡ some j) × (j .transaction ≡ r .transaction)
       ent r m at = let h = o .entered r m at in go h (case (eqb (k₀ .transaction .number) (r .transaction .number)))
         where
-          go : (j : Known) × (look (l .known) (r .transaction .number) ≡ some j) × (j .transaction ≡ r .transaction) → Case (eqb (k₀ .transaction .number) (r .transaction .number))
+          go : (j : Known) × (look (l .known) (r .transaction .number) ≡ some j) × (j .transaction ≡ r .transaction)
+              → Case (eqb (k₀ .transaction .number) (r .transaction .number))
               → (j : Known) × (look (put k′ (l .known)) (r .transaction .number) ≡ some j) × (j .transaction ≡ r .transaction)
           go h (yes-case y) =
-              let e : k₀ .transaction .number ≡ r .transaction .number = eqb-eq (k₀ .transaction .number) (r .transaction .number) y in
-              (k′, look-put-same k′ (l .known) e, ap (λ (j : Known). j .transaction) (some-inj (sym is-known ∙ ap (look (l .known)) (sym num ∙ e) ∙ h .1)) ∙ h .2)
+              let e : k₀ .transaction .number ≡ r .transaction .number = eqb-eq (k₀ .transaction .number) (r .transaction .number) y in (
+                k′,
+                look-put-same k′ (l .known) e,
+                ap (λ (j : Known). j .transaction)
+                    (some-inj (sym is-known ∙ ap (look (l .known)) (sym num ∙ e) ∙ h .1)) ∙ h .2,
+              )
           go h (no-case y) = (h .0, look-put-other k′ (l .known) (eqb-apart y) ∙ h .1, h .2)
 
   -- what was heard stays heard
@@ -403,7 +520,8 @@ module _ {limits : Limits} {log : List Entry} {p : ℕ} {genesis : ℕ → ℕ �
       moved = ap (λ (ks : List Known). look ks n) set-known
 
       go : Case (eqb (k₀ .transaction .number) n)
-          → (k″ : Known) × (look (set (l .known) (placeOf t (l .known)) k′) n ≡ some k″) × (k″ .transaction ≡ j .transaction) × ((a : ℕ) → (heardFrom a j ≡ 0 → ⊥) → heardFrom a k″ ≡ heardFrom a j)
+          → (k″ : Known) × (look (set (l .known) (placeOf t (l .known)) k′) n ≡ some k″)
+          × (k″ .transaction ≡ j .transaction) × ((a : ℕ) → (heardFrom a j ≡ 0 → ⊥) → heardFrom a k″ ≡ heardFrom a j)
       go (yes-case y) =
           let en : k₀ .transaction .number ≡ n = eqb-eq (k₀ .transaction .number) n y in
           let same-k : k₀ ≡ j = some-inj (sym is-known ∙ ap (look (l .known)) (sym num ∙ en) ∙ e) in (
@@ -476,7 +594,8 @@ module _ {limits : Limits} {log : List Entry} {p : ℕ} {genesis : ℕ → ℕ �
       eight = o .core .eight;
       own = o .core .own;
       votes = o .core .votes;
-      zero-only = λ m j h. ap (λ (b : Bool). cond b (some value) (genesis m j)) (spot m j ∙ ap (λ (b : Bool). b && eqb i j) (eqb-no (λ z. h (sym z)))) ∙ o .core .zero-only m j h;
+      zero-only = λ m j h. ap (λ (b : Bool). cond b (some value) (genesis m j)) (spot m j ∙ ap (λ (b : Bool). b && eqb i j) (eqb-no (λ z. h (sym z))))
+          ∙ o .core .zero-only m j h;
       gone = λ m j d. some≢none (d .is-known) (nothing (d .number));
       there = λ m j h.
           ap (mapOption tokenValue) (lookup-append (hasSpot m j) (l .tokens) (token ∷ []))
@@ -497,7 +616,8 @@ module _ {limits : Limits} {log : List Entry} {p : ℕ} {genesis : ℕ → ℕ �
       apart u m = ap (λ (b : Bool). cond b (some token) none) (not-yes (λ e.
           let r = both (eqb 0 (u .creator)) (eqb i (u .index)) e in
           some≢none (mem-tok (l .tokens) (o .no-twice) m)
-          (unmade (o .core) (u .creator) (u .index) (made-plain genesis (u .creator) (u .index) ∙ (λ t. genesis (sym (eqb-eq 0 (u .creator) (r .0)) t) (sym (eqb-eq i (u .index) (r .1)) t)) ∙ ungiven))))
+          (unmade (o .core) (u .creator) (u .index)
+          (made-plain genesis (u .creator) (u .index) ∙ (λ t. genesis (sym (eqb-eq 0 (u .creator) (r .0)) t) (sym (eqb-eq i (u .index) (r .1)) t)) ∙ ungiven))))
 
       long : i < length (l .given)
       long = let h = o .flags in omega arith
@@ -520,7 +640,8 @@ stay : {limits : Limits} {model : Model} → Inv limits model → Next limits mo
 stay {limits} {model} w = record { inv = w; grows = λ p. grows-refl (ledgerAt limits (model .shards) p .known) }
 
 -- what a sender has given is its vote in the log
-pub gave-vote : (limits : Limits) (model : Model) → Inv limits model → (q v : ℕ) (t : Transaction) → gave (ledgerAt limits (model .shards) q) q v t ≡ true → Voted (model .log) q t (v + 1)
+pub gave-vote : (limits : Limits) (model : Model) → Inv limits model → (q v : ℕ) (t : Transaction)
+    → gave (ledgerAt limits (model .shards) q) q v t ≡ true → Voted (model .log) q t (v + 1)
 unfolding gave
 gave-vote limits model w q v t e =
     let l : Ledger = ledgerAt limits (model .shards) q in
@@ -528,8 +649,10 @@ gave-vote limits model w q v t e =
     let k : Known = r .0 in
     let y = both (isFor t k) (eqb (heardFrom q k) (v + 1)) (r .2) in
     let c : heardFrom q k ≡ v + 1 = eqb-eq (heardFrom q k) (v + 1) (y .1) in
-    let x = w .at q .core .votes (k .transaction .number) k (mem-look (l .known) (w .at q .core .one-each) (r .1)) q (λ z. let n : v + 1 ≡ 0 = sym c ∙ z in omega arith) in
-    subst (λ (a : Transaction). Voted (model .log) q a (v + 1)) (same-eq (k .transaction) t (y .0)) (subst (λ (a : ℕ). Voted (model .log) q (k .transaction) a) c x)
+    let x = w .at q .core .votes (k .transaction .number) k (mem-look (l .known) (w .at q .core .one-each) (r .1)) q
+    (λ z. let n : v + 1 ≡ 0 = sym c ∙ z in omega arith) in
+    subst (λ (a : Transaction). Voted (model .log) q a (v + 1)) (same-eq (k .transaction) t (y .0))
+    (subst (λ (a : ℕ). Voted (model .log) q (k .transaction) a) c x)
 
 -- not there
 is-none-of : {A : Type 0} (o : Option A) → isSome o ≡ false → o ≡ none
@@ -548,7 +671,9 @@ module _ (limits : Limits) (place : ℕ) (model : Model) (w : Inv limits model) 
   -- another shard's genesis tokens are what they were
   genesis-other : (g : Genesis) (q : ℕ) → (q ≡ g .shard → ⊥) → genesisAt (model .minted) q ≡ genesisAt (g ∷ model .minted) q
   unfolding genesisLedger sameToken
-  genesis-other g q n = λ j m i. sym (ap (λ (b : Bool). cond (b && eqb 0 m && eqb (g .index) i) (some (record { owner = g .owner; amount = g .amount })) (genesisAt (model .minted) q m i)) (eqb-no (λ z. n (sym z)))) j
+  genesis-other g q n = λ j m i. sym
+      (ap (λ (b : Bool). cond (b && eqb 0 m && eqb (g .index) i)
+      (some (record { owner = g .owner; amount = g .amount })) (genesisAt (model .minted) q m i)) (eqb-no (λ z. n (sym z)))) j
 
   -- by cases on what the call did
   pub step-next : (call : Call) (r : Model × Answer) → Effect limits place model call r → Next limits model (r .0)
@@ -562,11 +687,13 @@ module _ (limits : Limits) (place : ℕ) (model : Model) (w : Inv limits model) 
         inv = record {
           eight = length-set (model .shards) p l ∙ w .eight;
           at = set-elim (λ q l. Ok limits (model .log) q (genesisAt (g ∷ model .minted) q) l) (model .shards) (emptyLedger limits) p l below
-              (unfold genesisLedger in mint-ok (w .at p) i owner amount (h .none-known) (h .index-fits) (is-none-of (genesisAt (model .minted) p 0 i) (sym (w .at p .indices i) ∙ h .ungiven)))
+              (unfold genesisLedger in mint-ok (w .at p) i owner amount (h .none-known) (h .index-fits)
+              (is-none-of (genesisAt (model .minted) p 0 i) (sym (w .at p .indices i) ∙ h .ungiven)))
               (λ q n. subst (λ (f : ℕ → ℕ → Option Value). Ok limits (model .log) q f (at q)) (genesis-other g q n) (w .at q));
           logged = w .logged;
         };
-        grows = set-elim (λ q l. Grows (at q .known) (l .known)) (model .shards) (emptyLedger limits) p l below (unfold afterMint in grows-refl (at p .known)) (λ q n. grows-refl (at q .known));
+        grows = set-elim (λ q l. Grows (at q .known) (l .known)) (model .shards) (emptyLedger limits) p l below
+            (unfold afterMint in grows-refl (at p .known)) (λ q n. grows-refl (at q .known));
       }
   step-next call _ (did-register {p = p} {t = t} h) =
       let l : Ledger = afterRegister p (at p) t in
@@ -659,7 +786,8 @@ later : (limits : Limits) (place : ℕ) (model : Model) → Inv limits model →
 unfolding after
 later limits place model w [] more p = after-next limits place model w more .grows p
 later limits place model w (call ∷ calls) more p =
-    later limits (suc place) (step limits place model call .0) (step-next limits place model w call (step limits place model call) (effect limits place model call) .inv) calls more p
+    later limits (suc place) (step limits place model call .0)
+    (step-next limits place model w call (step limits place model call) (effect limits place model call) .inv) calls more p
 
 -- nothing is forgotten in a longer play
 pub play-grows : (limits : Limits) (calls more : List Call) (p : ℕ)

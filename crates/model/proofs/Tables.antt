@@ -14,8 +14,38 @@ use Rattle.transaction.specs.Checks.{shardFits, indexFits, valueFits, mintFits}
 use Rattle.model.specs.declared.Known.{Known}
 use Rattle.model.specs.declared.Answer.{Answer}
 use Rattle.model.specs.declared.Answer.the-variants.{Refused, Minted, Registered, Heard, Again}
-use Rattle.model.specs.Steps.{Limits, Ledger, emptyLedger, heardFrom, hearing, outcomeOf, isFor, entryOf, vote, newlyKnown, afterMint, afterRegister, afterVote}
-use Rattle.model.specs.Shard.{Call, mint, register, deliver, mintRefusals, registerRefusals, hasNumber, isOther, otherVerdict, deliverForm, deliverRefusals, unless, hear, shardStep}
+use Rattle.model.specs.Steps.{
+  Limits,
+  Ledger,
+  emptyLedger,
+  heardFrom,
+  hearing,
+  outcomeOf,
+  isFor,
+  entryOf,
+  vote,
+  newlyKnown,
+  afterMint,
+  afterRegister,
+  afterVote,
+}
+use Rattle.model.specs.Shard.{
+  Call,
+  mint,
+  register,
+  deliver,
+  mintRefusals,
+  registerRefusals,
+  hasNumber,
+  isOther,
+  otherVerdict,
+  deliverForm,
+  deliverRest,
+  deliverRefusals,
+  unless,
+  hear,
+  shardStep,
+}
 use Rattle.model.specs.Cluster.{ledgerAt, gave, notGiven, atShard, clusterStep}
 use Rattle.model.specs.Model.{Model, play}
 use Rattle.model.proofs.Basics.{eqb-same, eqb-yes, eqb-no, eqb-apart, both, and-intro, not-yes, not-no, not-is, clash, isNumber, passed, first-behind}
@@ -94,7 +124,8 @@ cluster-deliver limits shards p sender verdict t =
         cut true = refl
         cut false = λ i. (set-getD shards p (emptyLedger limits) i, Refused cause)
 
-    go : (n : ℕ) (g : Bool) → cond (eqb n 0 && not g) (shards, Refused 16) (at (cond (eqb n 0) (firstOf rest) n)) ≡ result (cond (eqb n 0) (cond (not g) 16 (firstOf rest)) n)
+    go : (n : ℕ) (g : Bool) → cond (eqb n 0 && not g) (shards, Refused 16) (at (cond (eqb n 0) (firstOf rest) n))
+        ≡ result (cond (eqb n 0) (cond (not g) 16 (firstOf rest)) n)
     go n g = cut (eqb n 0) g
       where
         cut : (b g : Bool) → cond (b && not g) (shards, Refused 16) (at (cond b (firstOf rest) n)) ≡ result (cond b (cond (not g) 16 (firstOf rest)) n)
@@ -111,34 +142,45 @@ other-clash heard verdict e =
     (eqb-apart (not-is (r .0)), eqb-apart (not-is (r .1)))
 
 -- the votes that shards have heard and given are of one mind
-no-other-verdict : (limits : Limits) (model : Model) → Inv limits model → (p sender verdict : ℕ) (t : Transaction) → any (isFor t) (ledgerAt limits (model .shards) p .known) ≡ true
-    → gave (ledgerAt limits (model .shards) sender) sender verdict t ≡ true → otherVerdict (heardFrom sender (entryOf t (ledgerAt limits (model .shards) p .known))) verdict ≡ true → ⊥
+no-other-verdict : (limits : Limits) (model : Model) → Inv limits model → (p sender verdict : ℕ) (t : Transaction)
+    → any (isFor t) (ledgerAt limits (model .shards) p .known) ≡ true
+    → gave (ledgerAt limits (model .shards) sender) sender verdict t ≡ true
+    → otherVerdict (heardFrom sender (entryOf t (ledgerAt limits (model .shards) p .known))) verdict ≡ true → ⊥
 no-other-verdict limits model w p sender verdict t known given other =
     let l : List Known = ledgerAt limits (model .shards) p .known in
     let r = entry-look t l (w .at p .core .one-each) known in
     let h = other-clash (heardFrom sender (entryOf t l)) verdict other in
-    let v = subst (λ (s : Transaction). Voted (model .log) sender s (heardFrom sender (entryOf t l))) (r .1) (w .at p .core .votes (t .number) (entryOf t l) (r .0) sender (h .0)) in
+    let v = subst (λ (s : Transaction). Voted (model .log) sender s (heardFrom sender (entryOf t l))) (r .1)
+    (w .at p .core .votes (t .number) (entryOf t l) (r .0) sender (h .0)) in
     h .1 (voted-same limits model w sender t (heardFrom sender (entryOf t l)) (verdict + 1) v (gave-vote limits model w sender verdict t given))
 
 -- where a shard's table says 12, the vote passed 3 to 6, the transaction is known, and the other verdict was heard
-twelve-says : (limits : Limits) (p : ℕ) (ledger : Ledger) (sender verdict : ℕ) (t : Transaction) → firstOf (deliverRefusals limits p ledger p sender verdict t) ≡ 12
-    → (firstOf (deliverForm limits p p sender verdict t) ≡ 0) × (any (isFor t) (ledger .known) ≡ true) × (otherVerdict (heardFrom sender (entryOf t (ledger .known))) verdict ≡ true)
+twelve-says : (limits : Limits) (p : ℕ) (ledger : Ledger) (sender verdict : ℕ) (t : Transaction)
+    → firstOf (deliverRefusals limits p ledger p sender verdict t) ≡ 12
+    → (firstOf (deliverForm limits p p sender verdict t) ≡ 0) × (any (isFor t) (ledger .known) ≡ true)
+    × (otherVerdict (heardFrom sender (entryOf t (ledger .known))) verdict ≡ true)
 unfolding deliverRefusals deliverForm
 twelve-says limits p ledger sender verdict t e =
-    let r = first-behind 12 (deliverForm limits p p sender verdict t) ((not (any (hasNumber t) (ledger .known)), 11) ∷ (any (isOther t) (ledger .known), 7) ∷ (otherVerdict (heardFrom sender (entryOf t (ledger .known))) verdict, 12) ∷ []) refl e in
-    let s = first-behind 12 ((not (any (hasNumber t) (ledger .known)), 11) ∷ (any (isOther t) (ledger .known), 7) ∷ []) ((otherVerdict (heardFrom sender (entryOf t (ledger .known))) verdict, 12) ∷ []) refl (r .1) in
-    let g = passed ((not (any (hasNumber t) (ledger .known)), 11) ∷ (any (isOther t) (ledger .known), 7) ∷ []) refl (s .0) in
-    (r .0, whole-known t (ledger .known) (not-no (any (hasNumber t) (ledger .known)) (g .0)) (g .1 .0), last (otherVerdict (heardFrom sender (entryOf t (ledger .known))) verdict) (s .1))
+    let r = first-behind 12 (deliverForm limits p p sender verdict t) (deliverRest ledger sender verdict t) refl e in
+    let s = first-behind 12 ((not (any (hasNumber t) (ledger .known)), 11) ∷ (any (isOther t) (ledger .known), 7) ∷ [])
+    ((otherVerdict (heardFrom sender (entryOf t (ledger .known))) verdict, 12) ∷ []) refl (r .1) in
+    let g = passed ((not (any (hasNumber t) (ledger .known)), 11) ∷ (any (isOther t) (ledger .known), 7) ∷ []) refl (s .0) in (
+      r .0,
+      whole-known t (ledger .known) (not-no (any (hasNumber t) (ledger .known)) (g .0)) (g .1 .0),
+      last (otherVerdict (heardFrom sender (entryOf t (ledger .known))) verdict) (s .1),
+    )
   where
     last : (b : Bool) → _≡_ {A = ℕ} (cond b 12 0) 12 → b ≡ true
     last true e = refl
     last false e = absurd (eqb-apart {m = 0} {n = 12} refl e)
 
 -- the number with which a vote is refused at a shard is its table's
-deliver-number : (limits : Limits) (p : ℕ) (ledger : Ledger) (sender verdict : ℕ) (t : Transaction) (n : ℕ) → shardStep limits p ledger (deliver p sender verdict t) .1 ≡ Refused n
+deliver-number : (limits : Limits) (p : ℕ) (ledger : Ledger) (sender verdict : ℕ) (t : Transaction) (n : ℕ)
+    → shardStep limits p ledger (deliver p sender verdict t) .1 ≡ Refused n
     → firstOf (deliverRefusals limits p ledger p sender verdict t) ≡ n
 unfolding shardStep hear
-deliver-number limits p ledger sender verdict t n e = go (eqb (firstOf (deliverRefusals limits p ledger p sender verdict t)) 0) (eqb (heardFrom sender (entryOf t (ledger .known))) 0) e
+deliver-number limits p ledger sender verdict t n e =
+    go (eqb (firstOf (deliverRefusals limits p ledger p sender verdict t)) 0) (eqb (heardFrom sender (entryOf t (ledger .known))) 0) e
   where
     yes : Ledger × Answer
     yes = (afterVote p ledger sender verdict t, Heard (outcomeOf (hearing sender verdict (entryOf t (ledger .known)))))
@@ -146,13 +188,15 @@ deliver-number limits p ledger sender verdict t n e = go (eqb (firstOf (deliverR
     again : Ledger × Answer
     again = (ledger, Again (outcomeOf (entryOf t (ledger .known))))
 
-    go : (a b : Bool) → cond a (cond b yes again) (ledger, Refused (firstOf (deliverRefusals limits p ledger p sender verdict t))) .1 ≡ Refused n → firstOf (deliverRefusals limits p ledger p sender verdict t) ≡ n
+    go : (a b : Bool) → cond a (cond b yes again) (ledger, Refused (firstOf (deliverRefusals limits p ledger p sender verdict t))) .1
+        ≡ Refused n → firstOf (deliverRefusals limits p ledger p sender verdict t) ≡ n
     go true true e = let z : _≡_ {A = ℕ} 0 1 = cc in absurd (omega arith)
     go true false e = let z : _≡_ {A = ℕ} 0 1 = cc in absurd (omega arith)
     go false b e = cc
 
 -- 12 is never answered in a cluster
-pub never-twelve : (limits : Limits) (calls : List Call) (p sender verdict : ℕ) (t : Transaction) → clusterStep limits (play limits calls .shards) (deliver p sender verdict t) .1 ≢ Refused 12
+pub never-twelve : (limits : Limits) (calls : List Call) (p sender verdict : ℕ) (t : Transaction)
+    → clusterStep limits (play limits calls .shards) (deliver p sender verdict t) .1 ≢ Refused 12
 unfolding clusterStep atShard notGiven
 never-twelve limits calls p sender verdict t e = go (notGiven limits shards p sender verdict t) refl e
   where
@@ -166,7 +210,8 @@ never-twelve limits calls p sender verdict t e = go (notGiven limits shards p se
     go true g e = let z : _≡_ {A = ℕ} 16 12 = cc in omega arith
     go false g e =
         let r = twelve-says limits p (ledgerAt limits shards p) sender verdict t (deliver-number limits p (ledgerAt limits shards p) sender verdict t 12 e) in
-        let given : gave (ledgerAt limits shards sender) sender verdict t ≡ true = not-no (gave (ledgerAt limits shards sender) sender verdict t) (not-yes (λ n. clash (and-intro (eqb-yes (r .0)) n) g)) in
+        let given : gave (ledgerAt limits shards sender) sender verdict t ≡ true =
+        not-no (gave (ledgerAt limits shards sender) sender verdict t) (not-yes (λ n. clash (and-intro (eqb-yes (r .0)) n) g)) in
         no-other-verdict limits (play limits calls) (play-inv limits calls) p sender verdict t (r .1) given (r .2)
 
 -- ---- A record for a shard that does not exist
@@ -182,10 +227,12 @@ three-first : (r n : ℕ) (c : Bool) (rest : ℕ) → c ≡ true → cond (not (
 three-first r n c rest h = λ i. cond (not (eqb-same r i)) n (cond (h i) n rest)
 
 -- the table of a genesis token for it says 3
-mint-three : (limits : Limits) (p : ℕ) (ledger : Ledger) (index owner amount : ℕ) → shardFits p ≡ false → firstOf (mintRefusals limits p ledger p index owner amount) ≡ 3
+mint-three : (limits : Limits) (p : ℕ) (ledger : Ledger) (index owner amount : ℕ) → shardFits p ≡ false
+    → firstOf (mintRefusals limits p ledger p index owner amount) ≡ 3
 unfolding mintRefusals mintFits
 mint-three limits p ledger index owner amount h =
-    three-first p 3 (not (shardFits p && indexFits (limits .genesis) 0 index && valueFits owner amount)) _ (λ i. not (h i && indexFits (limits .genesis) 0 index && valueFits owner amount))
+    three-first p 3 (not (shardFits p && indexFits (limits .genesis) 0 index && valueFits owner amount)) _
+    (λ i. not (h i && indexFits (limits .genesis) 0 index && valueFits owner amount))
 
 -- and so does that of a registration
 register-three : (limits : Limits) (p : ℕ) (ledger : Ledger) (t : Transaction) → shardFits p ≡ false → firstOf (registerRefusals limits p ledger p t) ≡ 3
@@ -198,28 +245,38 @@ unfolding deliverForm
 form-three limits p sender verdict t h = three-first p 3 (not (shardFits p)) _ (ap not h)
 
 -- and in the whole
-deliver-three : (limits : Limits) (p : ℕ) (ledger : Ledger) (sender verdict : ℕ) (t : Transaction) → shardFits p ≡ false → firstOf (deliverRefusals limits p ledger p sender verdict t) ≡ 3
+deliver-three : (limits : Limits) (p : ℕ) (ledger : Ledger) (sender verdict : ℕ) (t : Transaction) → shardFits p ≡ false
+    → firstOf (deliverRefusals limits p ledger p sender verdict t) ≡ 3
 unfolding deliverRefusals deliverForm
 deliver-three limits p ledger sender verdict t h = three-first p 3 (not (shardFits p)) _ (ap not h)
 
 -- the receiving shard's refusal is the cluster's
-refused-at : (limits : Limits) (shards : List Ledger) (p : ℕ) (call : Call) (n : ℕ) → shardStep limits p (ledgerAt limits shards p) call ≡ (ledgerAt limits shards p, Refused n)
+refused-at : (limits : Limits) (shards : List Ledger) (p : ℕ) (call : Call) (n : ℕ)
+    → shardStep limits p (ledgerAt limits shards p) call ≡ (ledgerAt limits shards p, Refused n)
     → atShard limits shards p call ≡ (shards, Refused n)
 unfolding atShard
 refused-at limits shards p call n e =
     (λ i. (set shards p (e i .0), e i .1)) ∙ (λ i. (set-getD shards p (emptyLedger limits) i, Refused n))
 
 -- a call to a shard that does not exist is refused with 3
-pub no-such-shard : (limits : Limits) (shards : List Ledger) (call : Call) → shardFits (receiverOf call) ≡ false → clusterStep limits shards call ≡ (shards, Refused 3)
+pub no-such-shard : (limits : Limits) (shards : List Ledger) (call : Call) → shardFits (receiverOf call) ≡ false
+    → clusterStep limits shards call ≡ (shards, Refused 3)
 unfolding clusterStep shardStep notGiven
 no-such-shard limits shards (mint p index owner amount) h =
     refused-at limits shards p (mint p index owner amount) 3
-    (ap (λ (n : ℕ). unless n (ledgerAt limits shards p) (afterMint (ledgerAt limits shards p) index owner amount, Minted)) (mint-three limits p (ledgerAt limits shards p) index owner amount h))
+    (ap (λ (n : ℕ). unless n (ledgerAt limits shards p) (afterMint (ledgerAt limits shards p) index owner amount, Minted))
+    (mint-three limits p (ledgerAt limits shards p) index owner amount h))
 no-such-shard limits shards (register p t) h =
     refused-at limits shards p (register p t) 3
-    (ap (λ (n : ℕ). unless n (ledgerAt limits shards p) (afterRegister p (ledgerAt limits shards p) t, Registered (vote p (ledgerAt limits shards p .tokens) t) (outcomeOf (newlyKnown p (ledgerAt limits shards p .tokens) t))))
+    (ap (λ (n : ℕ). unless n (ledgerAt limits shards p) (
+      afterRegister p (ledgerAt limits shards p) t,
+      Registered (vote p (ledgerAt limits shards p .tokens) t)
+          (outcomeOf (newlyKnown p (ledgerAt limits shards p .tokens) t)),
+    ))
     (register-three limits p (ledgerAt limits shards p) t h))
 no-such-shard limits shards (deliver p sender verdict t) h =
-    ap (λ (n : ℕ). cond (eqb n 0 && not (gave (ledgerAt limits shards sender) sender verdict t)) (shards, Refused 16) (atShard limits shards p (deliver p sender verdict t))) (form-three limits p sender verdict t h)
+    ap (λ (n : ℕ). cond (eqb n 0 && not (gave (ledgerAt limits shards sender) sender verdict t)) (shards, Refused 16)
+    (atShard limits shards p (deliver p sender verdict t))) (form-three limits p sender verdict t h)
     ∙ refused-at limits shards p (deliver p sender verdict t) 3
-    (ap (λ (n : ℕ). unless n (ledgerAt limits shards p) (hear p (ledgerAt limits shards p) sender verdict t)) (deliver-three limits p (ledgerAt limits shards p) sender verdict t h))
+    (ap (λ (n : ℕ). unless n (ledgerAt limits shards p) (hear p (ledgerAt limits shards p) sender verdict t))
+    (deliver-three limits p (ledgerAt limits shards p) sender verdict t h))

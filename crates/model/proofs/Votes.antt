@@ -14,7 +14,25 @@ use Rattle.model.specs.declared.Token.{Token}
 use Rattle.model.specs.declared.Known.{Known}
 use Rattle.model.specs.declared.Outcome.the-variants.{Wait, Commit, Abort}
 use Rattle.model.specs.Steps.{vote, noted, unheard, withSaid, newlyKnown, heardFrom, hearing, isHeard, isYes, heardAll, allYes, decide, outcomeOf}
-use Rattle.model.proofs.Basics.{eqb-eq, eqb-same, eqb-yes, eqb-no, eqb-apart, not-yes, not-is, both, clash, Case, yes-case, no-case, case, all-at, all-of, any-of, getD-same}
+use Rattle.model.proofs.Basics.{
+  eqb-eq,
+  eqb-same,
+  eqb-yes,
+  eqb-no,
+  eqb-apart,
+  not-yes,
+  not-is,
+  both,
+  clash,
+  Case,
+  yes-case,
+  no-case,
+  case,
+  all-at,
+  all-of,
+  any-of,
+  getD-same,
+}
 use Rattle.model.proofs.Entries.{commit≢wait, outcome-heard}
 use Rattle.model.proofs.Refusals.{part-in}
 
@@ -41,9 +59,11 @@ one-shard p tokens t h member only = go (vote p tokens t)
     heard-it b = all-of (isHeard (votes b)) (shardsOf t) (λ q m. ap (λ (n : ℕ). not (eqb n 0)) (own b q (only q m)) ∙ noted-heard b)
 
     go : (b : Bool) → cond (heardAll t (votes b)) (cond (allYes t (votes b)) Commit Abort) Wait ≡ cond b Commit Abort
-    go true = λ i. cond (heard-it true i) (cond (all-of (isYes (votes true)) (shardsOf t) (λ q m. ap (λ (n : ℕ). eqb n 2) (own true q (only q m))) i) Commit Abort) Wait
+    go true = λ i. cond (heard-it true i)
+        (cond (all-of (isYes (votes true)) (shardsOf t) (λ q m. ap (λ (n : ℕ). eqb n 2) (own true q (only q m))) i) Commit Abort) Wait
     go false =
-        λ i. cond (heard-it false i) (cond (not-yes (λ y. clash (all-at (isYes (votes false)) (shardsOf t) y p member) (ap (λ (n : ℕ). eqb n 2) (own false p refl))) i) Commit Abort) Wait
+        λ i. cond (heard-it false i) (cond
+        (not-yes (λ y. clash (all-at (isYes (votes false)) (shardsOf t) y p member) (ap (λ (n : ℕ). eqb n 2) (own false p refl))) i) Commit Abort) Wait
 
 -- ---- k shards
 
@@ -119,26 +139,35 @@ missing-registered p tokens t h part = let a = here in let b = count in let c = 
     sums = sum-change (missingAt k) (λ q. cond (takesPart q t) 1 0) p 8 h other
 
 -- a fresh vote leaves one vote fewer
-pub missing-fresh : (k : Known) (q v : ℕ) → q < 8 → length (k .heard) ≡ 8 → takesPart q (k .transaction) ≡ true → heardFrom q k ≡ 0 → missing (hearing q v k) + 1 ≡ missing k
+pub missing-fresh : (k : Known) (q v : ℕ) → q < 8 → length (k .heard) ≡ 8 → takesPart q (k .transaction) ≡ true
+    → heardFrom q k ≡ 0 → missing (hearing q v k) + 1 ≡ missing k
 missing-fresh k q v h long part fresh =
     let l : q < length (k .heard) = omega arith in
     let here : missingAt (hearing q v k) q ≡ 0 =
-    ap (λ (n : ℕ). cond (takesPart q (k .transaction) && eqb n 0) 1 0) (getD-set-same (k .heard) q (v + 1) 0 l) ∙ (λ i. cond (part i && eqb-no {m = v + 1} {n = 0} (λ z. omega arith) i) 1 0) in
+    ap (λ (n : ℕ). cond (takesPart q (k .transaction) && eqb n 0) 1 0) (getD-set-same (k .heard) q (v + 1) 0 l)
+    ∙ (λ i. cond (part i && eqb-no {m = v + 1} {n = 0} (λ z. omega arith) i) 1 0) in
     let before : missingAt k q ≡ 1 = λ i. cond (part i && eqb-yes {m = heardFrom q k} {n = 0} fresh i) 1 0 in
     let other : (a : ℕ) → (a ≡ q → ⊥) → missingAt (hearing q v k) a ≡ missingAt k a =
     λ a n. ap (λ (c : ℕ). cond (takesPart a (k .transaction) && eqb c 0) 1 0) (getD-set-other (k .heard) q a (v + 1) 0 n) in
-    let sums : missing (hearing q v k) + missingAt k q ≡ missing k + missingAt (hearing q v k) q = sum-change (missingAt (hearing q v k)) (missingAt k) q 8 h other in
+    let sums : missing (hearing q v k) + missingAt k q ≡ missing k + missingAt (hearing q v k) q =
+    sum-change (missingAt (hearing q v k)) (missingAt k) q 8 h other in
     omega arith
 
 -- decided exactly if no vote is missing
 pub decided-exactly : (k : Known) → ((q : ℕ) → List·Memᴰ q (shardsOf (k .transaction)) → q < 8) → (outcomeOf k ≢ Wait) ↔ (missing k ≡ 0)
 unfolding decide takesPart
-decided-exactly k below = (λ h. none-missing 8 (λ q. outcome-heard k h q), λ e. decided (all-of (isHeard (k .heard)) (shardsOf (k .transaction)) (λ q m. heard-at q m (zero-at 8 (missingAt k) q (below q m) e))))
+decided-exactly k below = (
+  λ h. none-missing 8 (λ q. outcome-heard k h q),
+  λ e. decided
+      (all-of (isHeard (k .heard)) (shardsOf (k .transaction)) (λ q m. heard-at q m (zero-at 8 (missingAt k) q (below q m) e))),
+)
   where
     none-missing : (n : ℕ) → ((q : ℕ) → List·Memᴰ q (shardsOf (k .transaction)) → heardFrom q k ≡ 0 → ⊥) → sumBelow (missingAt k) n ≡ 0
     none-missing zero h = refl
     none-missing (suc n) h =
-        λ i. cond (not-yes (λ e. let r = both (takesPart n (k .transaction)) (eqb (heardFrom n k) 0) e in h n (part-in n (k .transaction) (r .0)) (eqb-eq (heardFrom n k) 0 (r .1))) i) 1 0 + none-missing n h i
+        λ i. cond (not-yes (λ e. let r =
+        both (takesPart n (k .transaction)) (eqb (heardFrom n k) 0) e in h n (part-in n (k .transaction) (r .0)) (eqb-eq (heardFrom n k) 0 (r .1))) i)
+        1 0 + none-missing n h i
 
     zero-at : (n : ℕ) (f : ℕ → ℕ) (q : ℕ) → q < n → sumBelow f n ≡ 0 → f q ≡ 0
     zero-at zero f q l e = absurd (omega arith)
@@ -153,7 +182,8 @@ decided-exactly k below = (λ h. none-missing 8 (λ q. outcome-heard k h q), λ 
         let one : missingAt k q ≡ 1 = λ i. cond (any-of (eqb q) m (eqb-same q) i && z i) 1 0 in
         eqb-apart {m = 0} {n = 1} refl (sym e ∙ one)))
 
-    decided : heardAll (k .transaction) (k .heard) ≡ true → cond (heardAll (k .transaction) (k .heard)) (cond (allYes (k .transaction) (k .heard)) Commit Abort) Wait ≡ Wait → ⊥
+    decided : heardAll (k .transaction) (k .heard) ≡ true
+        → cond (heardAll (k .transaction) (k .heard)) (cond (allYes (k .transaction) (k .heard)) Commit Abort) Wait ≡ Wait → ⊥
     decided a z = go (allYes (k .transaction) (k .heard)) (sym (ap (λ (b : Bool). cond b (cond (allYes (k .transaction) (k .heard)) Commit Abort) Wait) a) ∙ z)
       where
         go : (b : Bool) → cond b Commit Abort ≡ Wait → ⊥

@@ -14,7 +14,21 @@ use Rattle.model.specs.declared.Outcome.{Outcome}
 use Rattle.model.specs.declared.Outcome.the-variants.{Wait, Commit, Abort}
 use Rattle.model.specs.declared.Answer.{Answer}
 use Rattle.model.specs.declared.Answer.the-variants.{Refused, Minted, Registered, Heard, Again}
-use Rattle.model.specs.Steps.{Limits, Ledger, vote, newlyKnown, heardFrom, hearing, outcomeOf, outputsHere, isFor, entryOf, afterMint, afterRegister, afterVote}
+use Rattle.model.specs.Steps.{
+  Limits,
+  Ledger,
+  vote,
+  newlyKnown,
+  heardFrom,
+  hearing,
+  outcomeOf,
+  outputsHere,
+  isFor,
+  entryOf,
+  afterMint,
+  afterRegister,
+  afterVote,
+}
 
 -- The calls: an opening (receiver, index, owner, amount), a registration (receiver, transaction),
 -- a vote (receiver, sender, verdict with 1 for yes and 0 for no, transaction).
