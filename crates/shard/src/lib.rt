@@ -1,4 +1,6 @@
 // One shard's ledger (document 01: a pantry's), in place: each call is lent the shard's words, changes them and answers.
+// The interface: `new`, `mint_token`, `register_transaction`, `hear_vote`, `has_given_vote`, and all of `queries`.
+// Internal, and public only because the crate `cluster` calls them: `hear_formed` and `refusals::deliver_form`.
 ghost use mathlib.Core.Path.{_≡_};
 ghost use Rattle.transaction.specs.Lists.{firstOf};
 ghost use Rattle.model.specs.Steps.{house};
@@ -12,8 +14,8 @@ use registry::finding::place_of_number;
 use transaction::Transaction;
 
 mod rows; // the rows of the tables of refusals
-pub mod refusals; // the tables of refusals
-pub mod steps; // the steps that a call that passes takes
+pub mod refusals; // the tables of refusals; internal
+mod steps; // the steps that a call that passes takes
 pub mod queries; // what can be asked of a shard
 
 // An empty shard of that number, whatever the words were.
