@@ -11,65 +11,29 @@ use crate::words::{from_words, narrow, narrowed, to_words};
 /// fields or not.
 #[derive(Clone, Copy, Debug, PartialEq, Eq)]
 pub enum Words {
-    /// Gives a shard a genesis token (document 01: opening).
-    Mint {
-        /// Document 01: receiving pantry.
-        receiver: u32,
-        /// Document 01: position.
-        index: u32,
-        /// Document 01: household.
-        owner: u32,
-        /// Document 01: portions.
-        amount: u32,
-    },
-    /// Hands a transaction to one of its shards (document 01: registration).
-    Register {
-        /// Document 01: receiving pantry.
-        receiver: u32,
-        /// Document 01: swap.
-        transaction: TransactionWords,
-    },
-    /// Hands one shard's vote to another (document 01: vote, vote delivery).
-    Vote {
-        /// Document 01: receiving pantry.
-        receiver: u32,
-        /// Document 01: sending pantry.
-        sender: u32,
-        /// 1 for yes, 0 for no.
-        verdict: u32,
-        /// Document 01: swap.
-        transaction: TransactionWords,
-    },
+    /// Gives a shard a genesis token (document 01: opening): the receiver, the
+    /// index, the owner and the amount.
+    Mint([u32; 4]),
+    /// Hands a transaction to one of its shards (document 01: registration):
+    /// the receiver.
+    Register([u32; 1], TransactionWords),
+    /// Hands one shard's vote to another (document 01: vote, vote delivery):
+    /// the receiver, the sender and the verdict, 1 for yes and 0 for no.
+    Vote([u32; 3], TransactionWords),
 }
 
 impl Words {
     /// Each of its words, and whether the field is a byte.
     pub fn each(&mut self) -> Vec<(&mut u32, bool)> {
-        let (head, transaction) = match self {
-            Words::Mint {
-                receiver,
-                index,
-                owner,
-                amount,
-            } => {
-                let bytes = [receiver, index].map(|word| (word, true));
-                return bytes
-                    .into_iter()
-                    .chain([(owner, false), (amount, false)])
-                    .collect();
+        let (head, transaction): (&mut [u32], _) = match self {
+            Words::Mint(words) => {
+                let widths = [true, true, false, false];
+                return words.iter_mut().zip(widths).collect();
             }
-            Words::Register {
-                receiver,
-                transaction,
-            } => (vec![receiver], transaction),
-            Words::Vote {
-                receiver,
-                sender,
-                verdict,
-                transaction,
-            } => (vec![receiver, sender, verdict], transaction),
+            Words::Register(head, transaction) => (head, transaction),
+            Words::Vote(head, transaction) => (head, transaction),
         };
-        let head = head.into_iter().map(|word| (word, true));
+        let head = head.iter_mut().map(|word| (word, true));
         let fields = transaction.iter_mut().enumerate();
         let fields = fields.map(|(place, word)| (word, is_byte(place)));
         head.chain(fields).collect()
@@ -85,30 +49,20 @@ impl From<&Record> for Words {
                 index,
                 owner,
                 amount,
-            } => Words::Mint {
-                receiver: receiver.into(),
-                index: index.into(),
-                owner,
-                amount,
-            },
+            } => Words::Mint([receiver.into(), index.into(), owner, amount]),
             Record::Register {
                 receiver,
                 ref transaction,
-            } => Words::Register {
-                receiver: receiver.into(),
-                transaction: to_words(transaction),
-            },
+            } => Words::Register([receiver.into()], to_words(transaction)),
             Record::Vote {
                 receiver,
                 sender,
                 verdict,
                 ref transaction,
-            } => Words::Vote {
-                receiver: receiver.into(),
-                sender: sender.into(),
-                verdict: verdict.into(),
-                transaction: to_words(transaction),
-            },
+            } => {
+                let head = [receiver, sender, verdict].map(u32::from);
+                Words::Vote(head, to_words(transaction))
+            }
         }
     }
 }
@@ -118,30 +72,17 @@ impl From<&Record> for Words {
 impl From<&Words> for Record {
     fn from(words: &Words) -> Self {
         match *words {
-            Words::Mint {
-                receiver,
-                index,
-                owner,
-                amount,
-            } => Record::Mint {
+            Words::Mint([receiver, index, owner, amount]) => Record::Mint {
                 receiver: narrow(receiver),
                 index: narrow(index),
                 owner,
                 amount,
             },
-            Words::Register {
-                receiver,
-                transaction,
-            } => Record::Register {
+            Words::Register([receiver], transaction) => Record::Register {
                 receiver: narrow(receiver),
                 transaction: from_words(&narrowed(transaction)),
             },
-            Words::Vote {
-                receiver,
-                sender,
-                verdict,
-                transaction,
-            } => Record::Vote {
+            Words::Vote([receiver, sender, verdict], transaction) => Record::Vote {
                 receiver: narrow(receiver),
                 sender: narrow(sender),
                 verdict: narrow(verdict),
@@ -176,30 +117,17 @@ impl From<&Record> for Call {
 fn typed(words: &Words) -> Option<plankeeper::Record> {
     let byte = |word: u32| u8::try_from(word).ok();
     Some(match *words {
-        Words::Mint {
-            receiver,
-            index,
-            owner,
-            amount,
-        } => plankeeper::Record::Mint {
+        Words::Mint([receiver, index, owner, amount]) => plankeeper::Record::Mint {
             receiver: byte(receiver)?,
             index: byte(index)?,
             owner,
             amount,
         },
-        Words::Register {
-            receiver,
-            transaction,
-        } => plankeeper::Record::Register {
+        Words::Register([receiver], transaction) => plankeeper::Record::Register {
             receiver: byte(receiver)?,
             transaction: fitting(transaction)?,
         },
-        Words::Vote {
-            receiver,
-            sender,
-            verdict,
-            transaction,
-        } => plankeeper::Record::Vote {
+        Words::Vote([receiver, sender, verdict], transaction) => plankeeper::Record::Vote {
             receiver: byte(receiver)?,
             sender: byte(sender)?,
             verdict: match verdict {
@@ -233,21 +161,12 @@ pub fn play<M: Memory>(ledger: &mut Ledger<M>, call: &Call) -> Result<Answer, Re
 /// The code of the call by its words.
 fn code<M: Memory>(memory: &mut M, words: &Words) -> u32 {
     match *words {
-        Words::Mint {
-            receiver,
-            index,
-            owner,
-            amount,
-        } => memory.mint(receiver, index, owner, amount),
-        Words::Register {
-            receiver,
-            ref transaction,
-        } => memory.register(receiver, transaction),
-        Words::Vote {
-            receiver,
-            sender,
-            verdict,
-            ref transaction,
-        } => memory.deliver(receiver, sender, verdict, transaction),
+        Words::Mint([receiver, index, owner, amount]) => {
+            memory.mint(receiver, index, owner, amount)
+        }
+        Words::Register([receiver], ref transaction) => memory.register(receiver, transaction),
+        Words::Vote([receiver, sender, verdict], ref transaction) => {
+            memory.deliver(receiver, sender, verdict, transaction)
+        }
     }
 }

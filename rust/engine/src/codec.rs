@@ -66,30 +66,17 @@ pub fn write(record: &Record, buffer: &mut [u8]) -> Result<usize, Refusal> {
 /// The length of such a record, and the writer's answer.
 fn write_words(words: &Words, buffer: &mut [u8]) -> (usize, u64) {
     match *words {
-        Words::Mint {
-            receiver,
-            index,
-            owner,
-            amount,
-        } => (
-            MINT_LENGTH,
-            write_mint(receiver, index, owner, amount, buffer),
-        ),
-        Words::Register {
-            receiver,
-            ref transaction,
-        } => (
-            REGISTER_LENGTH,
-            write_register(receiver, transaction, buffer),
-        ),
-        Words::Vote {
-            receiver,
-            sender,
-            verdict,
-            ref transaction,
-        } => (
-            VOTE_LENGTH,
-            write_vote(receiver, sender, verdict, transaction, buffer),
-        ),
+        Words::Mint([receiver, index, owner, amount]) => {
+            let answer = write_mint(receiver, index, owner, amount, buffer);
+            (MINT_LENGTH, answer)
+        }
+        Words::Register([receiver], ref transaction) => {
+            let answer = write_register(receiver, transaction, buffer);
+            (REGISTER_LENGTH, answer)
+        }
+        Words::Vote([receiver, sender, verdict], ref transaction) => {
+            let answer = write_vote(receiver, sender, verdict, transaction, buffer);
+            (VOTE_LENGTH, answer)
+        }
     }
 }

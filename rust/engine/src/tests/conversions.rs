@@ -109,10 +109,7 @@ fn calls_are_typed_where_types_can_say_them() {
     }
     let narrow = to_words(&transaction());
     for wide in wide_transactions(narrow) {
-        let words = Words::Register {
-            receiver: 300,
-            transaction: wide,
-        };
+        let words = Words::Register([300], wide);
         assert_eq!(Call::from(words), Call::Words(words));
         let Record::Register {
             receiver,
