@@ -1,18 +1,18 @@
 //! The planner as a process: what it prints for records, and how it ends where
 //! there are none to be had or nobody reads.
 
-use std::fs::{self, File};
-use std::os::unix::process::ExitStatusExt;
+use std::fs;
 use std::path::{Path, PathBuf};
-use std::process::{Command, Output, Stdio};
+use std::process::{Child, Command, Output, Stdio};
 use std::sync::OnceLock;
 
 use clients::{Language, link, planner_text, run, rust_example, scratch, well};
-use program::{assert_same, input, root, weeks, write_parts};
+use program::{
+    assert_same, ends_by_closed_pipe, example, fed, full_device, input, root, votes_again, weeks,
+};
 use reference::listing;
 
 const TESTS: &str = env!("CARGO_TARGET_TMPDIR");
-const SIGPIPE: i32 = 13;
 
 /// The planner's name among the tests, and where it is built.
 type Planner = (&'static str, PathBuf);
@@ -26,18 +26,14 @@ fn planners() -> &'static [Planner] {
     })
 }
 
-/// Runs the planner with these bytes at its standard input.
-fn fed(planner: &Path, bytes: &[u8], stdout: Stdio) -> Output {
-    let mut child = Command::new(planner)
+/// Starts the planner, which waits for its standard input.
+fn start(planner: &Path, stdout: Stdio) -> Child {
+    Command::new(planner)
         .stdin(Stdio::piped())
         .stdout(stdout)
         .stderr(Stdio::piped())
         .spawn()
-        .expect("the planner starts");
-    let mut stdin = child.stdin.take().expect("the input is a pipe");
-    write_parts(&mut stdin, bytes, 4_096);
-    drop(stdin);
-    child.wait_with_output().expect("the planner ends")
+        .expect("the planner starts")
 }
 
 /// What it prints; it has to end well and without a message.
@@ -56,7 +52,7 @@ fn printed(output: Output, case: &str) -> Vec<u8> {
 fn check(bytes: &[u8], file: Option<&Path>, expected: &str, week: &str) {
     for (name, planner) in planners() {
         let case = format!("{week}, the planner {name}");
-        let text = printed(fed(planner, bytes, Stdio::piped()), &case);
+        let text = printed(fed(start(planner, Stdio::piped()), bytes), &case);
         assert_same(&text, expected.as_bytes(), bytes, &case);
         if let Some(file) = file {
             let case = format!("{case}, from a file");
@@ -159,29 +155,19 @@ fn a_file_that_cannot_be_read() {
 
 /// More than a pipe takes, so that the planner meets the closed end.
 fn long_week() -> Vec<u8> {
-    let example = fs::read(root().join("crates/plankeeper/stdin")).expect("it can be read");
-    let vote = example[example.len() - 102..].repeat(10_000);
-    [example, vote].concat()
+    [example(), votes_again(10_000)].concat()
 }
 
 #[test]
 fn a_closed_output() {
     for (name, planner) in planners() {
-        let mut child = Command::new(planner)
-            .stdin(Stdio::piped())
-            .stdout(Stdio::piped())
-            .stderr(Stdio::piped())
-            .spawn()
-            .expect("the planner starts");
+        let mut child = start(planner, Stdio::piped());
         drop(child.stdout.take());
-        let mut stdin = child.stdin.take().expect("the input is a pipe");
-        write_parts(&mut stdin, &long_week(), 4_096);
-        drop(stdin);
-        let output = child.wait_with_output().expect("the planner ends");
+        let output = fed(child, &long_week());
         let message = String::from_utf8_lossy(&output.stderr);
         let case = format!("the planner {name}: {}, {message}", output.status);
         let told = matches!(output.status.code(), Some(0 | 1)) && !message.contains("panicked");
-        assert!(output.status.signal() == Some(SIGPIPE) || told, "{case}");
+        assert!(ends_by_closed_pipe(output.status) || told, "{case}");
     }
 }
 
@@ -190,9 +176,7 @@ fn a_closed_output() {
 fn a_full_device() {
     for (name, planner) in planners() {
         for bytes in [Vec::new(), long_week()] {
-            let full = File::options().write(true).open("/dev/full");
-            let full = full.expect("there is a device that is full");
-            let output = fed(planner, &bytes, full.into());
+            let output = fed(start(planner, full_device().into()), &bytes);
             let message = String::from_utf8_lossy(&output.stderr);
             assert_eq!(output.status.code(), Some(1), "the planner {name}");
             assert!(message.starts_with("planner: "), "{name}: {message}");

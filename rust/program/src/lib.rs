@@ -12,10 +12,11 @@ mod weeks;
 
 pub use inputs::{DAMAGES, Input, encode_all, input};
 pub use process::{
-    CHUNKS, PATIENCE, list, list_split, program, root, spawn, wait, wait_until_asleep, write_parts,
+    CHUNKS, PATIENCE, ends_by_closed_pipe, fed, full_device, list, list_split, output, program,
+    root, spawn, stdin, wait, wait_until_asleep, write_parts,
 };
 pub use tally::Tally;
-pub use weeks::{Week, week_files, weeks};
+pub use weeks::{Week, example, votes_again, week_files, weeks};
 
 use weektext::text;
 

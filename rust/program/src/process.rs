@@ -1,9 +1,10 @@
 //! Starting the program, writing to it and reading from it.
 
-use std::fs;
+use std::fs::{self, File};
 use std::io::{self, ErrorKind, Read, Write};
+use std::os::unix::process::ExitStatusExt;
 use std::path::{Path, PathBuf};
-use std::process::{Child, Command, ExitStatus, Stdio};
+use std::process::{Child, ChildStdin, Command, ExitStatus, Output, Stdio};
 use std::sync::OnceLock;
 use std::thread;
 use std::time::{Duration, Instant};
@@ -48,11 +49,23 @@ pub fn spawn() -> Child {
         .expect("the program starts")
 }
 
+/// The process's input, which has to be a pipe; it ends where this is dropped.
+pub fn stdin(child: &mut Child) -> ChildStdin {
+    child.stdin.take().expect("the input is a pipe")
+}
+
+/// Hands the bytes to a process and gives all that it says. It may end before
+/// it has read them.
+pub fn fed(mut child: Child, bytes: &[u8]) -> Output {
+    write_parts(&mut stdin(&mut child), bytes, 4_096);
+    child.wait_with_output().expect("the process ends")
+}
+
 /// The program's whole output for these bytes, written so many at a time. It
 /// has to end well.
 pub fn list(bytes: &[u8], chunk: usize) -> Vec<u8> {
     let mut child = spawn();
-    let mut stdin = child.stdin.take().expect("the input is a pipe");
+    let mut stdin = stdin(&mut child);
     if bytes.len() <= SHORT {
         write_parts(&mut stdin, bytes, chunk);
         drop(stdin);
@@ -69,7 +82,7 @@ pub fn list(bytes: &[u8], chunk: usize) -> Vec<u8> {
 pub fn list_split(bytes: &[u8], place: usize) -> Vec<u8> {
     let (first, second) = bytes.split_at(place);
     let mut child = spawn();
-    let mut stdin = child.stdin.take().expect("the input is a pipe");
+    let mut stdin = stdin(&mut child);
     write_parts(&mut stdin, first, SHORT);
     wait_until_asleep(&child);
     write_parts(&mut stdin, second, SHORT);
@@ -89,8 +102,8 @@ pub fn write_parts(output: &mut impl Write, bytes: &[u8], chunk: usize) {
     }
 }
 
-/// All that the program prints. Its end is waited for.
-fn output(mut child: Child) -> Vec<u8> {
+/// All that the program prints. It has to end well, which is waited for.
+pub fn output(mut child: Child) -> Vec<u8> {
     let mut text = Vec::new();
     let mut stdout = child.stdout.take().expect("the output is a pipe");
     stdout
@@ -99,6 +112,18 @@ fn output(mut child: Child) -> Vec<u8> {
     let status = child.wait().expect("the program ends");
     assert!(status.success(), "the program ended with {status}");
     text
+}
+
+/// Whether the process was ended by a write that nobody would read.
+pub fn ends_by_closed_pipe(status: ExitStatus) -> bool {
+    const SIGPIPE: i32 = 13;
+    status.signal() == Some(SIGPIPE)
+}
+
+/// An output that takes nothing.
+pub fn full_device() -> File {
+    let full = File::options().write(true).open("/dev/full");
+    full.expect("there is a device that is full")
 }
 
 /// Waits until the program sleeps. It prints when its own buffer is full or at

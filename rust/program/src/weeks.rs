@@ -3,6 +3,7 @@
 use std::fs;
 use std::path::PathBuf;
 
+use reference::VOTE_LENGTH;
 use weektext::records;
 
 use crate::root;
@@ -42,4 +43,17 @@ pub fn weeks() -> Vec<Week> {
         }
     });
     weeks.collect()
+}
+
+/// The records of document 01's example.
+pub fn example() -> Vec<u8> {
+    let source = fs::read(root().join("weeks/example.txt")).expect("the week can be read");
+    records(&source).expect("the week has no error")
+}
+
+/// The example's last vote so many times; behind the example each is heard
+/// again, and prints a line of some 20 bytes.
+pub fn votes_again(count: usize) -> Vec<u8> {
+    let example = example();
+    example[example.len() - VOTE_LENGTH..].repeat(count)
 }

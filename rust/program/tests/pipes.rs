@@ -1,32 +1,16 @@
 //! Reads split at every place, and outputs that nobody reads or that cannot be
 //! written: the program ends quietly.
 
-use std::fs::File;
 use std::io::{Read, Write};
 use std::os::unix::process::ExitStatusExt;
-use std::process::{Child, Command, ExitStatus, Stdio};
+use std::process::{Command, ExitStatus, Stdio};
 use std::time::Instant;
 
-use program::{PATIENCE, assert_same, list_split, program, root, spawn, wait, wait_until_asleep};
+use program::{
+    PATIENCE, assert_same, ends_by_closed_pipe, example, full_device, list_split, output, program,
+    spawn, stdin, votes_again, wait, wait_until_asleep,
+};
 use reference::listing;
-use weektext::records;
-
-const SIGPIPE: i32 = 13;
-
-fn example() -> Vec<u8> {
-    let source = std::fs::read(root().join("weeks/example.txt")).expect("the week can be read");
-    records(&source).expect("the week has no error")
-}
-
-/// So many votes heard again; each prints a line of some 20 bytes.
-fn votes(count: usize) -> Vec<u8> {
-    let example = example();
-    let mut bytes = example.clone();
-    for _ in 0..count {
-        bytes.extend(&example[example.len() - 102..]);
-    }
-    bytes
-}
 
 #[test]
 fn the_example_split_at_every_byte() {
@@ -44,19 +28,13 @@ fn the_example_split_at_every_byte() {
 fn an_input_that_stays_open() {
     let bytes = example();
     let mut child = spawn();
-    let mut stdin = child.stdin.take().expect("the input is a pipe");
+    let mut stdin = stdin(&mut child);
     stdin.write_all(&bytes).expect("the program reads");
     wait_until_asleep(&child);
     let before = child.try_wait().expect("the program can be waited for");
     assert_eq!(before, None, "it ended before its input did");
     drop(stdin);
-    let mut text = Vec::new();
-    let mut stdout = child.stdout.take().expect("the output is a pipe");
-    stdout
-        .read_to_end(&mut text)
-        .expect("the output can be read");
-    assert_eq!(text, listing(&bytes));
-    assert!(wait(&mut child).success());
+    assert_eq!(output(child), listing(&bytes));
 }
 
 /// Document 01: after 1 or 2 it reads no further. So the program ends although
@@ -64,35 +42,31 @@ fn an_input_that_stays_open() {
 #[test]
 fn an_unknown_kind_ends_an_open_input() {
     let mut child = spawn();
-    let mut stdin = child.stdin.take().expect("the input is a pipe");
+    let mut stdin = stdin(&mut child);
     stdin.write_all(&[9; 102]).expect("the program reads");
     assert!(wait(&mut child).success());
-    let mut text = String::new();
-    let mut stdout = child.stdout.take().expect("the output is a pipe");
-    stdout
-        .read_to_string(&mut text)
-        .expect("the output is ASCII");
-    assert_eq!(text, "1 - REFUSED 1\nTOTAL 0\n");
+    assert_eq!(output(child), b"1 - REFUSED 1\nTOTAL 0\n");
     drop(stdin);
 }
 
 /// Starts the program by this command, gives nobody a way to read its output,
 /// and checks that it ends without a word.
 fn ends_quietly(command: &mut Command, stdout: Stdio) -> ExitStatus {
-    let mut child: Child = command
+    let mut child = command
         .stdin(Stdio::piped())
         .stdout(stdout)
         .stderr(Stdio::piped())
         .spawn()
         .expect("the program starts");
     drop(child.stdout.take());
-    let mut stdin = child.stdin.take().expect("the input is a pipe");
+    let mut stdin = stdin(&mut child);
     // The input never ends, so that only the failed output can end the program;
     // its reader's end is noticed by the next write.
-    let part = votes(1_000);
-    stdin.write_all(&part).expect("the program reads");
+    let votes = votes_again(1_000);
+    let week = [example(), votes.clone()].concat();
+    stdin.write_all(&week).expect("the program reads");
     let start = Instant::now();
-    while stdin.write_all(&part[example().len()..]).is_ok() {
+    while stdin.write_all(&votes).is_ok() {
         assert!(start.elapsed() < PATIENCE, "the program reads for ever");
     }
     let status = wait(&mut child);
@@ -108,10 +82,7 @@ fn ends_quietly(command: &mut Command, stdout: Stdio) -> ExitStatus {
 #[test]
 fn a_closed_output() {
     let status = ends_quietly(&mut Command::new(program()), Stdio::piped());
-    assert!(
-        status.success() || status.signal() == Some(SIGPIPE),
-        "{status}"
-    );
+    assert!(status.success() || ends_by_closed_pipe(status), "{status}");
 }
 
 /// Where the signal is ignored, the write itself fails.
@@ -128,11 +99,7 @@ fn a_closed_output_without_the_signal() {
 
 #[test]
 fn a_full_device() {
-    let full = File::options()
-        .write(true)
-        .open("/dev/full")
-        .expect("there is a device that is full");
-    let status = ends_quietly(&mut Command::new(program()), full.into());
+    let status = ends_quietly(&mut Command::new(program()), full_device().into());
     assert_eq!(status.signal(), None, "{status}");
 }
 
@@ -141,12 +108,8 @@ fn a_full_device() {
 fn a_closed_output_at_the_end() {
     let mut child = spawn();
     drop(child.stdout.take());
-    let mut stdin = child.stdin.take().expect("the input is a pipe");
-    stdin.write_all(&example()).expect("the program reads");
-    drop(stdin);
+    let written = stdin(&mut child).write_all(&example());
+    written.expect("the program reads");
     let status = wait(&mut child);
-    assert!(
-        status.success() || status.signal() == Some(SIGPIPE),
-        "{status}"
-    );
+    assert!(status.success() || ends_by_closed_pipe(status), "{status}");
 }

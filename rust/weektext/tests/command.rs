@@ -1,31 +1,40 @@
 //! The command `week`: files and pipes, errors, exit status.
 
 use std::fs;
-use std::io::{Read, Write};
+use std::io::{self, Write};
 use std::path::PathBuf;
-use std::process::{Command, Output, Stdio};
+use std::process::{Child, Command, Output, Stdio};
 
 const WEEK: &str = "opening pantry 0 position 1 household 10 portions 3\n";
 const RECORDS: [u8; 11] = [3, 0, 1, 0, 0, 0, 10, 0, 0, 0, 3];
 
-fn command(arguments: &[&str]) -> Command {
+fn start(arguments: &[&str]) -> Child {
     let mut command = Command::new(env!("CARGO_BIN_EXE_week"));
     command
         .args(arguments)
         .stdin(Stdio::piped())
         .stdout(Stdio::piped())
         .stderr(Stdio::piped());
-    command
+    command.spawn().expect("the command starts")
+}
+
+/// Hands the bytes to the command as its whole standard input.
+fn feed(child: &mut Child, input: &[u8]) -> io::Result<()> {
+    let mut stdin = child.stdin.take().expect("its input is a pipe");
+    stdin.write_all(input)
+}
+
+/// What the command says in the end.
+fn ended(child: Child) -> Output {
+    child.wait_with_output().expect("the command ends")
 }
 
 /// Runs the command with these bytes as its standard input.
 fn run(arguments: &[&str], input: &[u8]) -> Output {
-    let mut child = command(arguments).spawn().expect("the command starts");
-    let mut stdin = child.stdin.take().expect("its input is a pipe");
+    let mut child = start(arguments);
     // It may end without reading.
-    let _ = stdin.write_all(input);
-    drop(stdin);
-    child.wait_with_output().expect("the command ends")
+    let _ = feed(&mut child, input);
+    ended(child)
 }
 
 fn told(output: &Output) -> (Option<i32>, &str) {
@@ -96,18 +105,8 @@ fn help_and_bad_usage() {
 /// A reader that goes away early is no error.
 #[test]
 fn a_closed_pipe() {
-    let mut child = command(&["records"]).spawn().expect("the command starts");
+    let mut child = start(&["records"]);
     drop(child.stdout.take());
-    let mut stdin = child.stdin.take().expect("its input is a pipe");
-    stdin
-        .write_all(WEEK.repeat(20_000).as_bytes())
-        .expect("the command reads its input");
-    drop(stdin);
-    let mut message = String::new();
-    let mut stderr = child.stderr.take().expect("its messages are a pipe");
-    stderr
-        .read_to_string(&mut message)
-        .expect("messages are UTF-8");
-    assert_eq!(message, "");
-    assert!(child.wait().expect("the command ends").success());
+    feed(&mut child, WEEK.repeat(20_000).as_bytes()).expect("the command reads its input");
+    assert_eq!(told(&ended(child)), (Some(0), ""));
 }

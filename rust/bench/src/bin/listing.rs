@@ -12,7 +12,7 @@ use std::path::Path;
 use std::process::{Child, Command, ExitCode, Stdio};
 use std::time::{Duration, Instant};
 
-use program::{encode_all, list, program, wait, wait_until_asleep};
+use program::{encode_all, list, program, stdin, wait, wait_until_asleep};
 use reference::{Record, listing};
 use weeks::{ClusterStyle, Rng, SEED, cluster_week_of};
 
@@ -176,7 +176,7 @@ fn peak(bytes: &[u8]) -> u64 {
         .stdout(Stdio::null())
         .spawn()
         .expect("the program starts");
-    let mut stdin = child.stdin.take().expect("the input is a pipe");
+    let mut stdin = stdin(&mut child);
     stdin.write_all(bytes).expect("the program reads");
     wait_until_asleep(&child);
     let peak = high_water(&child);
