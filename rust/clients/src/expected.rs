@@ -3,8 +3,7 @@
 use std::fmt::Write;
 
 use reference::{Cluster, Known, LIMITS, Outcome, Shard, Token, Verdict, read};
-
-use crate::causes::CAUSES;
+use weeks::CAUSES;
 
 /// The text for these records, whose listing is given: its lines, each refusal
 /// with its sentence, then what the shards hold and know, then its total.
@@ -16,7 +15,7 @@ pub fn planner_text(bytes: &[u8], listing: &str) -> String {
         if let Some((_, number)) = line.split_once("REFUSED ") {
             let number: usize = number.parse().expect("a refusal has a number");
             text += ": ";
-            text += CAUSES[number - 1];
+            text += CAUSES[number - 1].sentence;
         }
         text += "\n";
     }

@@ -6,14 +6,12 @@
 #![warn(missing_docs)]
 
 mod boundary;
-mod causes;
 mod expected;
 mod header;
 mod prototype;
 mod tools;
 
 pub use boundary::{Export, declared, exported};
-pub use causes::{CAUSES, GIVERS};
 pub use expected::planner_text;
 pub use header::{Cause, Header};
 pub use prototype::{Parameter, Prototype};

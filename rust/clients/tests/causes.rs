@@ -3,14 +3,20 @@
 
 use std::fs;
 
-use clients::{CAUSES, Header};
+use clients::Header;
 use plankeeper::Refusal;
 use program::root;
+use weeks::CAUSES;
+
+/// Document 01's, in the order of the numbers.
+fn sentences() -> Vec<&'static str> {
+    CAUSES.iter().map(|cause| cause.sentence).collect()
+}
 
 #[test]
 fn every_sentence_in_rust() {
-    let sentences = Refusal::ALL.map(|refusal| refusal.to_string());
-    assert_eq!(sentences, CAUSES);
+    let shown = Refusal::ALL.map(|refusal| refusal.to_string());
+    assert_eq!(Vec::from(shown), sentences());
 }
 
 /// The header's name of a cause is the crate's, in capitals.
@@ -35,11 +41,11 @@ fn every_name_in_both() {
 fn every_sentence_in_c() {
     let source = fs::read_to_string(root().join("examples/planner.c")).expect("it can be read");
     let (_, rest) = source.split_once("CAUSES[] = {\n").expect("it has them");
-    let (sentences, _) = rest.split_once("\n};").expect("they end");
-    let sentences: Vec<&str> = sentences
+    let (table, _) = rest.split_once("\n};").expect("they end");
+    let table: Vec<&str> = table
         .lines()
         .map(|line| line.trim().trim_matches([',', '"']))
         .collect();
-    assert_eq!(sentences[0], "", "there is no refusal 0");
-    assert_eq!(sentences[1..], CAUSES);
+    assert_eq!(table[0], "", "there is no refusal 0");
+    assert_eq!(table[1..], sentences());
 }

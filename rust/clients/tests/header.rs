@@ -3,8 +3,9 @@
 use std::collections::BTreeMap;
 use std::fs;
 
-use clients::{CAUSES, Cause, GIVERS, Header, Prototype, exported, symbols};
+use clients::{Cause, Header, Prototype, exported, symbols};
 use program::root;
+use weeks::{CAUSES, DONE};
 
 fn header_text() -> String {
     fs::read_to_string(root().join("include/plankeeper.h")).expect("the header can be read")
@@ -50,21 +51,16 @@ fn declares_what_the_library_defines() {
 
 /// The answers' numbers by the definition, and their names by the listing's
 /// words.
-fn answers() -> Vec<(String, u64)> {
-    let outcomes = ["WAIT", "COMMIT", "ABORT"];
-    let words = [
-        ("NO", 200),
-        ("YES", 200 + 10),
-        ("HEARD", 300),
-        ("AGAIN", 400),
-    ];
-    let mut answers = vec![("OPENED".to_owned(), 100)];
-    for (word, base) in words {
-        for (outcome, number) in outcomes.iter().zip(0..) {
-            answers.push((format!("{word}_{outcome}"), base + number));
-        }
-    }
-    answers
+fn answers() -> impl Iterator<Item = (String, u64)> {
+    DONE.iter()
+        .map(|reply| (reply.words.replace(' ', "_"), reply.code.into()))
+}
+
+/// The refusals' numbers and names.
+fn refusals() -> impl Iterator<Item = (String, u64)> {
+    CAUSES
+        .iter()
+        .map(|cause| (format!("REFUSED_{}", cause.name), cause.reply.code.into()))
 }
 
 const SIZES: [(&str, u64); 15] = [
@@ -103,35 +99,14 @@ const ROWS: [(u64, &str); 7] = [
     (0, "WAIT COMMIT ABORT UNKNOWN"),
 ];
 
-const REFUSALS: [&str; 16] = [
-    "UNKNOWN_KIND",
-    "TOO_SHORT",
-    "OUT_OF_RANGE",
-    "TOKEN_TWICE",
-    "SUMS_DIFFER",
-    "NOT_TAKING_PART",
-    "NUMBER_TAKEN",
-    "KNOWN_ALREADY",
-    "TRANSACTIONS_FULL",
-    "TOKENS_FULL",
-    "NUMBER_UNKNOWN",
-    "OTHER_VERDICT",
-    "MINT_TOO_LATE",
-    "INDEX_GIVEN",
-    "BUFFER_TOO_SHORT",
-    "VOTE_NOT_GIVEN",
-];
-
 /// Each name has its number, and there is no other name.
 #[test]
 fn every_number() {
-    let mut expected: BTreeMap<String, u64> = answers().into_iter().collect();
+    let mut expected: BTreeMap<String, u64> = answers().chain(refusals()).collect();
     expected.extend(SIZES.map(|(name, number)| (name.into(), number)));
     for (first, names) in ROWS {
         expected.extend(names.split(' ').map(str::to_owned).zip(first..));
     }
-    let refusals = REFUSALS.iter().zip(1..);
-    expected.extend(refusals.map(|(name, number)| (format!("REFUSED_{name}"), number)));
     let expected: BTreeMap<String, u64> = expected
         .into_iter()
         .map(|(name, number)| (format!("PLANKEEPER_{name}"), number))
@@ -147,19 +122,20 @@ fn every_answer_has_a_name() {
         let names = header.enums[name].iter();
         names.map(|name| header.numbers[name]).collect()
     };
-    assert_eq!(numbers("plankeeper_refusal"), Vec::from_iter(1..=16));
-    let answers: Vec<u64> = answers().into_iter().map(|(_, number)| number).collect();
+    let refusals: Vec<u64> = refusals().map(|(_, number)| number).collect();
+    assert_eq!(numbers("plankeeper_refusal"), refusals);
+    let answers: Vec<u64> = answers().map(|(_, number)| number).collect();
     assert_eq!(numbers("plankeeper_answer"), answers);
 }
 
 #[test]
 fn the_table_of_refusals() {
-    let expected: Vec<Cause> = (1..)
-        .zip(CAUSES.iter().zip(GIVERS))
-        .map(|(number, (sentence, givers))| Cause {
-            number,
-            givers: givers.into(),
-            sentence: (*sentence).into(),
+    let expected: Vec<Cause> = CAUSES
+        .iter()
+        .map(|cause| Cause {
+            number: cause.reply.code as usize,
+            givers: cause.letters(),
+            sentence: cause.sentence.into(),
         })
         .collect();
     assert_eq!(header().causes, expected);

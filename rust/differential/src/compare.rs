@@ -1,11 +1,11 @@
 //! One comparison of engine and reference for each thing the boundary offers.
 
-use std::io::{Write, stderr};
 use std::{ptr, thread};
 
 use engine::probes;
 use plankeeper::boundary::{self, READING_WORDS, ReadingWords};
 use reference::{GENESIS, REGISTER_LENGTH, Reading, Record, Refusal, Transaction, VOTE_LENGTH};
+use weeks::{ACCEPTED, Giver, given_by, refused};
 
 use crate::Rng;
 use crate::SEED;
@@ -37,36 +37,14 @@ impl Drop for Case<'_> {
     }
 }
 
-/// How often each refusal was met; 0 stands for none.
-#[derive(Default)]
-pub struct Counts([u64; 16]);
+/// All that the reader answers, or all that the writers do, as counted.
+pub fn codec_answers(giver: Giver) -> Vec<&'static str> {
+    [vec![ACCEPTED], given_by(&[giver])].concat()
+}
 
-impl Counts {
-    /// Notes one answer.
-    pub fn add(&mut self, number: u8) {
-        self.0[usize::from(number)] += 1;
-    }
-
-    /// Prints the counts, also where the test's output is captured, and fails
-    /// if one of these numbers was met fewer than `least` times.
-    pub fn report(&self, title: &str, numbers: &[u8], least: u64) {
-        let total: u64 = self.0.iter().sum();
-        let met = (0..).zip(self.0).filter(|&(_, count)| count > 0);
-        let met: Vec<String> = met
-            .map(|(number, count): (u8, u64)| format!("{number}: {count}"))
-            .collect();
-        let line = format!("\n{title}: {total} in all; by refusal {}\n", met.join(", "));
-        stderr()
-            .write_all(line.as_bytes())
-            .expect("standard error takes the counts");
-        for &number in numbers {
-            let count = self.0[usize::from(number)];
-            assert!(
-                count >= least,
-                "{title}: refusal {number} was met {count} times only"
-            );
-        }
-    }
+/// The refusals with these numbers, as counted; 0 stands for none.
+pub fn numbered(numbers: &[u8]) -> Vec<&'static str> {
+    numbers.iter().map(|&number| refused(number)).collect()
 }
 
 /// Compares all that reading gives: refusal, every word, the fields, the length
@@ -103,16 +81,17 @@ pub fn check_read(case: &Case) -> u8 {
     assert!(ptr::eq(rest, reference::rest(bytes)), "place of the rest");
 
     if let Ok(record) = expected.outcome {
-        let record_bytes = &bytes[..expected.taken];
-        let mut again = [0xEE; VOTE_LENGTH];
-        assert_eq!(
-            engine::write(&record, &mut again),
-            Ok(expected.taken),
-            "written again"
-        );
-        assert_eq!(again[..expected.taken], *record_bytes, "written again");
+        check_written_again(&record, &bytes[..expected.taken]);
     }
     expected_number
+}
+
+/// Writes a record that was read of these bytes.
+fn check_written_again(record: &Record, bytes: &[u8]) {
+    let mut again = [0xEE; VOTE_LENGTH];
+    let written = engine::write(record, &mut again);
+    assert_eq!(written, Ok(bytes.len()), "written again");
+    assert_eq!(again[..bytes.len()], *bytes, "written again");
 }
 
 /// Compares writing into a buffer of `room` bytes with random contents: the
@@ -126,21 +105,8 @@ pub fn check_write(case: &Case, record: &Record, room: usize, rng: &mut Rng) -> 
 
     let mut expected_after = before;
     let expected = reference::write(record, &mut expected_after[buffer.clone()]);
-    // The reference is held to document 01 as well.
-    let written = expected.unwrap_or(0);
-    let (front, behind) = expected_after[AROUND..].split_at(written);
-    assert_eq!(
-        behind,
-        &before[AROUND + written..],
-        "reference: bytes behind"
-    );
-    if let Ok(length) = expected {
-        assert_eq!(
-            (front, length),
-            (case.bytes, case.bytes.len()),
-            "reference: bytes"
-        );
-    }
+    let (old, new) = (&before[AROUND..], &expected_after[AROUND..]);
+    check_reference(expected, old, new, case.bytes);
 
     let mut after = before;
     let answer = engine::write(record, &mut after[buffer.clone()]);
@@ -157,6 +123,17 @@ pub fn check_write(case: &Case, record: &Record, room: usize, rng: &mut Rng) -> 
         assert_eq!(reference::read(&after[buffer]), again, "read again");
     }
     number(answer.err())
+}
+
+/// The reference is held to document 01 as well: it writes these bytes, and
+/// those behind them keep their values; after a refusal all do.
+fn check_reference(written: Result<usize, Refusal>, old: &[u8], new: &[u8], bytes: &[u8]) {
+    let length = written.unwrap_or(0);
+    let (front, behind) = new.split_at(length);
+    assert_eq!(behind, &old[length..], "reference: bytes behind");
+    if written.is_ok() {
+        assert_eq!(front, bytes, "reference: bytes");
+    }
 }
 
 /// Compares the cause for which the transaction is refused. Gives its number.

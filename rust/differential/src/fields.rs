@@ -83,7 +83,8 @@ impl Field {
 }
 
 /// The record's bytes, whatever its fields hold: writers refuse what tests
-/// have to try.
+/// have to try. It shares nothing with the reference's writer, which is held
+/// to these bytes, too.
 pub fn encode(record: &Record) -> Vec<u8> {
     let mut bytes = Vec::with_capacity(112);
     match *record {

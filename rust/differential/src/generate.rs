@@ -1,6 +1,7 @@
 //! Valid records, and records with something wrong.
 
 use reference::{GENESIS, Input, MAX_AMOUNT, Output, Record, SLOTS, TokenId, Transaction};
+use weeks::{Part, amounts_between, part};
 
 use crate::Rng;
 use crate::fields::{FIELDS, Field};
@@ -73,36 +74,10 @@ pub fn vote(rng: &mut Rng) -> Record {
 pub fn damage(rng: &mut Rng, record: &mut Record) {
     let byte = rng.pick(Field::at(1).edges()) as u8;
     let word = rng.pick(Field::at(0).edges());
-    match record {
-        Record::Register {
-            receiver,
-            transaction,
-        } => match rng.below(20) {
-            0 => *receiver = byte,
-            _ => damage_transaction(rng, transaction),
-        },
-        Record::Vote {
-            receiver,
-            sender,
-            verdict,
-            transaction,
-        } => match rng.below(20) {
-            0 => *receiver = byte,
-            1 => *sender = byte,
-            2 => *verdict = byte,
-            _ => damage_transaction(rng, transaction),
-        },
-        Record::Mint {
-            receiver,
-            index,
-            owner,
-            amount,
-        } => match rng.below(4) {
-            0 => *receiver = byte,
-            1 => *index = byte,
-            2 => *owner = word,
-            _ => *amount = word,
-        },
+    match part(rng, record, 20) {
+        Part::Byte(field) => *field = byte,
+        Part::Word(field) => *field = word,
+        Part::Transaction(transaction) => damage_transaction(rng, transaction),
     }
 }
 
@@ -127,39 +102,43 @@ pub fn damage_transaction(rng: &mut Rng, transaction: &mut Transaction) {
                 transaction.inputs[input].token = neighbour(rng, transaction.inputs[other].token);
             }
         }
-        // Sums differ by one.
-        6 | 7 => {
-            let amount = if rng.once_in(2) {
-                &mut transaction.inputs[input].amount
-            } else {
-                &mut transaction.outputs[output].amount
-            };
-            *amount = if rng.once_in(2) {
-                amount.wrapping_add(1)
-            } else {
-                amount.wrapping_sub(1)
-            };
-        }
+        6 | 7 => shift_amount(rng, transaction, input, output),
         // Sums that agree only if they wrap.
         8 => {
             let half = 1 << 31;
             transaction.inputs[input].amount ^= half;
             transaction.inputs[rng.below(inputs)].amount ^= half;
         }
-        // A count that does not fit its slots.
-        _ => {
-            let count = if rng.once_in(2) {
-                &mut transaction.input_count
-            } else {
-                &mut transaction.output_count
-            };
-            *count = if rng.once_in(2) {
-                count.wrapping_add(1)
-            } else {
-                count.wrapping_sub(1)
-            };
-        }
+        _ => shift_count(rng, transaction),
     }
+}
+
+/// Sums differ by one.
+fn shift_amount(rng: &mut Rng, transaction: &mut Transaction, input: usize, output: usize) {
+    let amount = if rng.once_in(2) {
+        &mut transaction.inputs[input].amount
+    } else {
+        &mut transaction.outputs[output].amount
+    };
+    *amount = if rng.once_in(2) {
+        amount.wrapping_add(1)
+    } else {
+        amount.wrapping_sub(1)
+    };
+}
+
+/// A count that does not fit its slots.
+fn shift_count(rng: &mut Rng, transaction: &mut Transaction) {
+    let count = if rng.once_in(2) {
+        &mut transaction.input_count
+    } else {
+        &mut transaction.output_count
+    };
+    *count = if rng.once_in(2) {
+        count.wrapping_add(1)
+    } else {
+        count.wrapping_sub(1)
+    };
 }
 
 /// Changes one byte, often to an edge value.
@@ -170,37 +149,6 @@ pub fn damage_byte(rng: &mut Rng, bytes: &mut [u8]) {
         1 => bytes[place] ^ 1 << rng.below(8),
         _ => rng.pick(Field::at(1).edges()) as u8,
     };
-}
-
-/// A valid transaction with these counts, plain enough to be changed field by
-/// field: with `genesis` its tokens are genesis tokens.
-pub fn base(inputs: u8, outputs: u8, genesis: bool) -> Transaction {
-    let mut transaction = Transaction {
-        number: 5,
-        input_count: inputs,
-        output_count: outputs,
-        ..Transaction::default()
-    };
-    for slot in 0..inputs {
-        transaction.inputs[usize::from(slot)] = Input {
-            token: TokenId {
-                shard: slot,
-                creator: if genesis { 0 } else { 9 + u32::from(slot) },
-                index: slot,
-            },
-            owner: 10 + u32::from(slot),
-            amount: 12,
-        };
-    }
-    for slot in 0..outputs {
-        transaction.outputs[usize::from(slot)] = Output {
-            shard: 7 - slot,
-            owner: 20 + u32::from(slot),
-            // 12 parts for each input can be shared by 1 to 4 outputs.
-            amount: 12 * u32::from(inputs) / u32::from(outputs),
-        };
-    }
-    transaction
 }
 
 fn shard(rng: &mut Rng) -> u8 {
@@ -291,9 +239,7 @@ fn split(rng: &mut Rng, total: u32, parts: usize) -> [u32; SLOTS] {
     let mut amounts = [0; SLOTS];
     let mut left = total;
     for (slot, amount) in amounts[..parts].iter_mut().enumerate() {
-        let later = (parts - slot - 1) as u32;
-        let low = left.saturating_sub(later * MAX_AMOUNT).max(1);
-        let high = (left - later).min(MAX_AMOUNT);
+        let (low, high) = amounts_between(left, (parts - slot - 1) as u32);
         *amount = match rng.below(6) {
             0 => low,
             1 => high,

@@ -2,71 +2,13 @@
 //! and the whole state.
 
 use std::fmt::Debug;
-use std::{slice, thread};
 
 use engine::places::{ShardWords, name};
 use engine::{Call, State, Words, play, shards};
 use plankeeper::Ledger;
 use plankeeper::boundary::{ClusterMemory, Memory, ShardMemory, taken};
-use reference::{Answer, Cluster, Done, LIMITS, Record, Refusal, Shard};
-use weeks::{Before, receiver};
-
-use crate::SEED;
-
-/// The call being compared. Printed if the comparison panics, wherever that
-/// is, so that no assertion has to carry it.
-struct Case<'a> {
-    week: u64,
-    call: u64,
-    handed: &'a dyn Debug,
-}
-
-impl Drop for Case<'_> {
-    fn drop(&mut self) {
-        if thread::panicking() {
-            let Case { week, call, handed } = self;
-            eprintln!("seed {SEED:#x}, week {week}, call {call}: {handed:?}");
-        }
-    }
-}
-
-/// What the comparison needs of the reference's shard and cluster.
-pub trait Expected {
-    /// Makes the call that the record's fields stand for.
-    fn play(&mut self, record: &Record) -> Answer;
-    /// The sum of the amounts held.
-    fn total(&self) -> u64;
-    /// The lone shard, or all eight.
-    fn shards(&self) -> &[Shard];
-}
-
-impl Expected for Shard {
-    fn play(&mut self, record: &Record) -> Answer {
-        Shard::play(self, record)
-    }
-
-    fn total(&self) -> u64 {
-        Shard::total(self)
-    }
-
-    fn shards(&self) -> &[Shard] {
-        slice::from_ref(self)
-    }
-}
-
-impl Expected for Cluster {
-    fn play(&mut self, record: &Record) -> Answer {
-        Cluster::play(self, record)
-    }
-
-    fn total(&self) -> u64 {
-        Cluster::total(self)
-    }
-
-    fn shards(&self) -> &[Shard] {
-        Cluster::shards(self)
-    }
-}
+use reference::{Answer, Cluster, LIMITS, Record, Refusal, Shard};
+use weeks::{Before, Case, Playable, changes_nothing};
 
 /// What a call brought, the same for both.
 pub struct Played {
@@ -124,7 +66,7 @@ impl<'a> ClusterPlayer<'a> {
     }
 }
 
-impl<'a, M: Memory, R: Expected> Player<'a, M, R> {
+impl<'a, M: Memory, R: Playable> Player<'a, M, R> {
     fn new(week: u64, engine: &'a mut Ledger<M>, reference: R) -> Self {
         engine.renew();
         let player = Player {
@@ -203,16 +145,16 @@ impl<'a, M: Memory, R: Expected> Player<'a, M, R> {
     /// Compares the engine after a call with the reference's answer and state:
     /// what a record's fields bring, or the reader's refusal.
     fn compare(&mut self, ours: Answer, record: Result<&Record, Refusal>) -> Played {
-        let number = record.ok().map(receiver);
-        let mut expected = self.reference.shards().iter();
-        let place = expected.position(|shard| Some(shard.number()) == number);
-        let before = place.map(|place| Before::of(&self.reference.shards()[place]));
+        let shards_before = self.reference.shards();
+        let before = record
+            .ok()
+            .and_then(|record| Before::of(shards_before, record));
+        let place = before.map(|before| before.place);
         let answer = record.and_then(|record| self.reference.play(record));
         assert_eq!(ours, answer, "answer");
 
-        // A refused call and a repeat change nothing, any other its receiver.
-        let unchanged = matches!(answer, Err(_) | Ok(Done::Again(_)));
-        let changed = place.filter(|_| !unchanged);
+        // A call changes its receiver alone, if anything.
+        let changed = place.filter(|_| !changes_nothing(answer));
         let now = shards(self.engine);
         for (place, (now, kept)) in now.iter().zip(&self.kept).enumerate() {
             if Some(place) != changed {

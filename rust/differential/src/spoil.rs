@@ -39,27 +39,16 @@ pub fn spoiled_bytes(rng: &mut Rng, record: &Record) -> (&'static str, Vec<u8>) 
         "another kind" => bytes[0] = rng.byte(),
         "bytes inserted" => {
             let place = rng.below(bytes.len() + 1);
-            let more = random_bytes(rng, 12);
+            let more = rng.bytes(12);
             bytes.splice(place..place, more);
         }
-        "bytes removed" => {
-            let from = rng.below(bytes.len());
-            let to = bytes.len().min(from + 1 + rng.below(12));
-            bytes.drain(from..to);
-        }
-        "random bytes" => bytes = random_bytes(rng, VOTE_LENGTH + 10),
+        "bytes removed" => rng.remove_from(&mut bytes, 12),
+        "random bytes" => bytes = rng.bytes(VOTE_LENGTH + 10),
         "a random body" => rng.fill(&mut bytes[1..]),
-        "bytes behind" => bytes.extend(random_bytes(rng, VOTE_LENGTH)),
+        "bytes behind" => bytes.extend(rng.bytes(VOTE_LENGTH)),
         _ => unreachable!("each damage is above"),
     }
     (way, bytes)
-}
-
-/// Up to so many bytes, and no fewer than one.
-fn random_bytes(rng: &mut Rng, most: usize) -> Vec<u8> {
-    let mut bytes = vec![0; 1 + rng.below(most)];
-    rng.fill(&mut bytes);
-    bytes
 }
 
 /// What [`spoiled_words`] does.

@@ -1,11 +1,11 @@
 //! Weeks of a cluster as bytes, record by record.
 
-use differential::{ANSWERS, CLUSTER_REFUSALS, ClusterPlayer, Player, Rng, SEED, count_weeks};
+use differential::{ClusterPlayer, Player, Rng, SEED};
 use engine::{Call, cluster, play};
 use plankeeper::boundary::Memory;
 use program::{DAMAGES, encode_all, input};
 use reference::{Answer, Record};
-use weeks::{Tally, cluster_week, label};
+use weeks::{Giver, Tally, cluster_week, count_weeks, given_by, label};
 
 const WEEKS: u64 = 8_000;
 const INPUTS: u64 = 100_000;
@@ -58,7 +58,7 @@ fn weeks_as_bytes_and_as_fields() {
         handed
     });
     let title = format!("weeks as bytes, {calls} records");
-    tally.report(&title, &[&CLUSTER_REFUSALS[..], &ANSWERS].concat(), 1000);
+    tally.report(&title, &given_by(&[Giver::Cluster]), 1000);
 }
 
 /// Weeks whose bytes were spoiled in every way, up to the first record that
@@ -72,7 +72,6 @@ fn damaged_bytes() {
         hand_over(player, tally, &input.bytes, |_, _, _| ())
     });
     let title = format!("damaged bytes, {calls} records in {INPUTS} inputs");
-    let readers = ["REFUSED 1", "REFUSED 2"];
-    let labels = [&readers[..], &CLUSTER_REFUSALS, &ANSWERS, &DAMAGES].concat();
-    tally.report(&title, &labels, 1000);
+    tally.report(&title, &given_by(&[Giver::Reader, Giver::Cluster]), 1000);
+    tally.check(&title, &DAMAGES, 1000);
 }

@@ -3,12 +3,11 @@
 //! no word.
 
 use differential::{
-    ANSWERS, BYTE_DAMAGES, CLUSTER_REFUSALS, Expected, Player, Rng, SEED, SHARD_REFUSALS,
-    WORD_DAMAGES, count_weeks, encode, shards, spoiled_bytes, spoiled_words,
+    BYTE_DAMAGES, Player, Rng, SEED, WORD_DAMAGES, encode, shards, spoiled_bytes, spoiled_words,
 };
 use plankeeper::boundary::Memory;
 use reference::{Answer, Record, Refusal};
-use weeks::{Tally, cluster_week, label, shard_week};
+use weeks::{Giver, Playable, Tally, cluster_week, count_weeks, given_by, label, shard_week};
 
 /// Weeks for bytes, for words at a cluster and for words at a lone shard: a
 /// damaged call before each true one.
@@ -33,14 +32,13 @@ fn count(tally: &mut Tally, damage: &'static str, damaged: Answer, call: Answer)
     }
 }
 
-fn report(title: &str, (tally, calls): (Tally, usize), answers: &[&[&str]], damages: &[&str]) {
+/// Every answer that one of these gives has to be met, and every damage.
+fn report(title: &str, (tally, calls): (Tally, usize), givers: &[Giver], damages: &[&str]) {
     assert!(calls >= CALLS, "{calls} damaged calls only");
-    let answers = [&answers.concat()[..], &ANSWERS, &["damaged, carried out"]].concat();
-    tally.report(&format!("{calls} {title}"), &answers, LEAST);
-    for damage in damages {
-        let times = tally.count(damage);
-        assert!(times >= EACH_DAMAGE, "{damage} was met {times} times only");
-    }
+    let title = format!("{calls} {title}");
+    tally.report(&title, &given_by(givers), LEAST);
+    tally.check(&title, &["damaged, carried out"], LEAST);
+    tally.check(&title, damages, EACH_DAMAGE);
 }
 
 #[test]
@@ -58,13 +56,13 @@ fn a_million_damaged_records() {
         player.compare_states();
         records.len()
     });
-    let refusals = [&["REFUSED 1", "REFUSED 2"][..], &CLUSTER_REFUSALS];
-    report("damaged records", counts, &refusals, &BYTE_DAMAGES);
+    let givers = [Giver::Reader, Giver::Cluster];
+    report("damaged records", counts, &givers, &BYTE_DAMAGES);
 }
 
 /// Plays the week with a damaged call before each true one. Gives the number of
 /// damaged calls.
-fn play<M: Memory, R: Expected>(
+fn play<M: Memory, R: Playable>(
     mut player: Player<M, R>,
     tally: &mut Tally,
     rng: &mut Rng,
@@ -92,7 +90,7 @@ fn a_million_damaged_calls_of_a_cluster() {
     });
     let damages = [&WORD_DAMAGES[..], &["words too wide"]].concat();
     let title = "damaged calls of a cluster";
-    report(title, counts, &[&CLUSTER_REFUSALS], &damages);
+    report(title, counts, &[Giver::Cluster], &damages);
 }
 
 #[test]
@@ -105,5 +103,5 @@ fn a_million_damaged_calls_of_a_shard() {
     });
     let damages = [&WORD_DAMAGES[..], &["words too wide"]].concat();
     let title = "damaged calls of a shard";
-    report(title, counts, &[&SHARD_REFUSALS], &damages);
+    report(title, counts, &[Giver::Shard], &damages);
 }

@@ -4,10 +4,12 @@
 use std::collections::BTreeMap;
 use std::{array, thread};
 
-use differential::{ANSWERS, Player, share_out};
+use differential::{ClusterPlayer, Player};
 use plankeeper::Cluster;
-use reference::Done;
-use weeks::{Clauses, Scenario, Tally, View, label, scenarios};
+use reference::Record;
+use weeks::{
+    Clauses, Scenario, Tally, View, carried_out, changes_nothing, label, scenarios, share_out,
+};
 
 /// Printed beside a failing call: there, an order counts as a week.
 struct Name(&'static str);
@@ -27,36 +29,61 @@ struct Played {
     title: String,
 }
 
-/// Plays every order of the scenario on the engine and on the reference, and
-/// holds the engine's states to the clauses after every call.
+/// What one order brought.
+struct Followed {
+    clauses: Clauses,
+    /// Whether every committed transaction was decided at all its shards when
+    /// the repeats began, and in the end.
+    whole: [bool; 2],
+}
+
+/// Plays an order and holds the engine's states to the clauses after every
+/// call. The repeats come behind so many calls.
+fn follow(
+    player: &mut ClusterPlayer,
+    records: &[Record],
+    calls: usize,
+    tally: &mut Tally,
+) -> Followed {
+    let mut clauses = Clauses::new();
+    let (mut early, mut whole) = (false, false);
+    for (record, call) in records.iter().zip(1..) {
+        let answer = player.call(record).answer;
+        tally.add(label(answer));
+        let views = array::from_fn(|shard| View {
+            tokens: &player.states()[shard].tokens,
+            known: &player.states()[shard].known,
+        });
+        clauses.step(record, answer.is_err(), &views);
+        // A repeat adds nothing, and neither does a refused call.
+        if !changes_nothing(answer) {
+            whole = clauses.serial();
+        }
+        if call == calls {
+            early = whole;
+        }
+    }
+    player.compare_states();
+    Followed {
+        clauses,
+        whole: [early, whole],
+    }
+}
+
+/// Plays every order of the scenario on the engine and on the reference.
 fn play(scenario: &Scenario, cluster: &mut Cluster) -> Played {
     let _name = Name(scenario.name);
     let mut tally = Tally::default();
     let mut ends: BTreeMap<Vec<u32>, u64> = BTreeMap::new();
     let mut whole_orders = 0;
     let orders = scenario.orders(|order, records| {
-        let mut clauses = Clauses::new();
         let mut player = Player::cluster(order, cluster);
-        let mut whole = false;
-        for (record, call) in records.iter().zip(1..) {
-            let answer = player.call(record).answer;
-            tally.add(label(answer));
-            let views = array::from_fn(|shard| View {
-                tokens: &player.states()[shard].tokens,
-                known: &player.states()[shard].known,
-            });
-            clauses.step(record, answer.is_err(), &views);
-            // A repeat adds nothing, and neither does a refused call.
-            if !matches!(answer, Err(_) | Ok(Done::Again(_))) {
-                whole = clauses.serial();
-            }
-            if call == scenario.calls() {
-                whole_orders += u64::from(whole);
-            }
-        }
-        player.compare_states();
+        let followed = follow(&mut player, records, scenario.calls(), &mut tally);
+        let [early, whole] = followed.whole;
+        whole_orders += u64::from(early);
         assert!(whole, "order {order} leaves a transaction undecided");
-        *ends.entry(clauses.committed_numbers()).or_default() += 1;
+        let committed = followed.clauses.committed_numbers();
+        *ends.entry(committed).or_default() += 1;
     });
     let title = format!(
         "{}: {orders} orders, {whole_orders} all decided before the repeats; \
@@ -86,13 +113,13 @@ fn every_order_of_every_scenario() {
     let played: Vec<Played> = played.into_iter().flatten().collect();
     assert_eq!(played.len(), scenarios.len());
     let (mut orders, mut all) = (0, Tally::default());
-    for scenario in &played {
-        scenario.tally.report(&scenario.title, &[], 0);
+    for scenario in played {
+        scenario.tally.print(&scenario.title);
         orders += scenario.orders;
-        all.join(&scenario.tally);
+        all.join(scenario.tally);
     }
-    let refusals = ["REFUSED 7", "REFUSED 11", "REFUSED 16"];
-    let labels = [&refusals[..], &ANSWERS].concat();
-    all.report(&format!("all scenarios, {orders} orders"), &labels, 1000);
+    let title = format!("all scenarios, {orders} orders");
+    all.report(&title, &carried_out(), 1000);
+    all.check(&title, &["REFUSED 7", "REFUSED 11", "REFUSED 16"], 1000);
     assert_eq!(orders, 497_649, "orders");
 }

@@ -1,11 +1,13 @@
 //! Queries, asked after every call of the shard that received it.
 
 use differential::{
-    Player, Questions, Rng, SEED, Shards, check_cluster, check_lone, check_none, count_weeks,
-    full_shard_week, shards,
+    Player, Questions, Rng, SEED, Shards, check_cluster, check_lone, check_none, full_shard_week,
+    shards,
 };
 use reference::{Outcome, Record, SHARDS, Shard};
-use weeks::{ClusterStyle, Tally, cluster_week, cluster_week_of, receiver, shard_week};
+use weeks::{
+    ClusterStyle, Tally, cluster_week, cluster_week_of, count_weeks, receiver, shard_week,
+};
 
 const WEEKS: u64 = 1_900;
 /// From this week on, shards run full.

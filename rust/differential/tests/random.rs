@@ -1,10 +1,11 @@
 //! Random records: valid, damaged and cut.
 
 use differential::{
-    Case, Counts, Rng, SEED, check_cause, check_read, check_same, check_shard, check_write, damage,
-    damage_byte, damage_transaction, encode, record, transaction,
+    Case, Rng, SEED, check_cause, check_read, check_same, check_shard, check_write, codec_answers,
+    damage, damage_byte, damage_transaction, encode, numbered, record, transaction,
 };
 use reference::{Record, VOTE_LENGTH};
+use weeks::{Giver, Tally, refused};
 
 const READINGS: u64 = 4_000_000;
 const WRITINGS: u64 = 2_000_000;
@@ -43,8 +44,7 @@ fn with_bytes(rng: &mut Rng, check: impl FnOnce(&[u8])) {
             bytes
         }
         _ => {
-            let mut noise = vec![0; 1 + rng.below(VOTE_LENGTH + 10)];
-            rng.fill(&mut noise);
+            let mut noise = rng.bytes(VOTE_LENGTH + 10);
             noise[0] %= 5;
             noise
         }
@@ -54,9 +54,7 @@ fn with_bytes(rng: &mut Rng, check: impl FnOnce(&[u8])) {
         // Cut, with the lost bytes still behind.
         17 => end = start + rng.below(end - start),
         _ if rng.once_in(2) => {
-            let mut behind = vec![0; 1 + rng.below(24)];
-            rng.fill(&mut behind);
-            memory.extend(behind);
+            memory.extend(rng.bytes(24));
             end = memory.len();
         }
         _ => {}
@@ -66,18 +64,18 @@ fn with_bytes(rng: &mut Rng, check: impl FnOnce(&[u8])) {
 
 #[test]
 fn random_readings() {
-    let mut counts = Counts::default();
+    let mut tally = Tally::default();
     for number in 0..READINGS {
         with_bytes(&mut Rng::new(SEED, number), |bytes| {
-            counts.add(check_read(&Case::new(number, bytes)));
+            tally.add(refused(check_read(&Case::new(number, bytes))));
         });
     }
-    counts.report("random readings", &[0, 1, 2, 3, 4, 5], LEAST);
+    tally.report("random readings", &codec_answers(Giver::Reader), LEAST);
 }
 
 #[test]
 fn random_writings() {
-    let mut counts = Counts::default();
+    let mut tally = Tally::default();
     for number in 0..WRITINGS {
         let rng = &mut Rng::new(SEED, number);
         let record = if rng.once_in(2) {
@@ -92,14 +90,14 @@ fn random_writings() {
             _ => bytes.len() + rng.below(11),
         };
         let case = Case::new(number, &bytes);
-        counts.add(check_write(&case, &record, room, rng));
+        tally.add(refused(check_write(&case, &record, room, rng)));
     }
-    counts.report("random writings", &[0, 3, 4, 5, 15], LEAST);
+    tally.report("random writings", &codec_answers(Giver::Writer), LEAST);
 }
 
 #[test]
 fn random_transactions() {
-    let mut counts = Counts::default();
+    let mut tally = Tally::default();
     for number in 0..TRANSACTIONS {
         let rng = &mut Rng::new(SEED, number);
         let before = transaction(rng);
@@ -108,10 +106,10 @@ fn random_transactions() {
             damage_transaction(rng, &mut after);
         }
         let genesis = rng.pick(&[128, 128, 32, 64, 4, 1, 0, 127, 129, 255]);
-        counts.add(check_cause(number, genesis, &after));
+        tally.add(refused(check_cause(number, genesis, &after)));
         check_same(number, &before, &after);
         check_shard(number, rng.below(8) as u8, &after);
         check_shard(number, rng.byte(), &after);
     }
-    counts.report("random transactions", &[0, 3, 4, 5], LEAST);
+    tally.report("random transactions", &numbered(&[0, 3, 4, 5]), LEAST);
 }

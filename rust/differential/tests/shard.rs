@@ -1,11 +1,10 @@
 //! Weeks of a lone shard.
 
-use differential::{
-    ANSWERS, EVENTS, Player, Rng, SEED, SHARD_REFUSALS, Shards, count_weeks, full_shard_week,
-    shards,
-};
+use differential::{Player, Rng, SEED, Shards, full_shard_week, shards};
 use reference::Record;
-use weeks::{Tally, label, shard_week};
+use weeks::{
+    Giver, Playable, SHARD_EVENTS, Tally, count_weeks, given_by, never_given_by, shard_week,
+};
 
 const WEEKS: u64 = 42_000;
 const CALLS: usize = 10_000_000;
@@ -26,11 +25,8 @@ fn play(
     let mut player = Player::shard(week, &mut shards[usize::from(number)]);
     for record in records {
         let played = player.call(record);
-        match played.before {
-            Some(before) => tally.shard_call(record, played.answer, before, player.reference()),
-            // It is for another shard.
-            None => tally.add(label(played.answer)),
-        }
+        let after = player.reference().shards();
+        tally.call(record, played.answer, played.before, after);
     }
     records.len()
 }
@@ -43,11 +39,9 @@ fn random_weeks_of_a_shard() {
     });
     assert!(calls >= CALLS, "{calls} calls only");
     let title = format!("a shard, {calls} calls in {WEEKS} weeks");
-    let labels = [&SHARD_REFUSALS[..], &ANSWERS, &EVENTS].concat();
-    tally.report(&title, &labels, LEAST);
-    for never in ["YES ABORT", "NO COMMIT", "REFUSED 16"] {
-        assert_eq!(tally.count(never), 0, "{never}");
-    }
+    tally.report(&title, &given_by(&[Giver::Shard]), LEAST);
+    tally.check(&title, &SHARD_EVENTS, LEAST);
+    tally.check_never(&title, &never_given_by(&[Giver::Shard]));
 }
 
 /// Weeks without damage that soon reach both limits.

@@ -2,10 +2,11 @@
 //! records read and written, their equality and their shards.
 
 use differential::{
-    Counts, Field, Rng, SEED, base, check_cause, check_same, check_shard, check_transaction,
+    Field, Rng, SEED, base, check_cause, check_same, check_shard, check_transaction, numbered,
     transaction,
 };
 use reference::{SLOTS, TokenId, Transaction};
+use weeks::{Tally, refused};
 
 /// A plain transaction for every pair of counts, of genesis and of made tokens.
 fn bases() -> impl Iterator<Item = Transaction> {
@@ -20,18 +21,19 @@ fn pairs() -> impl Iterator<Item = (usize, usize)> {
 
 #[test]
 fn every_field_at_its_edges() {
-    let mut counts = Counts::default();
+    let mut tally = Tally::default();
     let mut number = 0;
     for base in bases() {
         for field in Field::all() {
             let every_byte = if field.bits() == 8 { 0..256 } else { 0..0 };
             for value in every_byte.chain(field.edges().iter().copied()) {
-                counts.add(check_transaction(number, &field.set(&base, value)));
+                let answer = check_transaction(number, &field.set(&base, value));
+                tally.add(refused(answer));
                 number += 1;
             }
         }
     }
-    counts.report("fields at their edges", &[0, 3, 5], 1000);
+    tally.report("fields at their edges", &numbered(&[0, 3, 5]), 1000);
 }
 
 /// The answers are document 01's, not only the reference's.

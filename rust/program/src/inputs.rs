@@ -48,12 +48,7 @@ pub fn input(case: u64, short: bool) -> Input {
     let mut kind = None;
     match damage {
         "as it is" => {}
-        "bytes changed" => {
-            for _ in 0..=rng.below(4) {
-                let place = rng.below(bytes.len());
-                bytes[place] = rng.byte();
-            }
-        }
+        "bytes changed" => change_bytes(&mut rng, &mut bytes),
         "cut" => bytes.truncate(rng.below(bytes.len() + 1)),
         "another kind" => {
             // Every value in turn.
@@ -62,37 +57,18 @@ pub fn input(case: u64, short: bool) -> Input {
             kind = Some(value);
         }
         "bytes inserted" => {
-            let mut more = vec![0; 1 + rng.below(12)];
-            rng.fill(&mut more);
+            let more = rng.bytes(12);
             let place = rng.below(bytes.len() + 1);
             bytes.splice(place..place, more);
         }
-        "bytes removed" => {
-            let from = rng.below(bytes.len());
-            let to = bytes.len().min(from + 1 + rng.below(110));
-            bytes.drain(from..to);
-        }
+        "bytes removed" => rng.remove_from(&mut bytes, 110),
         "random bytes" => bytes = random_bytes(&mut rng),
         "records again" => {
-            let from = rng.pick(&starts);
-            let to = rng.pick(&starts);
+            let (from, to) = (rng.pick(&starts), rng.pick(&starts));
             bytes.extend_from_within(from.min(to)..from.max(to));
         }
-        "bits turned" => {
-            for _ in 0..=rng.below(3) {
-                let place = rng.below(bytes.len());
-                bytes[place] ^= 1 << rng.below(8);
-            }
-        }
-        // Without the beginning, and perhaps from within a record.
-        "a part alone" => {
-            let from = if rng.once_in(2) {
-                rng.pick(&starts)
-            } else {
-                rng.below(bytes.len())
-            };
-            bytes.drain(..from);
-        }
+        "bits turned" => turn_bits(&mut rng, &mut bytes),
+        "a part alone" => leave_part(&mut rng, &mut bytes, &starts),
         _ => unreachable!("each damage is above"),
     }
     Input {
@@ -100,6 +76,30 @@ pub fn input(case: u64, short: bool) -> Input {
         damage,
         kind,
     }
+}
+
+fn change_bytes(rng: &mut Rng, bytes: &mut [u8]) {
+    for _ in 0..=rng.below(4) {
+        let place = rng.below(bytes.len());
+        bytes[place] = rng.byte();
+    }
+}
+
+fn turn_bits(rng: &mut Rng, bytes: &mut [u8]) {
+    for _ in 0..=rng.below(3) {
+        let place = rng.below(bytes.len());
+        bytes[place] ^= 1 << rng.below(8);
+    }
+}
+
+/// Without the beginning, and perhaps from within a record.
+fn leave_part(rng: &mut Rng, bytes: &mut Vec<u8>, starts: &[usize]) {
+    let from = if rng.once_in(2) {
+        rng.pick(starts)
+    } else {
+        rng.below(bytes.len())
+    };
+    bytes.drain(..from);
 }
 
 /// Some forty records on average, without the short ones; now and then a week

@@ -6,16 +6,16 @@
 #![warn(missing_docs)]
 
 mod inputs;
+mod listed;
 mod process;
-mod tally;
 mod weeks;
 
 pub use inputs::{DAMAGES, Input, encode_all, input};
+pub use listed::{count_listing, listing_labels};
 pub use process::{
     CHUNKS, PATIENCE, ends_by_closed_pipe, fed, full_device, list, list_split, output, program,
     root, spawn, stdin, wait, wait_until_asleep, write_parts,
 };
-pub use tally::Tally;
 pub use weeks::{Week, example, votes_again, week_files, weeks};
 
 use weektext::text;

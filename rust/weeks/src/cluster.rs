@@ -1,11 +1,12 @@
 //! Random weeks of a cluster.
 
 use reference::{
-    Cluster, Input, LIMITS, Record, SLOTS, Shard, TokenId, Transaction, Verdict, takes_part,
+    Cluster, Input, LIMITS, Record, SLOTS, Shard, Token, TokenId, Transaction, Verdict, takes_part,
 };
 
 use crate::rng::Rng;
-use crate::transactions::{add_input, damage, known, owner, transfer, variant};
+use crate::transactions::{add_input, known, transfer, variant};
+use crate::week::{Plan, Week, Wrong};
 
 /// What a week is like.
 #[derive(Clone, Copy, Debug)]
@@ -68,63 +69,31 @@ pub fn cluster_week(rng: &mut Rng) -> Vec<Record> {
 pub fn cluster_week_of(rng: &mut Rng, style: ClusterStyle) -> Vec<Record> {
     let first = rng.below(8);
     let next = if rng.once_in(4) { u32::MAX - 6 } else { 1 };
-    let mut week = Week {
-        rng,
-        style,
-        shards: (0..style.shards)
-            .map(|number| ((first + number) % 8) as u8)
-            .collect(),
-        cluster: Cluster::new(LIMITS),
-        transactions: Vec::new(),
-        tokens: Vec::new(),
-        next,
-        records: Vec::with_capacity(style.calls),
+    let plan = Plan {
+        calls: style.calls,
+        amounts: style.amounts,
+        damage: style.damage,
     };
+    let mut week = Week::new(rng, style, plan, Cluster::new(LIMITS), next);
+    let shards = (0..style.shards).map(|number| ((first + number) % 8) as u8);
+    week.shards = shards.collect();
     week.mints();
-    while week.records.len() < style.calls {
+    while !week.is_over() {
         week.step();
     }
     week.records
 }
 
-/// The week so far. The cluster is played along, so that calls can be aimed at
-/// what it holds and knows.
-struct Week<'a> {
-    rng: &'a mut Rng,
-    style: ClusterStyle,
-    shards: Vec<u8>,
-    cluster: Cluster,
-    transactions: Vec<Transaction>,
-    /// Inputs that named a token, for tokens that may be gone.
-    tokens: Vec<Input>,
-    next: u32,
-    records: Vec<Record>,
-}
-
-impl Week<'_> {
-    fn send(&mut self, mut record: Record) {
-        let damaged = self.style.damage.is_some_and(|once| self.rng.once_in(once));
-        if damaged {
-            damage(self.rng, &mut record);
-            // Then the first refusal in order has to win.
-            if self.rng.once_in(3) {
-                damage(self.rng, &mut record);
-            }
-        }
-        // Nothing depends on the answer, only on what the cluster keeps.
-        let _ = self.cluster.play(&record);
-        self.records.push(record);
-    }
-
+impl Week<'_, ClusterStyle, Cluster> {
     fn shard(&self, number: u8) -> &Shard {
-        &self.cluster.shards()[usize::from(number)]
+        &self.ledger.shards()[usize::from(number)]
     }
 
     fn mints(&mut self) {
         let start = self.rng.below(128);
         for index in 0..self.style.mints {
             for place in 0..self.shards.len() {
-                if self.records.len() < self.style.calls {
+                if !self.is_over() {
                     self.mint(self.shards[place], ((start + index) % 128) as u8);
                 }
             }
@@ -133,16 +102,6 @@ impl Week<'_> {
                 self.mint(shard, start as u8);
             }
         }
-    }
-
-    fn mint(&mut self, receiver: u8, index: u8) {
-        let record = Record::Mint {
-            receiver,
-            index,
-            owner: owner(self.rng),
-            amount: self.rng.between(1, self.style.amounts),
-        };
-        self.send(record);
     }
 
     fn step(&mut self) {
@@ -156,6 +115,19 @@ impl Week<'_> {
         let transaction = self.transaction();
         match self.rng.below(40) {
             0..18 => self.missing_registration(),
+            choice @ 18..23 => self.odd_registration(choice, transaction),
+            choice @ 23..37 => self.odd_vote(choice, transaction),
+            _ => {
+                let (shard, index) = (self.rng.below(9), self.rng.below(128));
+                self.mint(shard as u8, index as u8);
+            }
+        }
+    }
+
+    /// A registration that may come again, be another's or be for no shard of
+    /// the transaction.
+    fn odd_registration(&mut self, choice: usize, transaction: Transaction) {
+        match choice {
             18..20 => {
                 let shard = self.shard_of(&transaction);
                 self.register(shard, transaction);
@@ -168,11 +140,17 @@ impl Week<'_> {
                 let shard = self.shard_of(&other);
                 self.register(shard, other);
             }
-            22 => {
+            _ => {
                 let shard = self.rng.below(8) as u8;
                 self.register(shard, transaction);
             }
-            // Repeats, and votes that are too early.
+        }
+    }
+
+    /// A vote that may come again or too early, be another's, be of no shard of
+    /// the transaction or for none, or be the receiver's own.
+    fn odd_vote(&mut self, choice: usize, transaction: Transaction) {
+        match choice {
             23..32 => {
                 let sender = self.shard_of(&transaction);
                 let receiver = self.shard_of(&transaction);
@@ -187,13 +165,9 @@ impl Week<'_> {
                 let (sender, receiver) = (self.shard_of(&other), self.shard_of(&other));
                 self.deliver(sender, receiver, other);
             }
-            36 => {
+            _ => {
                 let sender = self.shard_of(&transaction);
                 self.deliver(sender, sender, transaction);
-            }
-            _ => {
-                let (shard, index) = (self.rng.below(9), self.rng.below(128));
-                self.mint(shard as u8, index as u8);
             }
         }
     }
@@ -274,12 +248,6 @@ impl Week<'_> {
         self.register(shard, new);
     }
 
-    /// One of the transaction's shards.
-    fn shard_of(&mut self, transaction: &Transaction) -> u8 {
-        let shards: Vec<u8> = transaction.shards().collect();
-        self.rng.pick(&shards)
-    }
-
     /// One of the transactions so far, mostly a late one.
     fn transaction(&mut self) -> Transaction {
         let all = self.transactions.len();
@@ -323,8 +291,7 @@ impl Week<'_> {
         if !self.transactions.is_empty() && self.rng.once_in(20) {
             return self.transaction().number;
         }
-        self.next = self.next.checked_add(1).unwrap_or(1);
-        self.next
+        self.next_number()
     }
 
     /// A token, mostly one that is available.
@@ -332,71 +299,63 @@ impl Week<'_> {
         let choice = self.rng.below(40);
         match choice {
             0 => return self.missing_input(number),
-            1..4 if !self.tokens.is_empty() => {
-                return self.tokens[self.rng.below(self.tokens.len())];
-            }
-            // An output that may not be made yet.
-            4..9 if !self.transactions.is_empty() => {
-                let creator = self.transaction();
-                let index = self.rng.below(creator.output_count.into());
-                let output = creator.outputs[index];
-                return Input {
-                    token: TokenId {
-                        shard: output.shard,
-                        creator: creator.number,
-                        index: index as u8,
-                    },
-                    owner: output.owner,
-                    amount: output.amount,
-                };
-            }
+            1..4 if !self.tokens.is_empty() => return self.named_before(),
+            4..9 if !self.transactions.is_empty() => return self.output_of_another(),
             _ => {}
         }
+        let Some((shard, token)) = self.token_held(choice == 10) else {
+            return self.missing_input(number);
+        };
+        let wrong = match choice {
+            11 => Wrong::Owner,
+            12 => Wrong::Amount,
+            _ => Wrong::Nothing,
+        };
+        self.held(shard, token, wrong)
+    }
+
+    /// A token held, mostly one that is not pledged, unless any will do.
+    fn token_held(&mut self, any: bool) -> Option<(u8, Token)> {
         let mut found = None;
         for _ in 0..8 {
             let shard = self.rng.pick(&self.shards);
-            let tokens = self.cluster.shards()[usize::from(shard)].tokens();
+            let tokens = self.ledger.shards()[usize::from(shard)].tokens();
             if tokens.is_empty() {
                 continue;
             }
             let token = tokens[self.rng.below(tokens.len())];
             found = Some((shard, token));
-            if token.pledge.is_none() || choice == 10 {
+            if token.pledge.is_none() || any {
                 break;
             }
         }
-        let Some((shard, token)) = found else {
-            return self.missing_input(number);
-        };
-        let mut input = Input {
+        found
+    }
+
+    /// An output that may not be made yet.
+    fn output_of_another(&mut self) -> Input {
+        let creator = self.transaction();
+        let index = self.rng.below(creator.output_count.into());
+        let output = creator.outputs[index];
+        Input {
             token: TokenId {
-                shard,
-                creator: token.creator,
-                index: token.index,
+                shard: output.shard,
+                creator: creator.number,
+                index: index as u8,
             },
-            owner: token.owner,
-            amount: token.amount,
-        };
-        self.tokens.push(input);
-        match choice {
-            11 => input.owner = owner(self.rng),
-            12 => input.amount = self.rng.between(1, self.style.amounts),
-            _ => {}
+            owner: output.owner,
+            amount: output.amount,
         }
-        input
     }
 
     /// A token that never was, or the transaction's own output.
     fn missing_input(&mut self, number: u32) -> Input {
         let creator = if self.rng.once_in(2) { number } else { 0 };
-        Input {
-            token: TokenId {
-                shard: self.rng.pick(&self.shards),
-                creator,
-                index: self.rng.below(SLOTS) as u8,
-            },
-            owner: owner(self.rng),
-            amount: self.rng.between(1, self.style.amounts),
-        }
+        let token = TokenId {
+            shard: self.rng.pick(&self.shards),
+            creator,
+            index: self.rng.below(SLOTS) as u8,
+        };
+        self.guessed(token)
     }
 }

@@ -1,24 +1,39 @@
 //! Weeks of calls to try on a shard or a cluster, in random and in all orders,
-//! and demand 3's clauses. Needs the reference only, not the proved engine.
+//! demand 3's clauses, and what the tests of all crates count with: the table
+//! of answers and the tallies. Needs the reference only, not the proved engine.
 
 #![forbid(unsafe_code)]
 #![warn(missing_docs)]
 
+mod answers;
+mod case;
 mod clauses;
 mod cluster;
+mod events;
+mod ledger;
 mod orders;
 mod rng;
 mod shard;
+mod share;
 mod tally;
 mod transactions;
+mod week;
 
+pub use answers::{
+    ACCEPTED, CAUSES, Cause, DONE, Giver, Reply, carried_out, changes_nothing, given_by, label,
+    never_given_by, refused, replies,
+};
+pub use case::Case;
 pub use clauses::{Clauses, View, views};
 pub use cluster::{ClusterStyle, cluster_week, cluster_week_of};
+pub use events::{Before, CLUSTER_EVENTS, SHARD_EVENTS};
+pub use ledger::Playable;
 pub use orders::{Scenario, scenarios};
 pub use rng::Rng;
 pub use shard::{ShardStyle, shard_week, shard_week_of};
-pub use tally::{Before, Tally, label};
-pub use transactions::receiver;
+pub use share::{count_weeks, share_out};
+pub use tally::Tally;
+pub use transactions::{Part, amounts_between, part, receiver};
 
 /// Start of every random sequence; a failure prints it with the case's number.
 pub const SEED: u64 = 0x5EED_0001;

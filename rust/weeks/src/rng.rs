@@ -49,4 +49,18 @@ impl Rng {
             part.copy_from_slice(&self.bits().to_le_bytes()[..part.len()]);
         }
     }
+
+    /// Random bytes: one at least, and no more than so many.
+    pub fn bytes(&mut self, most: usize) -> Vec<u8> {
+        let mut bytes = vec![0; 1 + self.below(most)];
+        self.fill(&mut bytes);
+        bytes
+    }
+
+    /// Removes one byte at least, and no more than so many, at any place.
+    pub fn remove_from(&mut self, bytes: &mut Vec<u8>, most: usize) {
+        let from = self.below(bytes.len());
+        let to = bytes.len().min(from + 1 + self.below(most));
+        bytes.drain(from..to);
+    }
 }

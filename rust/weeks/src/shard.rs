@@ -3,7 +3,8 @@
 use reference::{Input, LIMITS, Record, SLOTS, Shard, TokenId, Transaction, Verdict};
 
 use crate::rng::Rng;
-use crate::transactions::{add_input, damage, owner, transfer, variant};
+use crate::transactions::{add_input, transfer, variant};
+use crate::week::{Plan, Week, Wrong};
 
 /// What a week is like.
 #[derive(Clone, Copy, Debug)]
@@ -64,51 +65,23 @@ pub fn shard_week_of(rng: &mut Rng, style: ShardStyle) -> (u8, Vec<Record>) {
         1 => rng.between(1, u32::MAX),
         _ => 1,
     };
-    let mut week = Week {
-        rng,
-        style,
-        here,
-        shard: Shard::new(here, LIMITS),
-        transactions: Vec::new(),
-        tokens: Vec::new(),
-        next,
-        records: Vec::with_capacity(style.calls),
+    let shard = Shard::new(here, LIMITS);
+    let plan = Plan {
+        calls: style.calls,
+        amounts: style.amounts,
+        damage: style.damage,
     };
+    let mut week = Week::new(rng, style, plan, shard, next);
     week.mints();
-    while week.records.len() < style.calls {
+    while !week.is_over() {
         week.step();
     }
     (here, week.records)
 }
 
-/// The week so far. The shard is played along, so that calls can be aimed at
-/// what it holds and knows.
-struct Week<'a> {
-    rng: &'a mut Rng,
-    style: ShardStyle,
-    here: u8,
-    shard: Shard,
-    /// All that were handed to the shard.
-    transactions: Vec<Transaction>,
-    /// Inputs that named a token here, for tokens that may be gone.
-    tokens: Vec<Input>,
-    next: u32,
-    records: Vec<Record>,
-}
-
-impl Week<'_> {
-    fn send(&mut self, mut record: Record) {
-        let damaged = self.style.damage.is_some_and(|once| self.rng.once_in(once));
-        if damaged {
-            damage(self.rng, &mut record);
-            // Then the first refusal in order has to win.
-            if self.rng.once_in(3) {
-                damage(self.rng, &mut record);
-            }
-        }
-        // Nothing depends on the answer, only on what the shard keeps.
-        let _ = self.shard.play(&record);
-        self.records.push(record);
+impl Week<'_, ShardStyle, Shard> {
+    fn here(&self) -> u8 {
+        self.ledger.number()
     }
 
     fn mints(&mut self) {
@@ -116,22 +89,12 @@ impl Week<'_> {
         let (start, stride) = (self.rng.below(128), 1 + 2 * self.rng.below(64));
         for number in 0..self.style.mints.min(self.style.calls) {
             let index = ((start + number * stride) % 128) as u8;
-            self.mint(index);
+            self.mint(self.here(), index);
             if self.rng.once_in(12) {
                 let given = ((start + self.rng.below(number + 1) * stride) % 128) as u8;
-                self.mint(given);
+                self.mint(self.here(), given);
             }
         }
-    }
-
-    fn mint(&mut self, index: u8) {
-        let record = Record::Mint {
-            receiver: self.here,
-            index,
-            owner: owner(self.rng),
-            amount: self.rng.between(1, self.style.amounts),
-        };
-        self.send(record);
     }
 
     fn step(&mut self) {
@@ -163,7 +126,7 @@ impl Week<'_> {
             90..94 => self.elsewhere(),
             94..97 => {
                 let index = self.rng.below(128) as u8;
-                self.mint(index);
+                self.mint(self.here(), index);
             }
             _ => self.other_receiver(),
         }
@@ -171,7 +134,7 @@ impl Week<'_> {
 
     fn register(&mut self, transaction: Transaction) {
         self.send(Record::Register {
-            receiver: self.here,
+            receiver: self.here(),
             transaction,
         });
         self.transactions.push(transaction);
@@ -179,7 +142,7 @@ impl Week<'_> {
 
     fn send_vote(&mut self, sender: u8, verdict: u8, transaction: Transaction) {
         self.send(Record::Vote {
-            receiver: self.here,
+            receiver: self.here(),
             sender,
             verdict,
             transaction,
@@ -188,8 +151,7 @@ impl Week<'_> {
 
     /// A vote of one of the transaction's shards, whatever was heard.
     fn vote(&mut self, transaction: Transaction) {
-        let shards: Vec<u8> = transaction.shards().collect();
-        let (sender, verdict) = (self.rng.pick(&shards), self.verdict());
+        let (sender, verdict) = (self.shard_of(&transaction), self.verdict());
         self.send_vote(sender, verdict, transaction);
     }
 
@@ -200,10 +162,10 @@ impl Week<'_> {
     /// A vote not heard yet, on a transaction known here.
     fn fresh_vote(&mut self) {
         for _ in 0..8 {
-            if self.shard.known().is_empty() {
+            if self.ledger.known().is_empty() {
                 break;
             }
-            let known = self.shard.known()[self.rng.below(self.shard.known().len())];
+            let known = self.ledger.known()[self.rng.below(self.ledger.known().len())];
             let heard = |shard: &u8| known.heard[usize::from(*shard)].is_some();
             let missing: Vec<u8> = known.transaction.shards().filter(|s| !heard(s)).collect();
             if !missing.is_empty() {
@@ -217,10 +179,10 @@ impl Week<'_> {
 
     /// A vote heard before, its own included, or its contrary.
     fn vote_again(&mut self) {
-        if self.shard.known().is_empty() {
+        if self.ledger.known().is_empty() {
             return self.step();
         }
-        let known = self.shard.known()[self.rng.below(self.shard.known().len())];
+        let known = self.ledger.known()[self.rng.below(self.ledger.known().len())];
         let heard: Vec<(u8, Verdict)> = (0..)
             .zip(known.heard)
             .filter_map(|(sender, verdict)| Some((sender, verdict?)))
@@ -240,7 +202,8 @@ impl Week<'_> {
         match self.rng.below(3) {
             0 => self.send_vote(sender, verdict, transaction),
             choice => {
-                let away = |shard: &mut u8| *shard = (*shard + u8::from(*shard == self.here)) % 8;
+                let here = self.here();
+                let away = |shard: &mut u8| *shard = (*shard + u8::from(*shard == here)) % 8;
                 let inputs = usize::from(transaction.input_count);
                 for input in &mut transaction.inputs[..inputs] {
                     away(&mut input.token.shard);
@@ -305,7 +268,7 @@ impl Week<'_> {
         }
         let shards: [u8; 8] = std::array::from_fn(|part| {
             if local || part < self.style.here {
-                self.here
+                self.here()
             } else {
                 self.rng.below(8) as u8
             }
@@ -317,73 +280,55 @@ impl Week<'_> {
         if !self.transactions.is_empty() && self.rng.once_in(25) {
             return self.old_transaction().number;
         }
-        self.next = self.next.checked_add(1).unwrap_or(1);
-        self.next
+        self.next_number()
     }
 
     /// A token here, mostly one that is available.
     fn input_here(&mut self, number: u32) -> Input {
         let choice = self.rng.below(20);
-        if choice == 0 || self.shard.tokens().is_empty() {
+        if choice == 0 || self.ledger.tokens().is_empty() {
             return self.missing_input(number);
         }
-        let tokens = self.shard.tokens();
+        let tokens = self.ledger.tokens();
         let mut token = tokens[self.rng.below(tokens.len())];
         for _ in 0..4 {
             if choice > 2 && token.pledge.is_some() {
                 token = tokens[self.rng.below(tokens.len())];
             }
         }
-        let mut input = Input {
-            token: TokenId {
-                shard: self.here,
-                creator: token.creator,
-                index: token.index,
-            },
-            owner: token.owner,
-            amount: token.amount,
+        let wrong = match choice {
+            1 => Wrong::Owner,
+            2 => Wrong::Amount,
+            _ => Wrong::Nothing,
         };
-        self.tokens.push(input);
-        match choice {
-            1 => input.owner = owner(self.rng),
-            2 => input.amount = self.rng.between(1, self.style.amounts),
-            _ => {}
-        }
-        input
+        self.held(self.here(), token, wrong)
     }
 
     /// A token that may be gone, is still to be made, or never was.
     fn missing_input(&mut self, number: u32) -> Input {
         if !self.tokens.is_empty() && self.rng.once_in(2) {
-            return self.tokens[self.rng.below(self.tokens.len())];
+            return self.named_before();
         }
         let creator = match self.rng.below(3) {
             0 => number,
-            1 => self.next,
+            1 => self.last,
             _ => 0,
         };
         let index = self.rng.below(if creator == 0 { 128 } else { SLOTS }) as u8;
-        Input {
-            token: TokenId {
-                shard: self.here,
-                creator,
-                index,
-            },
-            owner: owner(self.rng),
-            amount: self.rng.between(1, self.style.amounts),
-        }
+        self.guessed(TokenId {
+            shard: self.here(),
+            creator,
+            index,
+        })
     }
 
     /// Any token of another shard: a lone shard cannot know.
     fn input_elsewhere(&mut self) -> Input {
-        Input {
-            token: TokenId {
-                shard: (self.here + 1 + self.rng.below(7) as u8) % 8,
-                creator: self.rng.between(0, 3),
-                index: self.rng.below(SLOTS) as u8,
-            },
-            owner: owner(self.rng),
-            amount: self.rng.between(1, self.style.amounts),
-        }
+        let token = TokenId {
+            shard: (self.here() + 1 + self.rng.below(7) as u8) % 8,
+            creator: self.rng.between(0, 3),
+            index: self.rng.below(SLOTS) as u8,
+        };
+        self.guessed(token)
     }
 }

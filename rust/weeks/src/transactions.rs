@@ -5,7 +5,7 @@ use reference::{Input, Known, MAX_AMOUNT, Output, Record, SLOTS, Shard, Transact
 use crate::rng::Rng;
 
 /// Ends of the ranges, one beyond, and what a mistaken width would make of
-/// them.
+/// them: few, so that a week meets each.
 const BYTES: [u8; 12] = [0, 1, 2, 3, 4, 5, 7, 8, 127, 128, 254, 255];
 const WORDS: [u32; 12] = [
     0,
@@ -53,6 +53,14 @@ pub(crate) fn add_input(inputs: &mut Vec<Input>, input: Input) {
     }
 }
 
+/// The least and the most that one amount may be, so that it and so many later
+/// ones, all in range, can share what is left.
+pub fn amounts_between(left: u32, later: u32) -> (u32, u32) {
+    let least = left.saturating_sub(later * MAX_AMOUNT).max(1);
+    let most = (left - later).min(MAX_AMOUNT);
+    (least, most)
+}
+
 /// A valid transaction with these inputs, one to four of them, and outputs at
 /// these shards.
 pub(crate) fn transfer(rng: &mut Rng, number: u32, inputs: &[Input], shards: &[u8]) -> Transaction {
@@ -68,8 +76,7 @@ pub(crate) fn transfer(rng: &mut Rng, number: u32, inputs: &[Input], shards: &[u
     transaction.inputs[..inputs.len()].copy_from_slice(inputs);
     for slot in 0..count {
         let later = count - slot - 1;
-        let low = left.saturating_sub(later * MAX_AMOUNT).max(1);
-        let high = (left - later).min(MAX_AMOUNT);
+        let (low, high) = amounts_between(left, later);
         // Even shares keep amounts large enough to be split again.
         let share = (left / (later + 1)).clamp(low, high);
         let amount = if rng.once_in(3) {
@@ -111,43 +118,37 @@ pub(crate) fn variant(rng: &mut Rng, transaction: &Transaction) -> Transaction {
     }
 }
 
-enum Field<'a> {
+/// A part of a record that a damage falls on.
+pub enum Part<'a> {
+    /// A field of one byte.
     Byte(&'a mut u8),
+    /// A field of four bytes.
     Word(&'a mut u32),
+    /// The whole transaction.
+    Transaction(&'a mut Transaction),
 }
 
-impl Field<'_> {
-    /// Gives the field an edge value, or turns one of its bits.
-    fn damage(self, rng: &mut Rng) {
-        match self {
-            Field::Byte(byte) if rng.once_in(2) => *byte ^= 1 << rng.below(8),
-            Field::Byte(byte) => *byte = rng.pick(&BYTES),
-            Field::Word(word) if rng.once_in(2) => *word ^= 1 << rng.below(32),
-            Field::Word(word) => *word = rng.pick(&WORDS),
-        }
-    }
-}
-
-/// Does one damage to the record. A few damages leave it valid.
-pub(crate) fn damage(rng: &mut Rng, record: &mut Record) {
+/// One of the record's parts: each field in front of a transaction once in so
+/// many times, else the transaction; any field of a mint.
+pub fn part<'a>(rng: &mut Rng, record: &'a mut Record, times: usize) -> Part<'a> {
     match record {
         Record::Register {
             receiver,
             transaction,
-        } => match rng.below(12) {
-            0 => Field::Byte(receiver).damage(rng),
-            _ => damage_transaction(rng, transaction),
+        } => match rng.below(times) {
+            0 => Part::Byte(receiver),
+            _ => Part::Transaction(transaction),
         },
         Record::Vote {
             receiver,
             sender,
             verdict,
             transaction,
-        } => match rng.below(12) {
-            0 => Field::Byte(receiver).damage(rng),
-            1 => Field::Byte(sender).damage(rng),
-            2 => Field::Byte(verdict).damage(rng),
-            _ => damage_transaction(rng, transaction),
+        } => match rng.below(times) {
+            0 => Part::Byte(receiver),
+            1 => Part::Byte(sender),
+            2 => Part::Byte(verdict),
+            _ => Part::Transaction(transaction),
         },
         Record::Mint {
             receiver,
@@ -155,12 +156,31 @@ pub(crate) fn damage(rng: &mut Rng, record: &mut Record) {
             owner,
             amount,
         } => match rng.below(4) {
-            0 => Field::Byte(receiver).damage(rng),
-            1 => Field::Byte(index).damage(rng),
-            2 => Field::Word(owner).damage(rng),
-            _ => Field::Word(amount).damage(rng),
+            0 => Part::Byte(receiver),
+            1 => Part::Byte(index),
+            2 => Part::Word(owner),
+            _ => Part::Word(amount),
         },
     }
+}
+
+impl Part<'_> {
+    /// Gives a field an edge value, or turns one of its bits; a transaction
+    /// has damages of its own.
+    fn damage(self, rng: &mut Rng) {
+        match self {
+            Part::Byte(byte) if rng.once_in(2) => *byte ^= 1 << rng.below(8),
+            Part::Byte(byte) => *byte = rng.pick(&BYTES),
+            Part::Word(word) if rng.once_in(2) => *word ^= 1 << rng.below(32),
+            Part::Word(word) => *word = rng.pick(&WORDS),
+            Part::Transaction(transaction) => damage_transaction(rng, transaction),
+        }
+    }
+}
+
+/// Does one damage to the record. A few damages leave it valid.
+pub(crate) fn damage(rng: &mut Rng, record: &mut Record) {
+    part(rng, record, 12).damage(rng);
 }
 
 fn damage_transaction(rng: &mut Rng, transaction: &mut Transaction) {
@@ -172,26 +192,26 @@ fn damage_transaction(rng: &mut Rng, transaction: &mut Transaction) {
         // Sums that differ by one.
         3..=5 if rng.once_in(2) => transaction.inputs[slot].amount ^= 1,
         3..=5 => transaction.outputs[0].amount ^= 1,
-        6 => Field::Byte(&mut transaction.input_count).damage(rng),
-        7 => Field::Byte(&mut transaction.output_count).damage(rng),
+        6 => Part::Byte(&mut transaction.input_count).damage(rng),
+        7 => Part::Byte(&mut transaction.output_count).damage(rng),
         8 => field(rng, transaction).damage(rng),
-        _ => Field::Word(&mut transaction.number).damage(rng),
+        _ => Part::Word(&mut transaction.number).damage(rng),
     }
 }
 
 /// A field of any slot, used or not.
-fn field<'a>(rng: &mut Rng, transaction: &'a mut Transaction) -> Field<'a> {
+fn field<'a>(rng: &mut Rng, transaction: &'a mut Transaction) -> Part<'a> {
     let slot = rng.below(SLOTS);
     let input = &mut transaction.inputs[slot];
     let output = &mut transaction.outputs[slot];
     match rng.below(8) {
-        0 => Field::Byte(&mut input.token.shard),
-        1 => Field::Word(&mut input.token.creator),
-        2 => Field::Byte(&mut input.token.index),
-        3 => Field::Word(&mut input.owner),
-        4 => Field::Word(&mut input.amount),
-        5 => Field::Byte(&mut output.shard),
-        6 => Field::Word(&mut output.owner),
-        _ => Field::Word(&mut output.amount),
+        0 => Part::Byte(&mut input.token.shard),
+        1 => Part::Word(&mut input.token.creator),
+        2 => Part::Byte(&mut input.token.index),
+        3 => Part::Word(&mut input.owner),
+        4 => Part::Word(&mut input.amount),
+        5 => Part::Byte(&mut output.shard),
+        6 => Part::Word(&mut output.owner),
+        _ => Part::Word(&mut output.amount),
     }
 }

@@ -3,34 +3,29 @@
 //! to shut out.
 
 use std::panic::{AssertUnwindSafe, catch_unwind};
-use std::thread;
 
 use reference::{
-    Answer, Cluster, Done, Input, Known, LIMITS, Output, Record, SHARDS, Token, TokenId,
-    Transaction, Verdict,
+    Answer, Cluster, Input, Known, LIMITS, Output, Record, SHARDS, Token, TokenId, Transaction,
+    Verdict,
 };
 use weeks::{
-    Before, Clauses, Rng, SEED, Tally, View, cluster_week, label, receiver, scenarios, shard_week,
-    views,
+    Before, Case, Clauses, Giver, Rng, SEED, Tally, View, changes_nothing, cluster_week, label,
+    never_given_by, scenarios, shard_week, views,
 };
 
 const WEEKS: u64 = 3000;
 
-/// Printed if a clause does not hold.
-struct Case<'a> {
-    week: u64,
-    call: usize,
-    record: &'a Record,
-}
-
-impl Drop for Case<'_> {
-    fn drop(&mut self) {
-        if thread::panicking() {
-            let Case { week, call, record } = self;
-            eprintln!("seed {SEED:#x}, week {week}, call {call}: {record:?}");
-        }
-    }
-}
+/// What the clauses have to be tried on.
+const MET: [&str; 8] = [
+    "HEARD COMMIT",
+    "HEARD ABORT",
+    "AGAIN COMMIT",
+    "made token destroyed",
+    "vote overtaking another",
+    "two commits of one number",
+    "serial ledger, all decided",
+    "serial ledger, some undecided",
+];
 
 #[test]
 fn random_weeks_keep_the_clauses() {
@@ -40,14 +35,14 @@ fn random_weeks_keep_the_clauses() {
         let mut cluster = Cluster::new(LIMITS);
         let mut clauses = Clauses::new();
         let mut commits = 0;
-        for (call, record) in records.iter().enumerate() {
-            let _case = Case { week, call, record };
-            let shard = cluster.shards().get(usize::from(receiver(record)));
-            let before = shard.map(Before::of);
+        for (call, record) in (0..).zip(&records) {
+            let handed = record;
+            let _case = Case { week, call, handed };
+            let before = Before::of(cluster.shards(), record);
             let answer = cluster.play(record);
-            tally.cluster_call(record, answer, before, &cluster);
+            tally.call(record, answer, before, cluster.shards());
             clauses.step(record, answer.is_err(), &views(&cluster));
-            if call % 16 == 0 || call + 1 == records.len() {
+            if call % 16 == 0 || call + 1 == records.len() as u64 {
                 tally.add(if clauses.serial() {
                     "serial ledger, all decided"
                 } else {
@@ -58,20 +53,7 @@ fn random_weeks_keep_the_clauses() {
             }
         }
     }
-    tally.report(
-        "clauses over random weeks",
-        &[
-            "HEARD COMMIT",
-            "HEARD ABORT",
-            "AGAIN COMMIT",
-            "made token destroyed",
-            "vote overtaking another",
-            "two commits of one number",
-            "serial ledger, all decided",
-            "serial ledger, some undecided",
-        ],
-        100,
-    );
+    tally.report("clauses over random weeks", &MET, 100);
 }
 
 #[test]
@@ -82,22 +64,22 @@ fn every_order_keeps_the_clauses() {
             let mut cluster = Cluster::new(LIMITS);
             let mut clauses = Clauses::new();
             let mut whole = false;
-            for (call, record) in records.iter().enumerate() {
+            for (call, record) in (0..).zip(records) {
                 let _case = Case {
                     week: order,
                     call,
-                    record,
+                    handed: record,
                 };
                 let answer = cluster.play(record);
                 tally.add(label(answer));
                 clauses.step(record, answer.is_err(), &views(&cluster));
-                if !matches!(answer, Err(_) | Ok(Done::Again(_))) {
+                if !changes_nothing(answer) {
                     whole = clauses.serial();
                 }
             }
             assert!(whole, "order {order} leaves a transaction undecided");
         });
-        tally.report(&format!("{}, {orders} orders", scenario.name), &[], 0);
+        tally.print(&format!("{}, {orders} orders", scenario.name));
     }
 }
 
@@ -118,9 +100,9 @@ fn answers_that_cannot_be() {
             cluster_tally.add(label(cluster.play(record)));
         }
     }
-    for never in ["YES ABORT", "NO COMMIT", "REFUSED 1", "REFUSED 2"] {
-        assert_eq!(lone.count(never) + cluster_tally.count(never), 0, "{never}");
-    }
+    lone.check_never("a lone shard", &never_given_by(&[Giver::Shard]));
+    cluster_tally.check_never("a cluster", &never_given_by(&[Giver::Cluster]));
+    // What tells the two apart.
     assert_eq!(lone.count("REFUSED 16"), 0);
     assert!(lone.count("REFUSED 12") > 0);
     assert_eq!(cluster_tally.count("REFUSED 12"), 0);

@@ -3,41 +3,29 @@
 use std::panic::catch_unwind;
 
 use plankeeper::answer_from_code;
-use reference::{Answer, Done, Outcome, Record, Refusal, Verdict};
+use reference::Record;
+use weeks::replies;
 
 use super::widths::{transaction, wide_transactions};
 use crate::places::TRANSACTION_WORDS;
 use crate::{Call, Words, answer, answer_code, from_words, to_words};
 
+/// Every answer of the table stands for itself on both sides, and no other
+/// number stands for one.
 #[test]
 fn answers_are_told_apart() {
-    let registered = |verdict, outcome| Ok(Done::Registered { verdict, outcome });
-    let answers: [(u32, Answer); 16] = [
-        (1, Err(Refusal::UnknownKind)),
-        (3, Err(Refusal::OutOfRange)),
-        (16, Err(Refusal::VoteNotGiven)),
-        (100, Ok(Done::Minted)),
-        (200, registered(Verdict::No, Outcome::Wait)),
-        (201, registered(Verdict::No, Outcome::Commit)),
-        (202, registered(Verdict::No, Outcome::Abort)),
-        (210, registered(Verdict::Yes, Outcome::Wait)),
-        (211, registered(Verdict::Yes, Outcome::Commit)),
-        (212, registered(Verdict::Yes, Outcome::Abort)),
-        (300, Ok(Done::Heard(Outcome::Wait))),
-        (301, Ok(Done::Heard(Outcome::Commit))),
-        (302, Ok(Done::Heard(Outcome::Abort))),
-        (400, Ok(Done::Again(Outcome::Wait))),
-        (401, Ok(Done::Again(Outcome::Commit))),
-        (402, Ok(Done::Again(Outcome::Abort))),
-    ];
-    for (code, expected) in answers {
+    for reply in replies() {
+        let code = reply.code;
         let ours = answer_from_code(code).expect("the code of an answer");
-        assert_eq!(answer(ours), expected, "{code}");
-        assert_eq!(answer_code(expected), code, "{expected:?}");
+        assert_eq!(answer(ours), reply.answer, "{code}");
+        assert_eq!(answer_code(reply.answer), code, "{reply:?}");
+        if let Ok(done) = ours {
+            assert_eq!(done.to_string(), reply.words, "{code}");
+        }
     }
-    for code in 1..=16 {
-        let ours = answer_from_code(code).expect("the code of a refusal");
-        assert_eq!(answer_code(answer(ours)), code);
+    for code in 0..=1_000 {
+        let listed = replies().any(|reply| reply.code == code);
+        assert_eq!(answer_from_code(code).is_some(), listed, "{code}");
     }
 }
 

@@ -3,7 +3,7 @@
 use std::sync::atomic::{AtomicU64, Ordering};
 use std::{iter, panic, thread};
 
-use weeks::Tally;
+use crate::tally::Tally;
 
 /// Shares the jobs 0 up to `jobs` out among the processors, each job to
 /// whichever is free, and gives what each has made of its own. Panics if one
@@ -14,6 +14,7 @@ pub fn share_out<T: Send>(
 ) -> Vec<T> {
     let next = AtomicU64::new(0);
     let worker = || {
+        let _stop = StopOthers { next: &next, jobs };
         let job = || Some(next.fetch_add(1, Ordering::Relaxed));
         work(&mut iter::from_fn(job).take_while(|&job| job < jobs))
     };
@@ -27,9 +28,24 @@ pub fn share_out<T: Send>(
     })
 }
 
+/// Lets the other workers come to their end, too, when this one fails.
+struct StopOthers<'a> {
+    next: &'a AtomicU64,
+    jobs: u64,
+}
+
+impl Drop for StopOthers<'_> {
+    fn drop(&mut self) {
+        if thread::panicking() {
+            self.next.store(self.jobs, Ordering::Relaxed);
+        }
+    }
+}
+
 /// Plays so many weeks, shared out, and gives all counts and the number of
-/// calls. `play` is handed the engine's memory of its processor, which `held`
-/// makes, and the week's number; it gives the number of calls.
+/// calls. `play` is handed what its processor holds, such as the engine's
+/// memory, which `held` makes, and the week's number; it gives the number of
+/// calls.
 pub fn count_weeks<E>(
     weeks: u64,
     held: impl Fn() -> E + Sync,
@@ -42,7 +58,7 @@ pub fn count_weeks<E>(
     });
     let (mut all, mut calls) = (Tally::default(), 0);
     for (tally, played) in counts {
-        all.join(&tally);
+        all.join(tally);
         calls += played;
     }
     (all, calls)

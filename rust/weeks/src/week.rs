@@ -1,0 +1,142 @@
+//! What the random weeks of a shard and of a cluster have in common.
+
+use reference::{Input, Record, Shard, Token, TokenId, Transaction};
+
+use crate::ledger::Playable;
+use crate::rng::Rng;
+use crate::transactions::{damage, owner};
+
+/// What every style of a week tells.
+#[derive(Clone, Copy)]
+pub(crate) struct Plan {
+    /// Calls in all.
+    pub calls: usize,
+    /// Amounts of genesis tokens, from 1.
+    pub amounts: u32,
+    /// One record in so many is damaged.
+    pub damage: Option<usize>,
+}
+
+/// The week so far. The shard or the cluster is played along, so that calls can
+/// be aimed at what it holds and knows.
+pub(crate) struct Week<'a, S, L> {
+    pub rng: &'a mut Rng,
+    pub style: S,
+    plan: Plan,
+    pub ledger: L,
+    /// The shards with tokens: all, if the week says nothing else.
+    pub shards: Vec<u8>,
+    /// All that were handed in.
+    pub transactions: Vec<Transaction>,
+    /// Inputs that named a token, for tokens that may be gone.
+    pub tokens: Vec<Input>,
+    /// The last number given.
+    pub last: u32,
+    pub records: Vec<Record>,
+}
+
+/// What an input says wrongly of the token that it names.
+pub(crate) enum Wrong {
+    Nothing,
+    Owner,
+    Amount,
+}
+
+impl<'a, S, L: Playable> Week<'a, S, L> {
+    /// Nothing is called yet. Transactions get the numbers behind `last`.
+    pub fn new(rng: &'a mut Rng, style: S, plan: Plan, ledger: L, last: u32) -> Self {
+        let shards = ledger.shards().iter().map(Shard::number).collect();
+        Week {
+            rng,
+            style,
+            plan,
+            ledger,
+            shards,
+            transactions: Vec::new(),
+            tokens: Vec::new(),
+            last,
+            records: Vec::with_capacity(plan.calls),
+        }
+    }
+
+    /// Whether the week has all its calls.
+    pub fn is_over(&self) -> bool {
+        self.records.len() >= self.plan.calls
+    }
+
+    /// Makes the call, now and then damaged.
+    pub fn send(&mut self, mut record: Record) {
+        let once = self.plan.damage;
+        if once.is_some_and(|once| self.rng.once_in(once)) {
+            damage(self.rng, &mut record);
+            // Then the first refusal in order has to win.
+            if self.rng.once_in(3) {
+                damage(self.rng, &mut record);
+            }
+        }
+        // Nothing depends on the answer, only on what the ledger keeps.
+        let _ = self.ledger.play(&record);
+        self.records.push(record);
+    }
+
+    /// A mint of any owner and amount.
+    pub fn mint(&mut self, receiver: u8, index: u8) {
+        let record = Record::Mint {
+            receiver,
+            index,
+            owner: owner(self.rng),
+            amount: self.amount(),
+        };
+        self.send(record);
+    }
+
+    fn amount(&mut self) -> u32 {
+        self.rng.between(1, self.plan.amounts)
+    }
+
+    /// The next number; behind the largest comes 1.
+    pub fn next_number(&mut self) -> u32 {
+        self.last = self.last.checked_add(1).unwrap_or(1);
+        self.last
+    }
+
+    /// One of the transaction's shards.
+    pub fn shard_of(&mut self, transaction: &Transaction) -> u8 {
+        let shards: Vec<u8> = transaction.shards().collect();
+        self.rng.pick(&shards)
+    }
+
+    /// An input that named a token before. There must be one.
+    pub fn named_before(&mut self) -> Input {
+        self.tokens[self.rng.below(self.tokens.len())]
+    }
+
+    /// The input of a token that the shard holds.
+    pub fn held(&mut self, shard: u8, token: Token, wrong: Wrong) -> Input {
+        let mut input = Input {
+            token: TokenId {
+                shard,
+                creator: token.creator,
+                index: token.index,
+            },
+            owner: token.owner,
+            amount: token.amount,
+        };
+        self.tokens.push(input);
+        match wrong {
+            Wrong::Nothing => {}
+            Wrong::Owner => input.owner = owner(self.rng),
+            Wrong::Amount => input.amount = self.amount(),
+        }
+        input
+    }
+
+    /// The input of a token of which nothing is known: any owner and amount.
+    pub fn guessed(&mut self, token: TokenId) -> Input {
+        Input {
+            token,
+            owner: owner(self.rng),
+            amount: self.amount(),
+        }
+    }
+}

@@ -1,0 +1,66 @@
+//! The table of answers, held to itself: every test that counts answers relies
+//! on it.
+
+use std::collections::BTreeSet;
+
+use reference::Refusal;
+use weeks::{
+    ACCEPTED, CAUSES, DONE, Giver, carried_out, given_by, label, never_given_by, refused, replies,
+};
+
+/// Rows are in the order of their numbers, and each row is told apart from all
+/// others by its number, its answer and its words.
+#[test]
+fn rows_are_told_apart() {
+    assert!(DONE.is_sorted_by_key(|reply| reply.code));
+    for (cause, number) in CAUSES.iter().zip(1..) {
+        assert_eq!(cause.reply.code, number, "{cause:?}");
+    }
+    let codes: BTreeSet<u32> = replies().map(|reply| reply.code).collect();
+    let words: BTreeSet<&str> = replies().map(|reply| reply.words).collect();
+    let all = DONE.len() + CAUSES.len();
+    assert_eq!((codes.len(), words.len()), (all, all));
+    for reply in replies() {
+        assert_eq!(label(reply.answer), reply.words, "{reply:?}");
+    }
+}
+
+/// Every refusal that the reference knows has its row, and no other number.
+#[test]
+fn every_refusal_has_its_row() {
+    for number in 1..=u8::MAX {
+        let found = CAUSES
+            .iter()
+            .find(|cause| cause.reply.code == number.into());
+        let answer = found.map(|cause| cause.reply.answer);
+        assert_eq!(answer, Refusal::from_number(number).map(Err), "{number}");
+        if found.is_some() {
+            assert_eq!(refused(number), format!("REFUSED {number}"));
+        }
+    }
+    assert_eq!(refused(0), ACCEPTED);
+}
+
+/// Who gives what, by hand from document 01, as far as the first sixteen
+/// refusals go.
+#[test]
+fn givers() {
+    let numbers = |giver| -> Vec<u32> {
+        let given = given_by(&[giver]);
+        let causes = CAUSES.iter().map(|cause| cause.reply);
+        let first = causes.filter(|reply| reply.code <= 16 && given.contains(&reply.words));
+        first.map(|reply| reply.code).collect()
+    };
+    assert_eq!(numbers(Giver::Reader), [1, 2, 3, 4, 5]);
+    assert_eq!(numbers(Giver::Writer), [3, 4, 5, 15]);
+    assert_eq!(numbers(Giver::Shard), Vec::from_iter(3..=14));
+    let cluster = [3, 4, 5, 6, 7, 8, 9, 10, 11, 13, 14, 16];
+    assert_eq!(numbers(Giver::Cluster), cluster);
+    let both = given_by(&[Giver::Shard, Giver::Cluster]);
+    assert!(carried_out().iter().all(|words| both.contains(words)));
+    for never in ["YES ABORT", "NO COMMIT"] {
+        assert!(!both.contains(&never) && !carried_out().contains(&never));
+    }
+    let others = never_given_by(&[Giver::Shard, Giver::Cluster]);
+    assert_eq!(both.len() + others.len(), replies().count());
+}
