@@ -17,7 +17,20 @@ use Rattle.reader.specs.declared.Record.the-variants.{Register, Vote, Mi
 use Rattle.reader.specs.declared.Answer.the-variants.{Read}
 use Rattle.reader.specs.declared.Reading.{Reading}
 use Rattle.reader.specs.Layout.{byteAt, wordAt, bodyLength, transactionAt}
-use Rattle.reader.specs.Reading.{kindOf, headCause, bodyChecks, readCause, recordAt, transactionIn, takenOf, numberOf, answerOf, readingOf, refusal, Reads}
+use Rattle.reader.specs.Reading.{
+  kindOf,
+  headCause,
+  bodyChecks,
+  readCause,
+  recordAt,
+  transactionIn,
+  takenOf,
+  numberOf,
+  answerOf,
+  readingOf,
+  refusal,
+  Reads,
+}
 
 -- the three checks of the head: none holds where their number is 0
 none-of : (a b c : Bool) → firstOf ((a, 2) ∷ (b, 1) ∷ (c, 2) ∷ []) ≡ 0 → (a ≡ false) × ((b ≡ false) × (c ≡ false))
@@ -51,11 +64,13 @@ module _ (l : List ℕ) where
   unfolding headCause
   head-unknown some e z = rw (ne-eqb (length l) 0 some, sym e ∙ z) refl
 
-  pub head-short : {n : ℕ} → (length l ≡ 0 → ⊥) → n ≡ bodyLength (kindOf l) → (n ≡ 0 → ⊥) → length l ≤ n → 2 ≡ headCause l
+  pub head-short : {n : ℕ} → (length l ≡ 0 → ⊥) → n ≡ bodyLength (kindOf l) → (n ≡ 0 → ⊥) → length l ≤ n
+      → 2 ≡ headCause l
   unfolding headCause
   head-short {n} some e z short = rw (ne-eqb (length l) 0 some, ← e, ne-eqb n 0 z, le-leb (length l) n short) refl
 
-  pub head-whole : {n : ℕ} → (length l ≡ 0 → ⊥) → n ≡ bodyLength (kindOf l) → (n ≡ 0 → ⊥) → n < length l → 0 ≡ headCause l
+  pub head-whole : {n : ℕ} → (length l ≡ 0 → ⊥) → n ≡ bodyLength (kindOf l) → (n ≡ 0 → ⊥) → n < length l
+      → 0 ≡ headCause l
   unfolding headCause
   head-whole {n} some e z long = rw (ne-eqb (length l) 0 some, ← e, ne-eqb n 0 z, lt-leb (length l) n long) refl
 
@@ -64,7 +79,8 @@ module _ (l : List ℕ) (n : headCause l ≡ 0 → ⊥) where
   cause-of-head : readCause l ≡ headCause l
   unfolding headCause readCause
   cause-of-head =
-      at-head (eqb (length l) 0) (eqb (bodyLength (kindOf l)) 0) (leb (length l) (bodyLength (kindOf l))) (bodyChecks l) n
+      at-head (eqb (length l) 0) (eqb (bodyLength (kindOf l)) 0) (leb (length l) (bodyLength (kindOf l)))
+      (bodyChecks l) n
 
   pub taken-all : takenOf l ≡ length l
   unfolding takenOf
@@ -91,7 +107,8 @@ module _ (l : List ℕ) (h : headCause l ≡ 0) where
   cause-of-body : readCause l ≡ firstOf (bodyChecks l)
   unfolding headCause readCause
   cause-of-body =
-      past-head (eqb (length l) 0) (eqb (bodyLength (kindOf l)) 0) (leb (length l) (bodyLength (kindOf l))) (bodyChecks l) h
+      past-head (eqb (length l) 0) (eqb (bodyLength (kindOf l)) 0) (leb (length l) (bodyLength (kindOf l)))
+      (bodyChecks l) h
 
   pub taken-record : takenOf l ≡ bodyLength (kindOf l) + 1
   unfolding takenOf
@@ -127,12 +144,14 @@ pub third-kind : (k : ℕ) → (k ≡ 1 → ⊥) → (k ≡ 2 → ⊥) → (body
 unfolding bodyLength
 third-kind k n1 n2 n = eqb-true k 3 (last (eqb k 1) (eqb k 2) (eqb k 3) (ne-eqb _ _ n1) (ne-eqb _ _ n2) n)
   where
-    last : (a b c : Bool) → a ≡ false → b ≡ false → (_≡_ {A = ℕ} (cond a 99 (cond b 101 (cond c 10 0))) 0 → ⊥) → c ≡ true
+    last : (a b c : Bool) → a ≡ false → b ≡ false → (_≡_ {A = ℕ} (cond a 99 (cond b 101 (cond c 10 0))) 0 → ⊥)
+        → c ≡ true
     last a b true ha hb m = refl
     last a b false ha hb m = absurd (m (simp (ha, hb)))
 
 -- a whole record is of kind 1, 2 or 3
-pub by-kinds : (l : List ℕ) → headCause l ≡ 0 → (P : Type 0) → (kindOf l ≡ 1 → P) → (kindOf l ≡ 2 → P) → (kindOf l ≡ 3 → P) → P
+pub by-kinds : (l : List ℕ) → headCause l ≡ 0 → (P : Type 0)
+    → (kindOf l ≡ 1 → P) → (kindOf l ≡ 2 → P) → (kindOf l ≡ 3 → P) → P
 by-kinds l h P one two three = go (eqb (kindOf l) 1) (eqb (kindOf l) 2) refl refl
   where
     go : (a b : Bool) → eqb (kindOf l) 1 ≡ a → eqb (kindOf l) 2 ≡ b → P
@@ -231,17 +250,21 @@ module _ (l : List ℕ) (h : headCause l ≡ 0) (k : (kindOf l ≡ 1) ⊎ (kindO
   unfolding causeOf
   cause-behind =
       ⊎-elim
-      (λ e. rw (cause-1 l h e, transaction-1 l h e, e) (one-row (shardFits (byteAt l 1)) (firstOf (checks house (transactionAt l 2)))))
+      (λ e.
+      rw (cause-1 l h e, transaction-1 l h e, e)
+      (one-row (shardFits (byteAt l 1)) (firstOf (checks house (transactionAt l 2)))))
       (λ e.
       rw (cause-2 l h e, transaction-2 l h e, e)
-      (three-rows (shardFits (byteAt l 1)) (shardFits (byteAt l 2)) (leb (byteAt l 3) 1) (firstOf (checks house (transactionAt l 4)))))
+      (three-rows (shardFits (byteAt l 1)) (shardFits (byteAt l 2)) (leb (byteAt l 3) 1)
+      (firstOf (checks house (transactionAt l 4)))))
       k
 
   module _ {fit : Bool} (e : fit ≡ front l) where
     pub front-fails : fit ≡ false → 3 ≡ readCause l
     front-fails n = sym (cause-behind ∙ rw (sym e ∙ n) refl)
 
-    pub front-passes : fit ≡ true → {found : ℕ} {t : Transaction} → t ≡ transactionIn l → found ≡ causeOf house t → found ≡ readCause l
+    pub front-passes : fit ≡ true → {found : ℕ} {t : Transaction} → t ≡ transactionIn l → found ≡ causeOf house t
+        → found ≡ readCause l
     front-passes y et ef = ef ∙ ap (causeOf house) et ∙ sym (cause-behind ∙ rw (sym e ∙ y) refl)
 
 -- a whole reading keeps the reader's promise
@@ -254,7 +277,10 @@ number-of n fields = go (eqb n 0) refl
 
 pub reads : (l : List ℕ) {r : Reading} → r ≡ readingOf l → Reads l r
 unfolding readingOf
-reads l e = record { number = ap (λ (x : Reading). numberOf (x .answer)) e ∙ number-of (readCause l) (recordAt l); whole = e }
+reads l e = record {
+  number = ap (λ (x : Reading). numberOf (x .answer)) e ∙ number-of (readCause l) (recordAt l);
+  whole = e;
+}
 
 -- what the record takes is within the bytes
 pub taken-within : (l : List ℕ) → takenOf l ≤ length l

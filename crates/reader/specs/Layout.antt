@@ -1,4 +1,5 @@
--- Document 01, 'Records': where each field of a record stands. A list of bytes is read at a place k, from 0; past the end stands 0.
+-- Document 01, 'Records': where each field of a record stands.
+-- A list of bytes is read at a place k, from 0; past the end stands 0.
 use Prim.Native.Nat.{ℕ, _+_, _*_}
 use mathlib.Core.Bool.{cond}
 use mathlib.Core.List.{List, [], _∷_}

@@ -57,7 +57,8 @@ recordAt l =
 unfoldable pub transactionIn : List ℕ → Transaction
 transactionIn l = byKind (kindOf l) (transactionAt l 2) (transactionAt l 4) blankTransaction
 
--- The record's length, known also where its fields are refused. Where no whole record stands there (1 and 2), all of the bytes: nothing is behind it.
+-- The record's length, known also where its fields are refused.
+-- Where no whole record stands there (1 and 2), all of the bytes: nothing is behind it.
 unfoldable pub takenOf : List ℕ → ℕ
 takenOf l = cond (eqb (headCause l) 0) (bodyLength (kindOf l) + 1) (length l)
 

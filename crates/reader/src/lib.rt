@@ -1,6 +1,6 @@
 // The record reader: document 01, 'Records'. Any bytes whatever get an answer.
 ghost use mathlib.Core.Path.{_≡_};
-ghost use Rattle.reader.specs.Reading.{Reads, readingOf, headCause, takenOf, restOf};
+ghost use Rattle.reader.specs.Reading.{Reads, headCause, takenOf, restOf};
 ghost use Rattle.reader.specs.Layout.{bodyLength};
 use transaction::Transaction;
 

@@ -1,18 +1,28 @@
 -- The cases of `causeOf`, each from what was found of the parts, and what its 0 says.
 use Prim.Native.Nat.{ℕ}
 use mathlib.Core.Path.{_≡_, refl, sym, ap, _∙_}
-use mathlib.Core.Bool.{Bool, true, false, not, _&&_}
-use mathlib.Core.List.{List, _∷_}
+use mathlib.Core.Bool.{Bool, true, false, _&&_}
 use borrow.Author.Tests.{eq-eqb, ne-eqb}
 use lib.Dec.{eqb}
-use lib.ListN.{take}
+use lib.ListN.{length, take}
 use Rattle.transaction.specs.declared.Input.{Input}
 use Rattle.transaction.specs.declared.Output.{Output}
 use Rattle.transaction.specs.declared.Transaction.{Transaction}
-use Rattle.transaction.specs.Lists.{total, repeats, slotsFit, firstOf}
+use Rattle.transaction.specs.Lists.{total, repeats, slotsFit}
 use Rattle.transaction.specs.Tokens.{usedInputs, usedOutputs, sameInput, sameOutput, zeroInput, zeroOutput}
-use Rattle.transaction.specs.Checks.{inputFits, outputFits, countsFit, fieldsFit, sameName, namedTwice, inputAmount, outputAmount, balanced, causeOf}
-use Rattle.transaction.proofs.Slots.{and-left, and-right, total-used}
+use Rattle.transaction.specs.Checks.{
+  inputFits,
+  outputFits,
+  countsFit,
+  fieldsFit,
+  sameName,
+  namedTwice,
+  inputAmount,
+  outputAmount,
+  balanced,
+  causeOf,
+}
+use Rattle.transaction.proofs.Slots.{and-left, and-right, total-used, slot, pair-0, pair-1}
 use Rattle.transaction.proofs.Same.{same-input-equal, same-output-equal}
 
 -- an unused slot holds no amount
@@ -24,7 +34,7 @@ output-none y h = ap outputAmount (sym (same-output-equal zeroOutput y h))
 
 module _ (genesis : ℕ) (t : Transaction) where
   -- what check 3 says of the counts and of the slots
-  abbrev fits-inputs : Bool
+  abbrev pub fits-inputs : Bool
   fits-inputs = slotsFit (inputFits genesis) (sameInput zeroInput) (t .«input_count») (t .inputs)
 
   abbrev fits-outputs : Bool
@@ -33,6 +43,19 @@ module _ (genesis : ℕ) (t : Transaction) where
   pub counts : fieldsFit genesis t ≡ true → countsFit t ≡ true
   unfolding fieldsFit
   counts h = and-left (countsFit t) fits-inputs (and-left (countsFit t && fits-inputs) fits-outputs h)
+
+  -- the test of an input's slot
+  abbrev input-slot : ℕ → Bool
+  input-slot = slot zeroInput (t .inputs) (inputFits genesis) (sameInput zeroInput) (t .«input_count»)
+
+  -- the inputs, two slots at a time, up to the first two that do not pass
+  module _ (long : length (t .inputs) ≡ 4) {p : Bool} (ep : p ≡ (input-slot 0 && input-slot 1)) where
+    pub two-fail : p ≡ false → false ≡ fits-inputs
+    two-fail n = pair-0 zeroInput (t .inputs) long (inputFits genesis) (sameInput zeroInput) (t .«input_count») ep n
+
+    pub two-pass : p ≡ true → {q : Bool} → q ≡ (input-slot 2 && input-slot 3) → q ≡ fits-inputs
+    two-pass y eq =
+        pair-1 zeroInput (t .inputs) long (inputFits genesis) (sameInput zeroInput) (t .«input_count») ep y eq
 
   -- check 3 from its parts, up to the first that fails
   module _ {within : Bool} (ec : within ≡ countsFit t) where
@@ -62,38 +85,27 @@ module _ (genesis : ℕ) (t : Transaction) where
       total-used outputAmount outputFits (sameOutput zeroOutput) output-none (t .«output_count») (t .outputs)
       (and-right (countsFit t && fits-inputs) fits-outputs h)
 
-  pub cause-3 : {fit : Bool} → fit ≡ fieldsFit genesis t → fit ≡ false → 3 ≡ causeOf genesis t
+  pub cause-3 : false ≡ fieldsFit genesis t → 3 ≡ causeOf genesis t
   unfolding causeOf
-  cause-3 e n = rw (sym e ∙ n) refl
+  cause-3 n = rw (sym n) refl
 
-  pub cause-4 : {fit twice : Bool} → fit ≡ fieldsFit genesis t → fit ≡ true
-      → twice ≡ repeats sameName (take (t .«input_count») (t .inputs)) → twice ≡ true → 4 ≡ causeOf genesis t
-  unfolding causeOf namedTwice
-  cause-4 e y f w = rw (sym e ∙ y, sym f ∙ w) refl
+  -- where check 3 passes
+  module _ (fit : true ≡ fieldsFit genesis t) where
+    pub cause-4 : true ≡ repeats sameName (take (t .«input_count») (t .inputs)) → 4 ≡ causeOf genesis t
+    unfolding causeOf namedTwice
+    cause-4 twice = rw (sym fit, sym twice) refl
 
-  -- the sums found are those of the used slots
-  sums : {fit : Bool} {m n : ℕ} → fit ≡ fieldsFit genesis t → fit ≡ true → m ≡ total inputAmount (t .inputs)
-      → n ≡ total outputAmount (t .outputs) → balanced t ≡ eqb m n
-  unfolding balanced
-  sums e y em en = rw (input-sum (sym e ∙ y), output-sum (sym e ∙ y), em, en) refl
+    -- and check 4 too, the sums found being those of all slots
+    module _ (once : false ≡ repeats sameName (take (t .«input_count») (t .inputs))) {m n : ℕ}
+        (em : m ≡ total inputAmount (t .inputs)) (en : n ≡ total outputAmount (t .outputs)) where
+      sums : balanced t ≡ eqb m n
+      unfolding balanced
+      sums = rw (input-sum (sym fit), output-sum (sym fit), em, en) refl
 
-  pub cause-5 : {fit twice : Bool} {m n : ℕ} → fit ≡ fieldsFit genesis t → fit ≡ true
-      → twice ≡ repeats sameName (take (t .«input_count») (t .inputs)) → twice ≡ false
-      → m ≡ total inputAmount (t .inputs) → n ≡ total outputAmount (t .outputs) → (m ≡ n → ⊥) → 5 ≡ causeOf genesis t
-  unfolding causeOf namedTwice
-  cause-5 {fit} {twice} {m} {n} e y f w em en q = rw (sym e ∙ y, sym f ∙ w, sums e y em en, ne-eqb m n q) refl
+      pub cause-5 : (m ≡ n → ⊥) → 5 ≡ causeOf genesis t
+      unfolding causeOf namedTwice
+      cause-5 q = rw (sym fit, sym once, sums, ne-eqb m n q) refl
 
-  pub cause-0 : {fit twice : Bool} {m n : ℕ} → fit ≡ fieldsFit genesis t → fit ≡ true
-      → twice ≡ repeats sameName (take (t .«input_count») (t .inputs)) → twice ≡ false
-      → m ≡ total inputAmount (t .inputs) → n ≡ total outputAmount (t .outputs) → m ≡ n → 0 ≡ causeOf genesis t
-  unfolding causeOf namedTwice
-  cause-0 {fit} {twice} {m} {n} e y f w em en q = rw (sym e ∙ y, sym f ∙ w, sums e y em en, eq-eqb m n q) refl
-
--- a first check that fails, and one that passes
-pub first-fails : {fit : Bool} (test : Bool) (number : ℕ) (others : List (Bool × ℕ)) → fit ≡ test → fit ≡ false
-    → number ≡ firstOf ((not test, number) ∷ others)
-first-fails test number others e n = rw (sym e ∙ n) refl
-
-pub first-passes : {fit : Bool} {found : ℕ} (test : Bool) (number : ℕ) (others : List (Bool × ℕ)) → fit ≡ test → fit ≡ true
-    → found ≡ firstOf others → found ≡ firstOf ((not test, number) ∷ others)
-first-passes test number others e y f = rw (sym e ∙ y) f
+      pub cause-0 : m ≡ n → 0 ≡ causeOf genesis t
+      unfolding causeOf namedTwice
+      cause-0 q = rw (sym fit, sym once, sums, eq-eqb m n q) refl

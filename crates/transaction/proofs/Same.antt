@@ -22,7 +22,8 @@ eqb-refl : (n : ℕ) → eqb n n ≡ true
 eqb-refl n = eq-eqb n n refl
 
 -- a test that is true of equal records alone, carried to lists
-agree-equal : {A : Type 0} (f : A → A → Bool) → ((a b : A) → f a b ≡ true → a ≡ b) → (x y : List A) → agree f x y ≡ true → x ≡ y
+agree-equal : {A : Type 0} (f : A → A → Bool) → ((a b : A) → f a b ≡ true → a ≡ b) → (x y : List A)
+    → agree f x y ≡ true → x ≡ y
 agree-equal f sound [] [] h = refl
 agree-equal f sound [] (b ∷ y) h = absurd (false≢true h)
 agree-equal f sound (a ∷ x) [] h = absurd (false≢true h)
@@ -41,7 +42,8 @@ unfolding sameToken
 same-token-equal a b h =
     let p = both (eqb (a .shard) (b .shard) && eqb (a .creator) (b .creator)) (eqb (a .index) (b .index)) h in
     let q = both (eqb (a .shard) (b .shard)) (eqb (a .creator) (b .creator)) (p .0) in
-    rw (eqb-true (a .shard) (b .shard) (q .0), eqb-true (a .creator) (b .creator) (q .1), eqb-true (a .index) (b .index) (p .1)) refl
+    let creator = eqb-true (a .creator) (b .creator) (q .1) in
+    rw (eqb-true (a .shard) (b .shard) (q .0), creator, eqb-true (a .index) (b .index) (p .1)) refl
 
 same-token-refl : (a : TokenId) → sameToken a a ≡ true
 unfolding sameToken
@@ -52,7 +54,8 @@ unfolding sameInput
 same-input-equal a b h =
     let p = both (sameToken (a .token) (b .token) && eqb (a .owner) (b .owner)) (eqb (a .amount) (b .amount)) h in
     let q = both (sameToken (a .token) (b .token)) (eqb (a .owner) (b .owner)) (p .0) in
-    rw (same-token-equal (a .token) (b .token) (q .0), eqb-true (a .owner) (b .owner) (q .1), eqb-true (a .amount) (b .amount) (p .1)) refl
+    let owner = eqb-true (a .owner) (b .owner) (q .1) in
+    rw (same-token-equal (a .token) (b .token) (q .0), owner, eqb-true (a .amount) (b .amount) (p .1)) refl
 
 same-input-refl : (a : Input) → sameInput a a ≡ true
 unfolding sameInput
@@ -63,7 +66,8 @@ unfolding sameOutput
 same-output-equal a b h =
     let p = both (eqb (a .shard) (b .shard) && eqb (a .owner) (b .owner)) (eqb (a .amount) (b .amount)) h in
     let q = both (eqb (a .shard) (b .shard)) (eqb (a .owner) (b .owner)) (p .0) in
-    rw (eqb-true (a .shard) (b .shard) (q .0), eqb-true (a .owner) (b .owner) (q .1), eqb-true (a .amount) (b .amount) (p .1)) refl
+    let owner = eqb-true (a .owner) (b .owner) (q .1) in
+    rw (eqb-true (a .shard) (b .shard) (q .0), owner, eqb-true (a .amount) (b .amount) (p .1)) refl
 
 same-output-refl : (a : Output) → sameOutput a a ≡ true
 unfolding sameOutput

@@ -40,7 +40,8 @@ module _ (n : ℕ) where
 module _ {A : Type 0} (u z : A → Bool) (a b c e : A) where
   slots-of : (n : ℕ)
       → slotsFit u z n (a ∷ b ∷ c ∷ e ∷ [])
-      ≡ cond (ltb 0 n) (u a) (z a) && cond (ltb 1 n) (u b) (z b) && cond (ltb 2 n) (u c) (z c) && cond (ltb 3 n) (u e) (z e)
+      ≡ cond (ltb 0 n) (u a) (z a) && cond (ltb 1 n) (u b) (z b)
+      && cond (ltb 2 n) (u c) (z c) && cond (ltb 3 n) (u e) (z e)
   slots-of zero = simp (and-assoc, and-true)
   slots-of (suc zero) = simp (and-assoc, and-true)
   slots-of (suc (suc zero)) = simp (and-assoc, and-true)
@@ -93,16 +94,14 @@ module _ {A : Type 0} (f : A → A → Bool) (a b c e : A) where
       (rw (take-nil {A = A} n) (six (f a b) (f a c) (f a e) (f b c) (f b e) (f c e)))
 
 -- the test of the slot at a place
-abbrev slot : {A : Type 0} → A → List A → (A → Bool) → (A → Bool) → ℕ → ℕ → Bool
+abbrev pub slot : {A : Type 0} → A → List A → (A → Bool) → (A → Bool) → ℕ → ℕ → Bool
 slot d x u z n place = cond (ltb place n) (u (getD x place d)) (z (getD x place d))
 
 -- The same of a list x of length 4, from what was found of each of its elements.
 module _ {A : Type 0} (d : A) (x : List A) (long : length x ≡ 4) where
   -- used slots pass the one test, unused ones the other
-  pub slots-by : (u z : A → Bool) (n : ℕ) {p q r s : Bool}
-      → p ≡ cond (ltb 0 n) (u (getD x 0 d)) (z (getD x 0 d)) → q ≡ cond (ltb 1 n) (u (getD x 1 d)) (z (getD x 1 d))
-      → r ≡ cond (ltb 2 n) (u (getD x 2 d)) (z (getD x 2 d)) → s ≡ cond (ltb 3 n) (u (getD x 3 d)) (z (getD x 3 d))
-      → p && q && r && s ≡ slotsFit u z n x
+  pub slots-by : (u z : A → Bool) (n : ℕ) {p q r s : Bool} → p ≡ slot d x u z n 0 → q ≡ slot d x u z n 1
+      → r ≡ slot d x u z n 2 → s ≡ slot d x u z n 3 → p && q && r && s ≡ slotsFit u z n x
   slots-by u z n ep eq er es =
       rw (ep, eq, er, es)
       (sym (slots-of u z (getD x 0 d) (getD x 1 d) (getD x 2 d) (getD x 3 d) n) ∙ ap (slotsFit u z n) (four d x long))
@@ -111,8 +110,8 @@ module _ {A : Type 0} (d : A) (x : List A) (long : length x ≡ 4) where
   module _ (u z : A → Bool) (n : ℕ) {p : Bool} (ep : p ≡ (slot d x u z n 0 && slot d x u z n 1)) where
     pairs-by : {q : Bool} → q ≡ (slot d x u z n 2 && slot d x u z n 3) → p && q ≡ slotsFit u z n x
     pairs-by eq =
-        rw (ep, eq)
-        (sym (and-assoc (slot d x u z n 0 && slot d x u z n 1) (slot d x u z n 2) (slot d x u z n 3)) ∙ slots-by u z n refl refl refl refl)
+        let both = and-assoc (slot d x u z n 0 && slot d x u z n 1) (slot d x u z n 2) (slot d x u z n 3) in
+        rw (ep, eq) (sym both ∙ slots-by u z n refl refl refl refl)
 
     pub pair-0 : p ≡ false → false ≡ slotsFit u z n x
     pair-0 np = rw np at (pairs-by refl)
@@ -121,20 +120,20 @@ module _ {A : Type 0} (d : A) (x : List A) (long : length x ≡ 4) where
     pair-1 yp eq = rw yp at (pairs-by eq)
 
   -- slot by slot, up to the first that does not pass
-  module _ (u z : A → Bool) (n : ℕ) {p : Bool} (ep : p ≡ cond (ltb 0 n) (u (getD x 0 d)) (z (getD x 0 d))) where
-    pub slot-0 : p ≡ false → false ≡ slotsFit u z n x
-    slot-0 np = rw np at (slots-by u z n ep refl refl refl)
+  module _ (u z : A → Bool) (n : ℕ) where
+    pub slot-0 : slot d x u z n 0 ≡ false → false ≡ slotsFit u z n x
+    slot-0 n0 = rw n0 at (slots-by u z n refl refl refl refl)
 
-    module _ (yp : p ≡ true) {q : Bool} (eq : q ≡ cond (ltb 1 n) (u (getD x 1 d)) (z (getD x 1 d))) where
-      pub slot-1 : q ≡ false → false ≡ slotsFit u z n x
-      slot-1 nq = rw (yp, nq) at (slots-by u z n ep eq refl refl)
+    module _ (y0 : slot d x u z n 0 ≡ true) where
+      pub slot-1 : slot d x u z n 1 ≡ false → false ≡ slotsFit u z n x
+      slot-1 n1 = rw (y0, n1) at (slots-by u z n refl refl refl refl)
 
-      module _ (yq : q ≡ true) {r : Bool} (er : r ≡ cond (ltb 2 n) (u (getD x 2 d)) (z (getD x 2 d))) where
-        pub slot-2 : r ≡ false → false ≡ slotsFit u z n x
-        slot-2 nr = rw (yp, yq, nr) at (slots-by u z n ep eq er refl)
+      module _ (y1 : slot d x u z n 1 ≡ true) where
+        pub slot-2 : slot d x u z n 2 ≡ false → false ≡ slotsFit u z n x
+        slot-2 n2 = rw (y0, y1, n2) at (slots-by u z n refl refl refl refl)
 
-        pub slot-3 : r ≡ true → {s : Bool} → s ≡ cond (ltb 3 n) (u (getD x 3 d)) (z (getD x 3 d)) → s ≡ slotsFit u z n x
-        slot-3 yr es = rw (yp, yq, yr) at (slots-by u z n ep eq er es)
+        pub slot-3 : slot d x u z n 2 ≡ true → {s : Bool} → s ≡ slot d x u z n 3 → s ≡ slotsFit u z n x
+        slot-3 y2 es = rw (y0, y1, y2) at (slots-by u z n refl refl refl es)
 
   -- some used slot passes
   pub any-by : (f : A → Bool) (n : ℕ) {p q r s : Bool}
@@ -142,7 +141,8 @@ module _ {A : Type 0} (d : A) (x : List A) (long : length x ≡ 4) where
       → ltb 0 n && p || ltb 1 n && q || ltb 2 n && r || ltb 3 n && s ≡ any f (take n x)
   any-by f n ep eq er es =
       rw (ep, eq, er, es)
-      (sym (any-of f (getD x 0 d) (getD x 1 d) (getD x 2 d) (getD x 3 d) n) ∙ ap (λ (l : List A). any f (take n l)) (four d x long))
+      (sym (any-of f (getD x 0 d) (getD x 1 d) (getD x 2 d) (getD x 3 d) n)
+      ∙ ap (λ (l : List A). any f (take n l)) (four d x long))
 
   -- two used slots match
   pub repeats-by : (f : A → A → Bool) (n : ℕ) {ab ac bc ae be ce : Bool}
@@ -156,39 +156,38 @@ module _ {A : Type 0} (d : A) (x : List A) (long : length x ≡ 4) where
 
   -- slot by slot, up to the first that matches an earlier one
   module _ (f : A → A → Bool) (n : ℕ) where
+    abbrev pair : ℕ → ℕ → Bool
+    pair i k = f (getD x i d) (getD x k d)
+
+    tests : ltb 1 n && pair 0 1 || ltb 2 n && (pair 0 2 || pair 1 2) || ltb 3 n && (pair 0 3 || pair 1 3 || pair 2 3)
+        ≡ repeats f (take n x)
+    tests = repeats-by f n refl refl refl refl refl refl
+
     pub repeat-1 : n < 2 → false ≡ repeats f (take n x)
-    repeat-1 h =
-        rw (le-ltb 1 n (omega arith), le-ltb 2 n (omega arith), le-ltb 3 n (omega arith)) at (repeats-by f n refl refl refl refl refl refl)
+    repeat-1 h = rw (le-ltb 1 n (omega arith), le-ltb 2 n (omega arith), le-ltb 3 n (omega arith)) at tests
 
-    module _ (two : 2 ≤ n) {ab : Bool} (eab : ab ≡ f (getD x 0 d) (getD x 1 d)) where
-      pub repeat-2 : ab ≡ true → true ≡ repeats f (take n x)
-      repeat-2 y = rw (lt-ltb 1 n (omega arith), y) at (repeats-by f n eab refl refl refl refl refl)
+    pub repeat-2 : 2 ≤ n → pair 0 1 ≡ true → true ≡ repeats f (take n x)
+    repeat-2 h y = rw (lt-ltb 1 n (omega arith), y) at tests
 
-      module _ (nab : ab ≡ false) where
-        pub repeat-3 : n < 3 → false ≡ repeats f (take n x)
-        repeat-3 h =
-            rw (lt-ltb 1 n (omega arith), nab, le-ltb 2 n (omega arith), le-ltb 3 n (omega arith))
-            at (repeats-by f n eab refl refl refl refl refl)
+    module _ (two : pair 0 1 ≡ false) where
+      pub repeat-3 : 2 ≤ n → n < 3 → false ≡ repeats f (take n x)
+      repeat-3 h k = rw (lt-ltb 1 n (omega arith), two, le-ltb 2 n (omega arith), le-ltb 3 n (omega arith)) at tests
 
-        module _ (three : 3 ≤ n) {ac bc : Bool} (eac : ac ≡ f (getD x 0 d) (getD x 2 d)) (ebc : bc ≡ f (getD x 1 d) (getD x 2 d)) where
-          pub repeat-4 : ac || bc ≡ true → true ≡ repeats f (take n x)
-          repeat-4 y =
-              rw (lt-ltb 1 n (omega arith), nab, lt-ltb 2 n (omega arith), y) at (repeats-by f n eab eac ebc refl refl refl)
+      pub repeat-4 : 3 ≤ n → pair 0 2 || pair 1 2 ≡ true → true ≡ repeats f (take n x)
+      repeat-4 h y = rw (lt-ltb 1 n (omega arith), two, lt-ltb 2 n (omega arith), y) at tests
 
-          module _ (none : ac || bc ≡ false) where
-            pub repeat-5 : n < 4 → false ≡ repeats f (take n x)
-            repeat-5 h =
-                rw (lt-ltb 1 n (omega arith), nab, lt-ltb 2 n (omega arith), none, le-ltb 3 n (omega arith))
-                at (repeats-by f n eab eac ebc refl refl refl)
+      module _ (three : pair 0 2 || pair 1 2 ≡ false) where
+        pub repeat-5 : 3 ≤ n → n < 4 → false ≡ repeats f (take n x)
+        repeat-5 h k =
+            rw (lt-ltb 1 n (omega arith), two, lt-ltb 2 n (omega arith), three, le-ltb 3 n (omega arith)) at tests
 
-            pub repeat-6 : 4 ≤ n → {ae be ce : Bool} → ae ≡ f (getD x 0 d) (getD x 3 d) → be ≡ f (getD x 1 d) (getD x 3 d)
-                → ce ≡ f (getD x 2 d) (getD x 3 d) → ae || be || ce ≡ repeats f (take n x)
-            repeat-6 h eae ebe ece =
-                rw (lt-ltb 1 n (omega arith), nab, lt-ltb 2 n (omega arith), none, lt-ltb 3 n (omega arith))
-                at (repeats-by f n eab eac ebc eae ebe ece)
+        pub repeat-6 : 4 ≤ n → pair 0 3 || pair 1 3 || pair 2 3 ≡ repeats f (take n x)
+        repeat-6 h =
+            rw (lt-ltb 1 n (omega arith), two, lt-ltb 2 n (omega arith), three, lt-ltb 3 n (omega arith)) at tests
 
   -- the sum over all four
-  pub total-by : (f : A → ℕ) {p q r s : ℕ} → p ≡ f (getD x 0 d) → q ≡ f (getD x 1 d) → r ≡ f (getD x 2 d) → s ≡ f (getD x 3 d)
+  pub total-by : (f : A → ℕ) {p q r s : ℕ}
+      → p ≡ f (getD x 0 d) → q ≡ f (getD x 1 d) → r ≡ f (getD x 2 d) → s ≡ f (getD x 3 d)
       → p + q + r + s ≡ total f x
   total-by f ep eq er es = omega (arith, ap (total f) (four d x long))
 
@@ -198,11 +197,13 @@ module _ {A : Type 0} (d : A) (x : List A) (long : length x ≡ 4) where
       → s ≡ f (getD x 3 d) (getD y 3 d) → p && q && r && s ≡ agree f x y
   agree-by f y long' ep eq er es =
       rw (ep, eq, er, es)
-      (sym (agree-of (getD x 0 d) (getD x 1 d) (getD x 2 d) (getD x 3 d) (getD y 0 d) (getD y 1 d) (getD y 2 d) (getD y 3 d))
+      (sym
+      (agree-of (getD x 0 d) (getD x 1 d) (getD x 2 d) (getD x 3 d) (getD y 0 d) (getD y 1 d) (getD y 2 d) (getD y 3 d))
       ∙ ap (agree f (getD x 0 d ∷ getD x 1 d ∷ getD x 2 d ∷ getD x 3 d ∷ [])) (four d y long')
       ∙ ap (λ (l : List A). agree f l y) (four d x long))
     where
-      agree-of : (a b c e a' b' c' e' : A) → agree f (a ∷ b ∷ c ∷ e ∷ []) (a' ∷ b' ∷ c' ∷ e' ∷ []) ≡ f a a' && f b b' && f c c' && f e e'
+      agree-of : (a b c e a' b' c' e' : A)
+          → agree f (a ∷ b ∷ c ∷ e ∷ []) (a' ∷ b' ∷ c' ∷ e' ∷ []) ≡ f a a' && f b b' && f c c' && f e e'
       agree-of a b c e a' b' c' e' = simp (and-assoc, and-true)
 
 -- Sums: unused slots that are zero add nothing.
@@ -218,7 +219,8 @@ pub and-right : (a b : Bool) → a && b ≡ true → b ≡ true
 and-right true b h = h
 and-right false b h = absurd (false≢true h)
 
-total-zero : {A : Type 0} (f : A → ℕ) (z : A → Bool) → ((a : A) → z a ≡ true → f a ≡ 0) → (x : List A) → all z x ≡ true → total f x ≡ 0
+total-zero : {A : Type 0} (f : A → ℕ) (z : A → Bool) → ((a : A) → z a ≡ true → f a ≡ 0) → (x : List A)
+    → all z x ≡ true → total f x ≡ 0
 total-zero f z none [] h = refl
 total-zero f z none (a ∷ x) h =
     let first : f a ≡ 0 = none a (and-left (z a) (all z x) h) in
@@ -228,7 +230,8 @@ total-zero f z none (a ∷ x) h =
 pub total-used : {A : Type 0} (f : A → ℕ) (u z : A → Bool) → ((a : A) → z a ≡ true → f a ≡ 0)
     → (n : ℕ) (x : List A) → slotsFit u z n x ≡ true → total f (take n x) ≡ total f x
 total-used f u z none n x h =
-    let behind : total f (drop n x) ≡ 0 = total-zero f z none (drop n x) (and-right (all u (take n x)) (all z (drop n x)) h) in
+    let zeros = and-right (all u (take n x)) (all z (drop n x)) h in
+    let behind : total f (drop n x) ≡ 0 = total-zero f z none (drop n x) zeros in
     let whole : total f x ≡ total f (take n x) + total f (drop n x) =
     ap (total f) (sym (take-append-drop n x)) ∙ total-append f (take n x) (drop n x) in
     omega arith
@@ -243,7 +246,7 @@ any-append f [] y = refl
 any-append f (a ∷ x) y = ap (λ (b : Bool). f a || b) (any-append f x y) ∙ sym (or-assoc (f a) (any f x) (any f y))
 
 -- the used slot at a place
-module _ {A : Type 0} (d : A) (x : List A) (long : length x ≡ 4) (n place : ℕ) where
+module _ {A : Type 0} (x : List A) (long : length x ≡ 4) (n place : ℕ) where
   pub used-beyond : 4 ≤ place → ltb place (length (take n x)) ≡ false
   used-beyond h = le-ltb place (length (take n x)) (rw (length-take n x, long) (omega arith))
 

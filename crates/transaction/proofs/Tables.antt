@@ -20,12 +20,14 @@ module _ (test : Bool) (number : ℕ) (others : List (Bool × ℕ)) where
 abbrev pub numbered : List (Bool × ℕ) → Bool
 numbered checks = all (λ (check : Bool × ℕ). not (eqb (check .1) 0)) checks
 
-pub first-stands : (fields others : List (Bool × ℕ)) → (firstOf fields ≡ 0 → ⊥) → firstOf (fields ++ others) ≡ firstOf fields
+pub first-stands : (fields others : List (Bool × ℕ)) → (firstOf fields ≡ 0 → ⊥)
+    → firstOf (fields ++ others) ≡ firstOf fields
 first-stands [] others n = absurd (n refl)
 first-stands ((true, k) ∷ fields) others n = refl
 first-stands ((false, k) ∷ fields) others n = first-stands fields others n
 
-pub first-behind : (fields others : List (Bool × ℕ)) → numbered fields ≡ true → firstOf fields ≡ 0 → firstOf (fields ++ others) ≡ firstOf others
+pub first-behind : (fields others : List (Bool × ℕ)) → numbered fields ≡ true → firstOf fields ≡ 0
+    → firstOf (fields ++ others) ≡ firstOf others
 first-behind [] others n h = refl
 first-behind ((true, k) ∷ fields) others n h =
     absurd (eqb-false k 0 (not-true (eqb k 0) (and-left (not (eqb k 0)) (numbered fields) n)) h)
@@ -37,5 +39,6 @@ module _ (fields others : List (Bool × ℕ)) {found : ℕ} (e : found ≡ first
   pub table-stands : (found ≡ 0 → ⊥) → found ≡ firstOf (fields ++ others)
   table-stands n = e ∙ sym (first-stands fields others (λ q. n (e ∙ q)))
 
-  pub table-behind : {behind : ℕ} → numbered fields ≡ true → found ≡ 0 → behind ≡ firstOf others → behind ≡ firstOf (fields ++ others)
+  pub table-behind : {behind : ℕ} → numbered fields ≡ true → found ≡ 0 → behind ≡ firstOf others
+      → behind ≡ firstOf (fields ++ others)
   table-behind n z f = f ∙ sym (first-behind fields others n (sym e ∙ z))

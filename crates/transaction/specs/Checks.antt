@@ -8,13 +8,22 @@ use Rattle.transaction.specs.declared.Input.{Input}
 use Rattle.transaction.specs.declared.Output.{Output}
 use Rattle.transaction.specs.declared.Transaction.{Transaction}
 use Rattle.transaction.specs.Lists.{total, repeats, slotsFit, firstOf}
-use Rattle.transaction.specs.Tokens.{usedInputs, usedOutputs, sameToken, sameInput, sameOutput, zeroInput, zeroOutput}
+use Rattle.transaction.specs.Tokens.{
+  usedInputs,
+  usedOutputs,
+  sameToken,
+  sameInput,
+  sameOutput,
+  zeroInput,
+  zeroOutput,
+}
 
 -- eight shards (pantries), 0 to 7
 abbrev pub shardFits : ℕ → Bool
 shardFits shard = leb shard 7
 
--- a genesis token's index (opening position) is below the limit; a made token's, its place among all outputs of its creator, is 0 to 3
+-- a genesis token's index (opening position) is below the limit;
+-- a made token's, its place among all outputs of its creator, is 0 to 3
 unfoldable pub indexFits : ℕ → ℕ → ℕ → Bool
 indexFits genesis creator index = ltb index (cond (eqb creator 0) genesis 4)
 
@@ -24,7 +33,8 @@ valueFits owner amount = not (eqb owner 0) && leb 1 amount && leb amount 1000000
 
 unfoldable pub inputFits : ℕ → Input → Bool
 inputFits genesis x =
-    shardFits (x .token .shard) && indexFits genesis (x .token .creator) (x .token .index) && valueFits (x .owner) (x .amount)
+    shardFits (x .token .shard) && indexFits genesis (x .token .creator) (x .token .index)
+    && valueFits (x .owner) (x .amount)
 
 unfoldable pub outputFits : Output → Bool
 outputFits y = shardFits (y .shard) && valueFits (y .owner) (y .amount)
@@ -72,7 +82,8 @@ causeOf genesis t = firstOf (checks genesis t)
 abbrev pub house : ℕ
 house = 128
 
--- The fields of a record, by its kind; the shard that receives it, and of a vote the sender, are 0 to 7, and a verdict is 1 (yes) or 0 (no).
+-- The fields of a record, by its kind; the shard that receives it, and of a vote the sender, are 0 to 7,
+-- and a verdict is 1 (yes) or 0 (no).
 abbrev pub registerChecks : ℕ → ℕ → Transaction → List (Bool × ℕ)
 registerChecks genesis receiver t = (not (shardFits receiver), 3) ∷ checks genesis t
 

@@ -35,7 +35,8 @@ repeats f (x ∷ xs) = any (f x) xs || repeats f xs
 abbrev pub slotsFit : {A : Type 0} → (A → Bool) → (A → Bool) → ℕ → List A → Bool
 slotsFit used unused count slots = all used (take count slots) && all unused (drop count slots)
 
--- A table of refusals: tests with their numbers, in order. Its answer is the number of the first test that holds, 0 where none does.
+-- A table of refusals: tests with their numbers, in order.
+-- Its answer is the number of the first test that holds, 0 where none does.
 abbrev pub firstOf : List (Bool × ℕ) → ℕ
 firstOf [] = 0
 firstOf (check ∷ checks) = cond (check .0) (check .1) (firstOf checks)

@@ -61,7 +61,8 @@ sameOutput a b = eqb (a .shard) (b .shard) && eqb (a .owner) (b .owner) && eqb (
 -- two transactions (swaps) are the same only if every field agrees
 unfoldable pub sameTransaction : Transaction → Transaction → Bool
 sameTransaction a b =
-    eqb (a .number) (b .number) && eqb (a .«input_count») (b .«input_count») && eqb (a .«output_count») (b .«output_count»)
+    eqb (a .number) (b .number) && eqb (a .«input_count») (b .«input_count»)
+    && eqb (a .«output_count») (b .«output_count»)
     && agree sameInput (a .inputs) (b .inputs)
     && agree sameOutput (a .outputs) (b .outputs)
 

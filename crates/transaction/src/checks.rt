@@ -3,7 +3,6 @@ ghost use mathlib.Core.Path.{_≡_};
 ghost use Prim.Native.Nat.{_<_};
 ghost use lib.ListN.{take};
 ghost use Rattle.transaction.specs.Lists.{repeats, total, firstOf};
-ghost use Rattle.transaction.specs.Tokens.{sameToken};
 ghost use Rattle.transaction.specs.Checks.{sameName, inputAmount, outputAmount, causeOf, registerChecks, voteChecks, mintChecks};
 use crate::Input;
 use crate::Output;

@@ -96,7 +96,8 @@ fn output_slot_fits(used: bool, y: Output) -> bool
 
 // Two slots of the inputs, one behind the other: few enough steps for the compiler to make them part of each caller.
 pub fn two_inputs_fit(genesis: u8, first: bool, second: bool, x: Input, y: Input) -> bool
-    ensures { λ r. ⌜ r ≡ (cond first (inputFits genesis x) (sameInput zeroInput x) && cond second (inputFits genesis y) (sameInput zeroInput y)) ⌝ }
+    ensures { λ r. ⌜ r ≡ (cond first (inputFits genesis x) (sameInput zeroInput x)
+        && cond second (inputFits genesis y) (sameInput zeroInput y)) ⌝ }
 {
     if !input_slot_fits(genesis, first, x) {
         return false;

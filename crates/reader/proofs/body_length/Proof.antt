@@ -21,7 +21,9 @@ returns-4 c = rw (c .match .keys4)
 
 returns-5 : tie.Need-returns-5
 unfolding bodyLength
-returns-5 c = simp (ne-eqb _ _ (c .match .rest .0 .0 .0 .1), ne-eqb _ _ (c .match .rest .0 .0 .1), ne-eqb _ _ (c .match .rest .0 .1))
+returns-5 c =
+    let other = c .match .rest in
+    simp (ne-eqb _ _ (other .0 .0 .0 .1), ne-eqb _ _ (other .0 .0 .1), ne-eqb _ _ (other .0 .1))
 
 pub body-length-spec : {M : Type 1} → statement M
 body-length-spec = tie.close (tie.spec returns returns-2 returns-3 returns-4 returns-5)

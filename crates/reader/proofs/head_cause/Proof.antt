@@ -17,26 +17,28 @@ body-length-requires c κs = search needs
 
 returns-2 : tie.Need-returns-2
 returns-2 c =
-    let after-body-length : tie.After-body-length = search in
-    let else1 : tie.Else1 = search in
+    let found : tie.After-body-length = search in
+    let some : tie.Else1 = search in
     let entry : tie.Start = search in
-    head-unknown (now (entry .args .bytes)) (else1 .if1 .left) (after-body-length .body-length .ensures) (c .if2 .taken)
+    head-unknown (now (entry .args .bytes)) (some .if1 .left) (found .body-length .ensures) (c .if2 .taken)
 
 returns-3 : tie.Need-returns-3
 returns-3 c =
-    let else2 : tie.Else2 = search in
-    let after-body-length : tie.After-body-length = search in
-    let else1 : tie.Else1 = search in
+    let known : tie.Else2 = search in
+    let found : tie.After-body-length = search in
+    let some : tie.Else1 = search in
     let entry : tie.Start = search in
-    head-short (now (entry .args .bytes)) (else1 .if1 .left) (after-body-length .body-length .ensures) (else2 .if2 .left) (c .if3 .taken)
+    let l = now (entry .args .bytes) in
+    head-short l (some .if1 .left) (found .body-length .ensures) (known .if2 .left) (c .if3 .taken)
 
 returns-4 : tie.Need-returns-4
 returns-4 c =
-    let else2 : tie.Else2 = search in
-    let after-body-length : tie.After-body-length = search in
-    let else1 : tie.Else1 = search in
+    let known : tie.Else2 = search in
+    let found : tie.After-body-length = search in
+    let some : tie.Else1 = search in
     let entry : tie.Start = search in
-    head-whole (now (entry .args .bytes)) (else1 .if1 .left) (after-body-length .body-length .ensures) (else2 .if2 .left) (c .if3 .left)
+    let l = now (entry .args .bytes) in
+    head-whole l (some .if1 .left) (found .body-length .ensures) (known .if2 .left) (c .if3 .left)
 
 pub head-cause-spec : {M : Type 1} → statement M
 head-cause-spec =

@@ -1,4 +1,16 @@
-use Rattle.reader.proofs.Cases.{whole, first-kinds, size-within, transaction-last, taken-record, front-fails, front-passes, reading-none, reading-good, reading-bad, reads}
+use Rattle.reader.proofs.Cases.{
+  whole,
+  first-kinds,
+  size-within,
+  transaction-last,
+  taken-record,
+  front-fails,
+  front-passes,
+  reading-none,
+  reading-good,
+  reading-bad,
+  reads,
+}
 use Rattle.reader.specs.Layout.{transactionAt}
 use Rattle.reader.specs.Reading.{kindOf, headCause, readCause, transactionIn, takenOf, refusal}
 use Prim.Native.Nat.{ℕ, _+_, _-_}
@@ -36,13 +48,15 @@ kinds c =
     first-kinds (bytes entry) (head (search)) (c .if2 .left)
 
 -- The record's length.
-size : (c : tie.After-body-length) → let entry : tie.Start = search in c .body-length .result + 1 ≡ takenOf (bytes entry)
+size : (c : tie.After-body-length)
+    → let entry : tie.Start = search in c .body-length .result + 1 ≡ takenOf (bytes entry)
 size c =
     let entry : tie.Start = search in
     ap (λ (n : ℕ). n + 1) (c .body-length .ensures) ∙ sym (taken-record (bytes entry) (head (search)))
 
 -- The transaction read is the one in the record.
-there : (c : tie.After-transaction-at) → let entry : tie.Start = search in c .transaction-at .result ≡ transactionIn (bytes entry)
+there : (c : tie.After-transaction-at)
+    → let entry : tie.Start = search in c .transaction-at .result ≡ transactionIn (bytes entry)
 there c =
     let entry : tie.Start = search in
     let sized : tie.After-body-length = search in
@@ -64,7 +78,8 @@ checked c =
     let passed : tie.Else3 = search in
     let fits : tie.After-front-fits = search in
     let fit = not-false _ (passed .if3 .left) in
-    front-passes (bytes entry) (head (search)) (kinds (search)) (fits .front-fits .ensures) fit (there (search)) (c .cause-of .ensures)
+    front-passes (bytes entry) (head (search)) (kinds (search)) (fits .front-fits .ensures) fit
+    (there (search)) (c .cause-of .ensures)
 
 head-cause-requires : tie.Need-head-cause-requires
 head-cause-requires c κs = search needs
@@ -137,7 +152,8 @@ returns-4 c =
     let refused : tie.Then4 = search in
     let entry : tie.Start = search in
     let l = bytes entry in
-    reads l (c .refused3 .ensures ∙ reading-bad l (head (search)) (checked (search)) (refused .if4 .taken) (size (search)))
+    let bad = reading-bad l (head (search)) (checked (search)) (refused .if4 .taken) (size (search)) in
+    reads l (c .refused3 .ensures ∙ bad)
 
 front-fields-requires : tie.Need-front-fields-requires
 front-fields-requires c κs = (head (search), kinds (search))

@@ -15,14 +15,12 @@ taken-requires c κs = search needs
 sub-result : tie.Need-sub-result
 sub-result c =
     let entry : tie.Start = search in
-    let l = now (entry .args .bytes) in
-    omega (arith, taken-within l)
+    omega (arith, taken-within (now (entry .args .bytes)))
 
 part-result-start : tie.Need-part-result-start
 part-result-start c =
     let entry : tie.Start = search in
-    let l = now (entry .args .bytes) in
-    omega (arith, taken-within l)
+    omega (arith, taken-within (now (entry .args .bytes)))
 
 part-result-end : tie.Need-part-result-end
 part-result-end c = search needs
@@ -30,10 +28,11 @@ part-result-end c = search needs
 returns : tie.Need-returns
 unfolding restOf
 returns c =
-    let after-taken : tie.After-taken = search in
+    let found : tie.After-taken = search in
     let entry : tie.Start = search in
     let l = now (entry .args .bytes) in
-    rw (after-taken .taken .ensures) (take-all (length l - takenOf l) (drop (takenOf l) l) (rw (length-drop (takenOf l) l) (omega arith)))
+    let behind = take-all (length l - takenOf l) (drop (takenOf l) l) (rw (length-drop (takenOf l) l) (omega arith)) in
+    rw (found .taken .ensures) behind
 
 pub rest-spec : {M : Type 1} → statement M
 rest-spec =

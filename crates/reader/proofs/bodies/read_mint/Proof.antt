@@ -1,34 +1,47 @@
 use Rattle.reader.proofs.Cases.{long-3, cause-3, record-3, transaction-3, taken-3, reading-good, reading-bad}
+use Rattle.reader.specs.Reading.{readCause, takenOf}
+use mathlib.Core.List.{List}
+use Prim.Native.Nat.{ℕ, _≤_}
+use lib.ListN.{length}
 use native.Mathlib.Omega.{arith}
-use mathlib.Core.Path.{sym, _∙_}
+use mathlib.Core.Path.{_≡_, sym, _∙_}
 use denote.Ref.{now}
 use borrow.Author.Needs.{needs}
 use Rattle.reader.proofs.bodies.read_mint.Statement.{statement}
 use Rattle.reader.proofs.bodies.read_mint.Tie as tie
 
-shared-slice-read-receiver : tie.Need-shared-slice-read-receiver
-shared-slice-read-receiver c =
+-- The bytes that were lent, at a point.
+abbrev bytes : tie.Start → List ℕ
+bytes entry = now (entry .args .bytes)
+
+-- All eleven are there.
+long : (entry : tie.Start) → 11 ≤ length (bytes entry)
+long entry = long-3 (bytes entry) (entry .pre .0) (entry .pre .1)
+
+-- They are what the record takes.
+taken : (entry : tie.Start) → 11 ≡ takenOf (bytes entry)
+taken entry = sym (taken-3 (bytes entry) (entry .pre .0) (entry .pre .1))
+
+-- What was found is the number of the first fitting check.
+checked : (c : tie.After-mint-cause) → let entry : tie.Start = search in c .mint-cause .result ≡ readCause (bytes entry)
+checked c =
+    let amount : tie.After-word-at2 = search in
+    let owner : tie.After-word-at = search in
     let entry : tie.Start = search in
-    let l = now (entry .args .bytes) in
-    omega (arith, long-3 l (entry .pre .0) (entry .pre .1))
+    let numbers = cause-3 (bytes entry) (entry .pre .0) (entry .pre .1) in
+    c .mint-cause .ensures ∙ rw (owner .word-at .ensures, amount .word-at2 .ensures) (sym numbers)
+
+shared-slice-read-receiver : tie.Need-shared-slice-read-receiver
+shared-slice-read-receiver c = omega (arith, long (search))
 
 shared-slice-read-index : tie.Need-shared-slice-read-index
-shared-slice-read-index c =
-    let entry : tie.Start = search in
-    let l = now (entry .args .bytes) in
-    omega (arith, long-3 l (entry .pre .0) (entry .pre .1))
+shared-slice-read-index c = omega (arith, long (search))
 
 word-at-requires : tie.Need-word-at-requires
-word-at-requires c κs =
-    let entry : tie.Start = search in
-    let l = now (entry .args .bytes) in
-    omega (arith, long-3 l (entry .pre .0) (entry .pre .1))
+word-at-requires c κs = omega (arith, long (search))
 
 word-at-requires-2 : tie.Need-word-at-requires-2
-word-at-requires-2 c κs =
-    let entry : tie.Start = search in
-    let l = now (entry .args .bytes) in
-    omega (arith, long-3 l (entry .pre .0) (entry .pre .1))
+word-at-requires-2 c κs = omega (arith, long (search))
 
 mint-cause-requires : tie.Need-mint-cause-requires
 mint-cause-requires c κs = search needs
@@ -38,27 +51,27 @@ refused-requires c κs = search needs
 
 returns : tie.Need-returns
 returns c =
-    let then1 : tie.Then1 = search in
-    let after-mint-cause : tie.After-mint-cause = search in
-    let after-word-at2 : tie.After-word-at2 = search in
-    let after-word-at : tie.After-word-at = search in
+    let refused : tie.Then1 = search in
     let entry : tie.Start = search in
-    let l = now (entry .args .bytes) in
-    c .refused .ensures ∙ reading-bad l (entry .pre .0) (after-mint-cause .mint-cause .ensures ∙ rw (after-word-at .word-at .ensures, after-word-at2 .word-at2 .ensures) (sym (cause-3 l (entry .pre .0) (entry .pre .1)))) (then1 .if1 .taken) (sym (taken-3 l (entry .pre .0) (entry .pre .1)))
+    c .refused .ensures
+    ∙ reading-bad (bytes entry) (entry .pre .0) (checked (search)) (refused .if1 .taken) (taken entry)
 
 blank-requires : tie.Need-blank-requires
 blank-requires c κs = search needs
 
 returns-2 : tie.Need-returns-2
 returns-2 c =
-    let else1 : tie.Else1 = search in
-    let after-mint-cause : tie.After-mint-cause = search in
-    let after-word-at2 : tie.After-word-at2 = search in
-    let after-word-at : tie.After-word-at = search in
+    let passed : tie.Else1 = search in
+    let amount : tie.After-word-at2 = search in
+    let owner : tie.After-word-at = search in
     let entry : tie.Start = search in
-    let l = now (entry .args .bytes) in
-    reading-good l (entry .pre .0) (after-mint-cause .mint-cause .ensures ∙ rw (after-word-at .word-at .ensures, after-word-at2 .word-at2 .ensures) (sym (cause-3 l (entry .pre .0) (entry .pre .1)))) (else1 .if1 .left) (rw (after-word-at .word-at .ensures, after-word-at2 .word-at2 .ensures) (sym (record-3 l (entry .pre .0) (entry .pre .1))))
-    (c .blank .ensures ∙ sym (transaction-3 l (entry .pre .0) (entry .pre .1))) (sym (taken-3 l (entry .pre .0) (entry .pre .1)))
+    let l = bytes entry in
+    let head = entry .pre .0 in
+    let kind = entry .pre .1 in
+    reading-good l head (checked (search)) (passed .if1 .left)
+    (rw (owner .word-at .ensures, amount .word-at2 .ensures) (sym (record-3 l head kind)))
+    (c .blank .ensures ∙ sym (transaction-3 l head kind))
+    (taken entry)
 
 pub read-mint-spec : {M : Type 1} → statement M
 read-mint-spec =

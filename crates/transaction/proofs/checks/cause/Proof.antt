@@ -1,28 +1,47 @@
+use Rattle.transaction.specs.Lists.{repeats}
+use Rattle.transaction.specs.Checks.{fieldsFit, sameName}
+use mathlib.Core.Path.{_≡_, sym, _∙_}
+use mathlib.Core.Bool.{true, false}
+use lib.ListN.{take}
 use borrow.Author.Tests.{not-true, not-false}
 use Rattle.transaction.proofs.Causes.{cause-0, cause-3, cause-4, cause-5}
 use borrow.Author.Needs.{needs}
 use Rattle.transaction.proofs.checks.cause.Statement.{statement}
 use Rattle.transaction.proofs.checks.cause.Tie as tie
 
+-- Check 3 passes.
+fit : (c : tie.Else1) → let entry : tie.Start = search in true ≡ fieldsFit (entry .args .genesis) (entry .args .t)
+fit c =
+    let found : tie.After-fields-fit = search in
+    sym (not-false _ (c .if1 .left)) ∙ found .fields-fit .ensures
+
+-- Check 4 passes.
+once : (c : tie.Else2)
+    → let entry : tie.Start = search in
+    let t = entry .args .t in
+    false ≡ repeats sameName (take (t .«input_count») (t .inputs))
+once c =
+    let found : tie.After-named-twice = search in
+    sym (c .if2 .left) ∙ found .named-twice .ensures
+
 fields-fit-requires : tie.Need-fields-fit-requires
 fields-fit-requires c κs = search needs
 
 returns : tie.Need-returns
 returns c =
-    let after-fields-fit : tie.After-fields-fit = search in
+    let found : tie.After-fields-fit = search in
     let entry : tie.Start = search in
-    cause-3 (entry .args .genesis) (entry .args .t) (after-fields-fit .fields-fit .ensures) (not-true _ (c .if1 .taken))
+    cause-3 (entry .args .genesis) (entry .args .t) (sym (not-true _ (c .if1 .taken)) ∙ found .fields-fit .ensures)
 
 named-twice-requires : tie.Need-named-twice-requires
 named-twice-requires c κs = search needs
 
 returns-2 : tie.Need-returns-2
 returns-2 c =
-    let after-named-twice : tie.After-named-twice = search in
-    let else1 : tie.Else1 = search in
-    let after-fields-fit : tie.After-fields-fit = search in
+    let found : tie.After-named-twice = search in
     let entry : tie.Start = search in
-    cause-4 (entry .args .genesis) (entry .args .t) (after-fields-fit .fields-fit .ensures) (not-false _ (else1 .if1 .left)) (after-named-twice .named-twice .ensures) (c .if2 .taken)
+    let twice = sym (c .if2 .taken) ∙ found .named-twice .ensures in
+    cause-4 (entry .args .genesis) (entry .args .t) (fit (search)) twice
 
 input-total-requires : tie.Need-input-total-requires
 input-total-requires c κs = search needs
@@ -32,27 +51,19 @@ output-total-requires c κs = search needs
 
 returns-3 : tie.Need-returns-3
 returns-3 c =
-    let after-output-total : tie.After-output-total = search in
-    let after-input-total : tie.After-input-total = search in
-    let else2 : tie.Else2 = search in
-    let after-named-twice : tie.After-named-twice = search in
-    let else1 : tie.Else1 = search in
-    let after-fields-fit : tie.After-fields-fit = search in
+    let out : tie.After-output-total = search in
+    let into : tie.After-input-total = search in
     let entry : tie.Start = search in
-    cause-5 (entry .args .genesis) (entry .args .t) (after-fields-fit .fields-fit .ensures) (not-false _ (else1 .if1 .left)) (after-named-twice .named-twice .ensures) (else2 .if2 .left)
-    (after-input-total .input-total .ensures) (after-output-total .output-total .ensures) (c .if3 .taken)
+    cause-5 (entry .args .genesis) (entry .args .t) (fit (search)) (once (search))
+    (into .input-total .ensures) (out .output-total .ensures) (c .if3 .taken)
 
 returns-4 : tie.Need-returns-4
 returns-4 c =
-    let after-output-total : tie.After-output-total = search in
-    let after-input-total : tie.After-input-total = search in
-    let else2 : tie.Else2 = search in
-    let after-named-twice : tie.After-named-twice = search in
-    let else1 : tie.Else1 = search in
-    let after-fields-fit : tie.After-fields-fit = search in
+    let out : tie.After-output-total = search in
+    let into : tie.After-input-total = search in
     let entry : tie.Start = search in
-    cause-0 (entry .args .genesis) (entry .args .t) (after-fields-fit .fields-fit .ensures) (not-false _ (else1 .if1 .left)) (after-named-twice .named-twice .ensures) (else2 .if2 .left)
-    (after-input-total .input-total .ensures) (after-output-total .output-total .ensures) (c .if3 .left)
+    cause-0 (entry .args .genesis) (entry .args .t) (fit (search)) (once (search))
+    (into .input-total .ensures) (out .output-total .ensures) (c .if3 .left)
 
 pub cause-spec : {M : Type 1} → statement M
 cause-spec =

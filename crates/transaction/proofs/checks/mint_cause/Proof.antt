@@ -1,7 +1,4 @@
-use mathlib.Core.Path.{refl}
-use mathlib.Core.List.{[]}
-use Rattle.transaction.specs.Checks.{mintFits}
-use Rattle.transaction.proofs.Causes.{first-fails, first-passes}
+use mathlib.Core.Path.{refl, sym, _∙_}
 use borrow.Author.Needs.{needs}
 use Rattle.transaction.proofs.checks.mint_cause.Statement.{statement}
 use Rattle.transaction.proofs.checks.mint_cause.Tie as tie
@@ -11,17 +8,13 @@ mint-fits-requires c κs = search needs
 
 returns : tie.Need-returns
 returns c =
-    let after-mint-fits : tie.After-mint-fits = search in
-    let entry : tie.Start = search in
-    let a = entry .args in
-    first-passes (mintFits (a .genesis) (a .receiver) (a .index) (a .owner) (a .amount)) 3 [] (after-mint-fits .mint-fits .ensures) (c .if1 .taken) refl
+    let found : tie.After-mint-fits = search in
+    rw (sym (found .mint-fits .ensures) ∙ c .if1 .taken) refl
 
 returns-2 : tie.Need-returns-2
 returns-2 c =
-    let after-mint-fits : tie.After-mint-fits = search in
-    let entry : tie.Start = search in
-    let a = entry .args in
-    first-fails (mintFits (a .genesis) (a .receiver) (a .index) (a .owner) (a .amount)) 3 [] (after-mint-fits .mint-fits .ensures) (c .if1 .left)
+    let found : tie.After-mint-fits = search in
+    rw (sym (found .mint-fits .ensures) ∙ c .if1 .left) refl
 
 pub mint-cause-spec : {M : Type 1} → statement M
 mint-cause-spec = tie.close (tie.spec mint-fits-requires returns returns-2)

@@ -6,13 +6,12 @@ use borrow.Author.Needs.{needs}
 use Rattle.transaction.proofs.equality.same_inputs.Statement.{statement}
 use Rattle.transaction.proofs.equality.same_inputs.Tie as tie
 
--- The array has its length.
-long-t1 : (entry : tie.Start) → length (entry .args .t1) ≡ 4
-long-t1 entry = search needs
+-- Both arrays have their length.
+first-long : (entry : tie.Start) → length (entry .args .t1) ≡ 4
+first-long entry = search needs
 
--- The array has its length.
-long-t2 : (entry : tie.Start) → length (entry .args .t2) ≡ 4
-long-t2 entry = search needs
+second-long : (entry : tie.Start) → length (entry .args .t2) ≡ 4
+second-long entry = search needs
 
 array-copy-out-same-input : tie.Need-array-copy-out-same-input
 array-copy-out-same-input c = search needs
@@ -52,13 +51,14 @@ same-input-requires-4 c κs = search needs
 
 returns : tie.Need-returns
 returns c =
-    let after-same-input3 : tie.After-same-input3 = search in
-    let after-same-input2 : tie.After-same-input2 = search in
-    let after-same-input : tie.After-same-input = search in
+    let third : tie.After-same-input3 = search in
+    let second : tie.After-same-input2 = search in
+    let first : tie.After-same-input = search in
     let entry : tie.Start = search in
-    let long = long-t1 entry in
-    let long' = long-t2 entry in
-    agree-by zeroInput (entry .args .t1) long sameInput (entry .args .t2) long' (after-same-input .same-input .ensures) (after-same-input2 .same-input2 .ensures) (after-same-input3 .same-input3 .ensures) (c .same-input4 .ensures)
+    let a = entry .args in
+    agree-by zeroInput (a .t1) (first-long entry) sameInput (a .t2) (second-long entry)
+    (first .same-input .ensures) (second .same-input2 .ensures)
+    (third .same-input3 .ensures) (c .same-input4 .ensures)
 
 pub same-inputs-spec : {M : Type 1} → statement M
 same-inputs-spec =

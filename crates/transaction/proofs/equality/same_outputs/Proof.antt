@@ -6,13 +6,12 @@ use borrow.Author.Needs.{needs}
 use Rattle.transaction.proofs.equality.same_outputs.Statement.{statement}
 use Rattle.transaction.proofs.equality.same_outputs.Tie as tie
 
--- The array has its length.
-long-t1 : (entry : tie.Start) → length (entry .args .t1) ≡ 4
-long-t1 entry = search needs
+-- Both arrays have their length.
+first-long : (entry : tie.Start) → length (entry .args .t1) ≡ 4
+first-long entry = search needs
 
--- The array has its length.
-long-t2 : (entry : tie.Start) → length (entry .args .t2) ≡ 4
-long-t2 entry = search needs
+second-long : (entry : tie.Start) → length (entry .args .t2) ≡ 4
+second-long entry = search needs
 
 array-copy-out-same-output : tie.Need-array-copy-out-same-output
 array-copy-out-same-output c = search needs
@@ -52,13 +51,14 @@ same-output-requires-4 c κs = search needs
 
 returns : tie.Need-returns
 returns c =
-    let after-same-output3 : tie.After-same-output3 = search in
-    let after-same-output2 : tie.After-same-output2 = search in
-    let after-same-output : tie.After-same-output = search in
+    let third : tie.After-same-output3 = search in
+    let second : tie.After-same-output2 = search in
+    let first : tie.After-same-output = search in
     let entry : tie.Start = search in
-    let long = long-t1 entry in
-    let long' = long-t2 entry in
-    agree-by zeroOutput (entry .args .t1) long sameOutput (entry .args .t2) long' (after-same-output .same-output .ensures) (after-same-output2 .same-output2 .ensures) (after-same-output3 .same-output3 .ensures) (c .same-output4 .ensures)
+    let a = entry .args in
+    agree-by zeroOutput (a .t1) (first-long entry) sameOutput (a .t2) (second-long entry)
+    (first .same-output .ensures) (second .same-output2 .ensures)
+    (third .same-output3 .ensures) (c .same-output4 .ensures)
 
 pub same-outputs-spec : {M : Type 1} → statement M
 same-outputs-spec =

@@ -11,8 +11,8 @@ returns c = simp (ne-eqb _ _ (c .if1 .taken), and-false)
 returns-2 : tie.Need-returns-2
 unfolding sameToken
 returns-2 c =
-    let else1 : tie.Else1 = search in
-    rw (eq-eqb _ _ (else1 .if1 .left)) (simp and-true)
+    let one : tie.Else1 = search in
+    rw (eq-eqb _ _ (one .if1 .left)) (simp and-true)
 
 pub same-token-spec : {M : Type 1} → statement M
 same-token-spec = tie.close (tie.spec returns returns-2)

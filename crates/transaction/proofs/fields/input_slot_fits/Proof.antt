@@ -13,14 +13,14 @@ same-input-requires c κs = search needs
 
 returns : tie.Need-returns
 returns c =
-    let then1 : tie.Then1 = search in
-    rw (then1 .if1 .taken) (c .input-fits .ensures)
+    let used : tie.Then1 = search in
+    rw (used .if1 .taken) (c .input-fits .ensures)
 
 returns-2 : tie.Need-returns-2
 returns-2 c =
-    let else1 : tie.Else1 = search in
-    let after-zero-input : tie.After-zero-input = search in
-    rw (else1 .if1 .left, ← after-zero-input .zero-input .ensures) (c .same-input .ensures)
+    let unused : tie.Else1 = search in
+    let zero : tie.After-zero-input = search in
+    rw (unused .if1 .left, ← zero .zero-input .ensures) (c .same-input .ensures)
 
 pub input-slot-fits-spec : {M : Type 1} → statement M
 input-slot-fits-spec =

@@ -13,14 +13,14 @@ same-output-requires c κs = search needs
 
 returns : tie.Need-returns
 returns c =
-    let then1 : tie.Then1 = search in
-    rw (then1 .if1 .taken) (c .output-fits .ensures)
+    let used : tie.Then1 = search in
+    rw (used .if1 .taken) (c .output-fits .ensures)
 
 returns-2 : tie.Need-returns-2
 returns-2 c =
-    let else1 : tie.Else1 = search in
-    let after-zero-output : tie.After-zero-output = search in
-    rw (else1 .if1 .left, ← after-zero-output .zero-output .ensures) (c .same-output .ensures)
+    let unused : tie.Else1 = search in
+    let zero : tie.After-zero-output = search in
+    rw (unused .if1 .left, ← zero .zero-output .ensures) (c .same-output .ensures)
 
 pub output-slot-fits-spec : {M : Type 1} → statement M
 output-slot-fits-spec =

@@ -9,17 +9,17 @@ input-slot-fits-requires c κs = search needs
 
 returns : tie.Need-returns
 returns c =
-    let after-input-slot-fits : tie.After-input-slot-fits = search in
-    rw (sym (after-input-slot-fits .input-slot-fits .ensures) ∙ not-true _ (c .if1 .taken)) refl
+    let first : tie.After-input-slot-fits = search in
+    rw (sym (first .input-slot-fits .ensures) ∙ not-true _ (c .if1 .taken)) refl
 
 input-slot-fits-requires-2 : tie.Need-input-slot-fits-requires-2
 input-slot-fits-requires-2 c κs = search needs
 
 returns-2 : tie.Need-returns-2
 returns-2 c =
-    let else1 : tie.Else1 = search in
-    let after-input-slot-fits : tie.After-input-slot-fits = search in
-    rw (sym (after-input-slot-fits .input-slot-fits .ensures) ∙ not-false _ (else1 .if1 .left)) (c .input-slot-fits2 .ensures)
+    let passed : tie.Else1 = search in
+    let first : tie.After-input-slot-fits = search in
+    rw (sym (first .input-slot-fits .ensures) ∙ not-false _ (passed .if1 .left)) (c .input-slot-fits2 .ensures)
 
 pub two-inputs-fit-spec : {M : Type 1} → statement M
 two-inputs-fit-spec =

@@ -9,8 +9,8 @@ use Rattle.transaction.proofs.parts.some_input_at.Statement.{statement}
 use Rattle.transaction.proofs.parts.some_input_at.Tie as tie
 
 -- The array has its length.
-long-t3 : (entry : tie.Start) → length (entry .args .t3) ≡ 4
-long-t3 entry = search needs
+long : (entry : tie.Start) → length (entry .args .t3) ≡ 4
+long entry = search needs
 
 array-copy-out-input-is-at : tie.Need-array-copy-out-input-is-at
 array-copy-out-input-is-at c = search needs
@@ -38,13 +38,15 @@ input-is-at-requires-4 c κs = search needs
 
 returns : tie.Need-returns
 returns c =
-    let after-input-is-at3 : tie.After-input-is-at3 = search in
-    let after-input-is-at2 : tie.After-input-is-at2 = search in
-    let after-input-is-at : tie.After-input-is-at = search in
+    let third : tie.After-input-is-at3 = search in
+    let second : tie.After-input-is-at2 = search in
+    let first : tie.After-input-is-at = search in
     let entry : tie.Start = search in
-    let long = long-t3 entry in
-    any-by zeroInput (entry .args .t3) long (λ (x : Input). eqb (entry .args .shard) (inputShard x)) (entry .args .count) (after-input-is-at .input-is-at .ensures) (after-input-is-at2 .input-is-at2 .ensures) (after-input-is-at3 .input-is-at3 .ensures) (c .input-is-at4 .ensures)
-    ∙ sym (any-map (eqb (entry .args .shard)) inputShard (take (entry .args .count) (entry .args .t3)))
+    let a = entry .args in
+    any-by zeroInput (a .t3) (long entry) (λ (x : Input). eqb (a .shard) (inputShard x)) (a .count)
+    (first .input-is-at .ensures) (second .input-is-at2 .ensures)
+    (third .input-is-at3 .ensures) (c .input-is-at4 .ensures)
+    ∙ sym (any-map (eqb (a .shard)) inputShard (take (a .count) (a .t3)))
 
 pub some-input-at-spec : {M : Type 1} → statement M
 some-input-at-spec =

@@ -9,8 +9,8 @@ use Rattle.transaction.proofs.parts.some_output_at.Statement.{statement
 use Rattle.transaction.proofs.parts.some_output_at.Tie as tie
 
 -- The array has its length.
-long-t3 : (entry : tie.Start) → length (entry .args .t3) ≡ 4
-long-t3 entry = search needs
+long : (entry : tie.Start) → length (entry .args .t3) ≡ 4
+long entry = search needs
 
 array-copy-out-output-is-at : tie.Need-array-copy-out-output-is-at
 array-copy-out-output-is-at c = search needs
@@ -38,13 +38,15 @@ output-is-at-requires-4 c κs = search needs
 
 returns : tie.Need-returns
 returns c =
-    let after-output-is-at3 : tie.After-output-is-at3 = search in
-    let after-output-is-at2 : tie.After-output-is-at2 = search in
-    let after-output-is-at : tie.After-output-is-at = search in
+    let third : tie.After-output-is-at3 = search in
+    let second : tie.After-output-is-at2 = search in
+    let first : tie.After-output-is-at = search in
     let entry : tie.Start = search in
-    let long = long-t3 entry in
-    any-by zeroOutput (entry .args .t3) long (λ (y : Output). eqb (entry .args .shard) (outputShard y)) (entry .args .count) (after-output-is-at .output-is-at .ensures) (after-output-is-at2 .output-is-at2 .ensures) (after-output-is-at3 .output-is-at3 .ensures) (c .output-is-at4 .ensures)
-    ∙ sym (any-map (eqb (entry .args .shard)) outputShard (take (entry .args .count) (entry .args .t3)))
+    let a = entry .args in
+    any-by zeroOutput (a .t3) (long entry) (λ (y : Output). eqb (a .shard) (outputShard y)) (a .count)
+    (first .output-is-at .ensures) (second .output-is-at2 .ensures)
+    (third .output-is-at3 .ensures) (c .output-is-at4 .ensures)
+    ∙ sym (any-map (eqb (a .shard)) outputShard (take (a .count) (a .t3)))
 
 pub some-output-at-spec : {M : Type 1} → statement M
 some-output-at-spec =

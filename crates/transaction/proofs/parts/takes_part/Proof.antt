@@ -16,8 +16,8 @@ returns : tie.Need-returns
 unfolding takesPart
 returns c =
     let entry : tie.Start = search in
-    let t = entry .args .t in
-    cc (any-append (eqb (entry .args .shard)) (map inputShard (usedInputs t)) (map outputShard (usedOutputs t)))
+    let a = entry .args in
+    cc (any-append (eqb (a .shard)) (map inputShard (usedInputs (a .t))) (map outputShard (usedOutputs (a .t))))
 
 pub takes-part-spec : {M : Type 1} → statement M
 takes-part-spec = tie.close (tie.spec some-input-at-requires some-output-at-requires returns)
