@@ -1,5 +1,5 @@
 -- Every record written reads back as the same fields.
-use Prim.Native.Nat.{ℕ, _+_, _/_, _%_}
+use Prim.Native.Nat.{ℕ, _/_, _%_}
 use mathlib.Core.Path.{_≡_, refl, sym, ap, _∙_}
 use mathlib.Core.Bool.{Bool, true, false, cond}
 use mathlib.Core.List.{List, [], _∷_, _++_}
@@ -17,10 +17,36 @@ use Rattle.transaction.proofs.Long.{Long}
 use Rattle.reader.specs.declared.Record.{Record}
 use Rattle.reader.specs.declared.Record.the-variants.{Register, Vote, Mint}
 use Rattle.reader.specs.declared.Answer.the-variants.{Read}
+use Rattle.reader.specs.declared.Reading.{Reading}
 use Rattle.reader.specs.Layout.{joined, wordAt, inputAt, outputAt, inputsAt, outputsAt, transactionAt, bodyLength}
 use Rattle.reader.specs.Reading.{headCause, readingOf, restOf}
-use Rattle.reader.proofs.Cases.{head-whole, reading-good, cause-1, record-1, transaction-1, taken-1, cause-2, record-2, transaction-2, taken-2, cause-3, record-3, transaction-3, taken-3}
-use Rattle.writer.specs.Layout.{wordOf, inputBytes, outputBytes, inputsBytes, outputsBytes, transactionBytes, registerBytes, voteBytes, mintBytes}
+use Rattle.reader.proofs.Cases.{
+  head-whole,
+  reading-good,
+  cause-1,
+  record-1,
+  transaction-1,
+  taken-1,
+  cause-2,
+  record-2,
+  transaction-2,
+  taken-2,
+  cause-3,
+  record-3,
+  transaction-3,
+  taken-3,
+}
+use Rattle.writer.specs.Layout.{
+  wordOf,
+  inputBytes,
+  outputBytes,
+  inputsBytes,
+  outputsBytes,
+  transactionBytes,
+  registerBytes,
+  voteBytes,
+  mintBytes,
+}
 use Rattle.writer.specs.Writing.{registerCause, voteCause, mintCause, lentAfter}
 use Rattle.writer.proofs.Stores.{length-transaction, length-register, length-vote, length-mint}
 use Rattle.writer.proofs.Writes.{fields-pass}
@@ -30,6 +56,10 @@ use Rattle.codec.specs.Records.{recordBytes, recordCause, readBack}
 word-back : (v : ℕ) → joined (v / 16777216) (v / 65536 % 256) (v / 256 % 256) (v % 256) ≡ v
 word-back v = omega arith
 
+-- the four slots of a list
+abbrev slots : {A : Type 0} → A → List A → List A
+slots d x = getD x 0 d ∷ getD x 1 d ∷ getD x 2 d ∷ getD x 3 d ∷ []
+
 -- a transaction's bytes, with anything behind them, hold its fields
 listed : Transaction → Transaction
 listed t =
@@ -37,12 +67,15 @@ listed t =
       number = t .number;
       «input_count» = t .«input_count»;
       «output_count» = t .«output_count»;
-      inputs = getD (t .inputs) 0 zeroInput ∷ getD (t .inputs) 1 zeroInput ∷ getD (t .inputs) 2 zeroInput ∷ getD (t .inputs) 3 zeroInput ∷ [];
-      outputs = getD (t .outputs) 0 zeroOutput ∷ getD (t .outputs) 1 zeroOutput ∷ getD (t .outputs) 2 zeroOutput ∷ getD (t .outputs) 3 zeroOutput ∷ [];
+      inputs = slots zeroInput (t .inputs);
+      outputs = slots zeroOutput (t .outputs);
     }
 
 transaction-listed : (t : Transaction) (l : List ℕ) → transactionAt (transactionBytes t ++ l) 0 ≡ listed t
-unfolding wordAt wordOf inputAt inputBytes outputAt outputBytes inputsAt outputsAt transactionAt inputsBytes outputsBytes transactionBytes listed
+unfolding
+    wordAt inputAt outputAt inputsAt outputsAt transactionAt
+    wordOf inputBytes outputBytes inputsBytes outputsBytes transactionBytes
+    listed
 transaction-listed t l = simp word-back
 
 listed-is : (t : Transaction) → Long t → listed t ≡ t
@@ -71,7 +104,9 @@ module _ (r : ℕ) (t : Transaction) (l : List ℕ) where
 
   pub register-rest : restOf (registerBytes r t ++ l) ≡ l
   unfolding restOf registerBytes
-  register-rest = rw (taken-1 (registerBytes r t ++ l) register-whole refl) (drop-at (registerBytes r t) l 100 (length-register r t))
+  register-rest =
+      rw (taken-1 (registerBytes r t ++ l) register-whole refl)
+      (drop-at (registerBytes r t) l 100 (length-register r t))
 
   pub register-back : Long t → firstOf (registerChecks house r t) ≡ 0
       → readingOf (registerBytes r t ++ l) ≡ record { answer = Read (Register r); transaction = t; taken = 100 }
@@ -79,9 +114,13 @@ module _ (r : ℕ) (t : Transaction) (l : List ℕ) where
   register-back long pass =
       let whole = registerBytes r t ++ l in
       let fields : transactionAt whole 2 ≡ t = behind-2 1 r (transactionBytes t ++ l) ∙ transaction-back t l long in
-      sym (reading-good whole register-whole
-      (sym pass ∙ ap (λ (x : Transaction). firstOf (registerChecks house r x)) (sym fields) ∙ sym (cause-1 whole register-whole refl)) refl
-      (sym (record-1 whole register-whole refl)) (sym fields ∙ sym (transaction-1 whole register-whole refl))
+      let checked = ap (λ (x : Transaction). firstOf (registerChecks house r x)) fields in
+      sym
+      (reading-good whole register-whole
+      (sym pass ∙ sym checked ∙ sym (cause-1 whole register-whole refl))
+      refl
+      (sym (record-1 whole register-whole refl))
+      (sym fields ∙ sym (transaction-1 whole register-whole refl))
       (sym (taken-1 whole register-whole refl)))
 
 -- a record of kind 2
@@ -94,7 +133,9 @@ module _ (r s v : ℕ) (t : Transaction) (l : List ℕ) where
 
   pub vote-rest : restOf (voteBytes r s v t ++ l) ≡ l
   unfolding restOf voteBytes
-  vote-rest = rw (taken-2 (voteBytes r s v t ++ l) vote-whole refl) (drop-at (voteBytes r s v t) l 102 (length-vote r s v t))
+  vote-rest =
+      rw (taken-2 (voteBytes r s v t ++ l) vote-whole refl)
+      (drop-at (voteBytes r s v t) l 102 (length-vote r s v t))
 
   pub vote-back : Long t → firstOf (voteChecks house r s v t) ≡ 0
       → readingOf (voteBytes r s v t ++ l) ≡ record { answer = Read (Vote r s v); transaction = t; taken = 102 }
@@ -102,16 +143,21 @@ module _ (r s v : ℕ) (t : Transaction) (l : List ℕ) where
   vote-back long pass =
       let whole = voteBytes r s v t ++ l in
       let fields : transactionAt whole 4 ≡ t = behind-4 2 r s v (transactionBytes t ++ l) ∙ transaction-back t l long in
-      sym (reading-good whole vote-whole
-      (sym pass ∙ ap (λ (x : Transaction). firstOf (voteChecks house r s v x)) (sym fields) ∙ sym (cause-2 whole vote-whole refl)) refl
-      (sym (record-2 whole vote-whole refl)) (sym fields ∙ sym (transaction-2 whole vote-whole refl))
+      let checked = ap (λ (x : Transaction). firstOf (voteChecks house r s v x)) fields in
+      sym
+      (reading-good whole vote-whole
+      (sym pass ∙ sym checked ∙ sym (cause-2 whole vote-whole refl))
+      refl
+      (sym (record-2 whole vote-whole refl))
+      (sym fields ∙ sym (transaction-2 whole vote-whole refl))
       (sym (taken-2 whole vote-whole refl)))
 
 -- a record of kind 3
 module _ (r i o a : ℕ) (l : List ℕ) where
   mint-whole : headCause (mintBytes r i o a ++ l) ≡ 0
   unfolding wordOf mintBytes bodyLength
-  mint-whole = sym (head-whole (mintBytes r i o a ++ l) {n = 10} (λ e. omega arith) refl (λ e. omega arith) (omega arith))
+  mint-whole =
+      sym (head-whole (mintBytes r i o a ++ l) {n = 10} (λ e. omega arith) refl (λ e. omega arith) (omega arith))
 
   pub mint-rest : restOf (mintBytes r i o a ++ l) ≡ l
   unfolding restOf wordOf mintBytes
@@ -126,48 +172,49 @@ module _ (r i o a : ℕ) (l : List ℕ) where
   amount-back = word-back a
 
   pub mint-back : firstOf (mintChecks house r i o a) ≡ 0
-      → readingOf (mintBytes r i o a ++ l) ≡ record { answer = Read (Mint r i o a); transaction = blankTransaction; taken = 11 }
+      → readingOf (mintBytes r i o a ++ l)
+      ≡ record { answer = Read (Mint r i o a); transaction = blankTransaction; taken = 11 }
   unfolding wordOf mintBytes
   mint-back pass =
       let whole = mintBytes r i o a ++ l in
-      let checked : firstOf (mintChecks house r i (wordAt whole 3) (wordAt whole 7)) ≡ firstOf (mintChecks house r i o a) =
-      ap (λ (x : ℕ). firstOf (mintChecks house r i x (wordAt whole 7))) owner-back
+      let checked = ap (λ (x : ℕ). firstOf (mintChecks house r i x (wordAt whole 7))) owner-back
       ∙ ap (λ (x : ℕ). firstOf (mintChecks house r i o x)) amount-back in
-      let fields : Mint r i (wordAt whole 3) (wordAt whole 7) ≡ Mint r i o a =
-      ap (λ (x : ℕ). Mint r i x (wordAt whole 7)) owner-back ∙ ap (λ (x : ℕ). Mint r i o x) amount-back in
-      sym (reading-good whole mint-whole (sym pass ∙ sym checked ∙ sym (cause-3 whole mint-whole refl)) refl
-      (sym fields ∙ sym (record-3 whole mint-whole refl)) (sym (transaction-3 whole mint-whole refl)) (sym (taken-3 whole mint-whole refl)))
+      let fields = ap (λ (x : ℕ). Mint r i x (wordAt whole 7)) owner-back ∙ ap (λ (x : ℕ). Mint r i o x) amount-back in
+      sym
+      (reading-good whole mint-whole
+      (sym pass ∙ sym checked ∙ sym (cause-3 whole mint-whole refl))
+      refl
+      (sym fields ∙ sym (record-3 whole mint-whole refl))
+      (sym (transaction-3 whole mint-whole refl))
+      (sym (taken-3 whole mint-whole refl)))
+
+-- a record of any kind: its reading where its number is 0, and the reading of what stood there before where not
+by-cause : (number : ℕ) (bytes before : List ℕ) {good : Reading}
+    → (number ≡ 0 → readingOf (bytes ++ drop (length bytes) before) ≡ good)
+    → readingOf (lentAfter number bytes before) ≡ cond (eqb number 0) good (readingOf before)
+by-cause number bytes before {good} back = go (eqb number 0) refl
+  where
+    go : (b : Bool) → eqb number 0 ≡ b
+        → readingOf (cond b (bytes ++ drop (length bytes) before) before) ≡ cond b good (readingOf before)
+    go true e = back (eqb-true number 0 e)
+    go false e = refl
 
 -- THEOREM: what stands at the front after a record was written reads back as its fields.
 pub written-reads-back : (fields : Record) (t : Transaction) (before : List ℕ) → Long t
-    → readingOf (lentAfter (recordCause fields t (length before)) (recordBytes fields t) before) ≡ readBack fields t before
-written-reads-back (Register r) t before long = go (eqb (registerCause r t (length before)) 0) refl
-  where
-    go : (b : Bool) → eqb (registerCause r t (length before)) 0 ≡ b
-        → readingOf (cond b (registerBytes r t ++ drop (length (registerBytes r t)) before) before)
-        ≡ cond b (record { answer = Read (Register r); transaction = t; taken = length (registerBytes r t) }) (readingOf before)
-    go true e =
-        rw (length-register r t)
-        (register-back r t (drop 100 before) long
-        (fields-pass (registerChecks house r t) 100 (length before) (unfold registerCause in eqb-true (registerCause r t (length before)) 0 e)))
-    go false e = refl
-written-reads-back (Vote r s v) t before long = go (eqb (voteCause r s v t (length before)) 0) refl
-  where
-    go : (b : Bool) → eqb (voteCause r s v t (length before)) 0 ≡ b
-        → readingOf (cond b (voteBytes r s v t ++ drop (length (voteBytes r s v t)) before) before)
-        ≡ cond b (record { answer = Read (Vote r s v); transaction = t; taken = length (voteBytes r s v t) }) (readingOf before)
-    go true e =
-        rw (length-vote r s v t)
-        (vote-back r s v t (drop 102 before) long
-        (fields-pass (voteChecks house r s v t) 102 (length before) (unfold voteCause in eqb-true (voteCause r s v t (length before)) 0 e)))
-    go false e = refl
-written-reads-back (Mint r i o a) t before long = go (eqb (mintCause r i o a (length before)) 0) refl
-  where
-    go : (b : Bool) → eqb (mintCause r i o a (length before)) 0 ≡ b
-        → readingOf (cond b (mintBytes r i o a ++ drop (length (mintBytes r i o a)) before) before)
-        ≡ cond b (record { answer = Read (Mint r i o a); transaction = blankTransaction; taken = length (mintBytes r i o a) }) (readingOf before)
-    go true e =
-        rw (length-mint r i o a)
-        (mint-back r i o a (drop 11 before)
-        (fields-pass (mintChecks house r i o a) 11 (length before) (unfold mintCause in eqb-true (mintCause r i o a (length before)) 0 e)))
-    go false e = refl
+    → readingOf (lentAfter (recordCause fields t (length before)) (recordBytes fields t) before)
+    ≡ readBack fields t before
+written-reads-back (Register r) t before long =
+    by-cause (registerCause r t (length before)) (registerBytes r t) before
+    (λ z.
+    let pass = fields-pass (registerChecks house r t) 100 (length before) (unfold registerCause in z) in
+    rw (length-register r t) (register-back r t (drop 100 before) long pass))
+written-reads-back (Vote r s v) t before long =
+    by-cause (voteCause r s v t (length before)) (voteBytes r s v t) before
+    (λ z.
+    let pass = fields-pass (voteChecks house r s v t) 102 (length before) (unfold voteCause in z) in
+    rw (length-vote r s v t) (vote-back r s v t (drop 102 before) long pass))
+written-reads-back (Mint r i o a) t before long =
+    by-cause (mintCause r i o a (length before)) (mintBytes r i o a) before
+    (λ z.
+    let pass = fields-pass (mintChecks house r i o a) 11 (length before) (unfold mintCause in z) in
+    rw (length-mint r i o a) (mint-back r i o a (drop 11 before) pass))

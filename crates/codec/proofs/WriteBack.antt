@@ -14,9 +14,47 @@ use Rattle.reader.specs.declared.Record.{Record}
 use Rattle.reader.specs.declared.Answer.the-variants.{Read, Refused}
 use Rattle.reader.specs.declared.Reading.{Reading}
 use Rattle.reader.specs.Layout.{byteAt, joined, wordAt, inputAt, outputAt, inputsAt, outputsAt, transactionAt}
-use Rattle.reader.specs.Reading.{kindOf, headCause, headChecks, bodyChecks, readCause, recordAt, transactionIn, takenOf, answerOf, readingOf}
-use Rattle.reader.proofs.Cases.{by-kinds, cause-1, record-1, transaction-1, taken-1, long-1, cause-2, record-2, transaction-2, taken-2, long-2, cause-3, record-3, taken-3, long-3}
-use Rattle.writer.specs.Layout.{byteOf, wordOf, inputBytes, outputBytes, inputsBytes, outputsBytes, transactionBytes, registerBytes, voteBytes, mintBytes}
+use Rattle.reader.specs.Reading.{
+  kindOf,
+  headCause,
+  headChecks,
+  bodyChecks,
+  readCause,
+  recordAt,
+  transactionIn,
+  takenOf,
+  answerOf,
+  readingOf,
+}
+use Rattle.reader.proofs.Cases.{
+  by-kinds,
+  cause-1,
+  record-1,
+  transaction-1,
+  taken-1,
+  long-1,
+  cause-2,
+  record-2,
+  transaction-2,
+  taken-2,
+  long-2,
+  cause-3,
+  record-3,
+  taken-3,
+  long-3,
+}
+use Rattle.writer.specs.Layout.{
+  byteOf,
+  wordOf,
+  inputBytes,
+  outputBytes,
+  inputsBytes,
+  outputsBytes,
+  transactionBytes,
+  registerBytes,
+  voteBytes,
+  mintBytes,
+}
 use Rattle.writer.specs.declared.Written.{Written}
 use Rattle.writer.specs.Writing.{registerCause, voteCause, mintCause, Writes}
 use Rattle.transaction.proofs.Tables.{numbered, first-stands, first-behind}
@@ -52,20 +90,24 @@ module _ (l : List ℕ) (small : (i : ℕ) → getD l i 0 < 256) where
   word-part : (k : ℕ) → k + 4 ≤ length l → wordOf (wordAt l k) ≡ part l k 4
   unfolding wordAt
   word-part k h =
-      word-again (byteAt l k) (byteAt l (k + 1)) (byteAt l (k + 2)) (byteAt l (k + 3)) (small k) (small (k + 1)) (small (k + 2)) (small (k + 3))
-      ∙ glue l k 3 1 (glue l k 2 1 (glue l k 1 1 (byte-part k (omega arith)) (byte-part (k + 1) (omega arith))) (byte-part (k + 2) (omega arith)))
-      (byte-part (k + 3) (omega arith))
+      word-again (byteAt l k) (byteAt l (k + 1)) (byteAt l (k + 2)) (byteAt l (k + 3))
+      (small k) (small (k + 1)) (small (k + 2)) (small (k + 3))
+      ∙ glue l k 3 1
+      (glue l k 2 1 (glue l k 1 1 (byte-part k (omega arith)) (byte-part (k + 1) (omega arith)))
+      (byte-part (k + 2) (omega arith))) (byte-part (k + 3) (omega arith))
 
   input-part : (k : ℕ) → k + 14 ≤ length l → inputBytes (inputAt l k) ≡ part l k 14
   unfolding inputAt inputBytes
   input-part k h =
-      glue l k 10 4 (glue l k 6 4 (glue l k 5 1 (glue l k 1 4 (byte-part k (omega arith)) (word-part (k + 1) (omega arith)))
+      glue l k 10 4
+      (glue l k 6 4 (glue l k 5 1 (glue l k 1 4 (byte-part k (omega arith)) (word-part (k + 1) (omega arith)))
       (byte-part (k + 5) (omega arith))) (word-part (k + 6) (omega arith))) (word-part (k + 10) (omega arith))
 
   output-part : (k : ℕ) → k + 9 ≤ length l → outputBytes (outputAt l k) ≡ part l k 9
   unfolding outputAt outputBytes
   output-part k h =
-      glue l k 5 4 (glue l k 1 4 (byte-part k (omega arith)) (word-part (k + 1) (omega arith))) (word-part (k + 5) (omega arith))
+      glue l k 5 4 (glue l k 1 4 (byte-part k (omega arith)) (word-part (k + 1) (omega arith)))
+      (word-part (k + 5) (omega arith))
 
   inputs-part : (k : ℕ) → k + 56 ≤ length l → inputsBytes (inputsAt l k) ≡ part l k 56
   unfolding inputsAt inputsBytes
@@ -82,7 +124,8 @@ module _ (l : List ℕ) (small : (i : ℕ) → getD l i 0 < 256) where
   transaction-part : (k : ℕ) → k + 98 ≤ length l → transactionBytes (transactionAt l k) ≡ part l k 98
   unfolding transactionAt transactionBytes
   transaction-part k h =
-      glue l k 62 36 (glue l k 6 56 (glue l k 5 1 (glue l k 4 1 (word-part k (omega arith)) (byte-part (k + 4) (omega arith)))
+      glue l k 62 36
+      (glue l k 6 56 (glue l k 5 1 (glue l k 4 1 (word-part k (omega arith)) (byte-part (k + 4) (omega arith)))
       (byte-part (k + 5) (omega arith))) (inputs-part (k + 6) (omega arith))) (outputs-part (k + 62) (omega arith))
 
   -- the byte of kind
@@ -94,7 +137,8 @@ module _ (l : List ℕ) (small : (i : ℕ) → getD l i 0 < 256) where
   register-again h k =
       glue l 0 2 98 (glue l 0 1 1 (kind-part k (omega arith)) (byte-part 1 (omega arith))) (transaction-part 2 h)
 
-  vote-again : 102 ≤ length l → kindOf l ≡ 2 → voteBytes (byteAt l 1) (byteAt l 2) (byteAt l 3) (transactionAt l 4) ≡ take 102 l
+  vote-again : 102 ≤ length l → kindOf l ≡ 2
+      → voteBytes (byteAt l 1) (byteAt l 2) (byteAt l 3) (transactionAt l 4) ≡ take 102 l
   unfolding voteBytes
   vote-again h k =
       glue l 0 4 98 (glue l 0 3 1 (glue l 0 2 1 (glue l 0 1 1 (kind-part k (omega arith)) (byte-part 1 (omega arith)))
@@ -131,7 +175,8 @@ module _ (l : List ℕ) (pass : readCause l ≡ 0) (room : ℕ) where
 
   body-numbered : numbered (bodyChecks l) ≡ true
   body-numbered =
-      by-kinds l (head-passes l pass) (numbered (bodyChecks l) ≡ true) (λ k. rw k refl) (λ k. rw k refl) (λ k. rw k refl)
+      by-kinds l (head-passes l pass) (numbered (bodyChecks l) ≡ true)
+      (λ k. rw k refl) (λ k. rw k refl) (λ k. rw k refl)
 
   copy-room : copyCause l room ≡ firstOf enough
   unfolding copyCause readCause enough
@@ -142,14 +187,18 @@ module _ (l : List ℕ) (pass : readCause l ≡ 0) (room : ℕ) where
   record-room =
       let h = head-passes l pass in
       by-kinds l h (recordCause (recordAt l) (transactionIn l) room ≡ firstOf enough)
-      (λ k. rw (record-1 l h k, transaction-1 l h k, taken-1 l h k)
-      (first-behind (registerChecks house (byteAt l 1) (transactionAt l 2)) ((ltb room 100, 15) ∷ []) refl (sym (cause-1 l h k) ∙ pass)))
-      (λ k. rw (record-2 l h k, transaction-2 l h k, taken-2 l h k)
-      (first-behind (voteChecks house (byteAt l 1) (byteAt l 2) (byteAt l 3) (transactionAt l 4)) ((ltb room 102, 15) ∷ []) refl
-      (sym (cause-2 l h k) ∙ pass)))
-      (λ k. rw (record-3 l h k, taken-3 l h k)
-      (first-behind (mintChecks house (byteAt l 1) (byteAt l 2) (wordAt l 3) (wordAt l 7)) ((ltb room 11, 15) ∷ []) refl
-      (sym (cause-3 l h k) ∙ pass)))
+      (λ k.
+      rw (record-1 l h k, transaction-1 l h k, taken-1 l h k)
+      (first-behind (registerChecks house (byteAt l 1) (transactionAt l 2)) ((ltb room 100, 15) ∷ []) refl
+      (sym (cause-1 l h k) ∙ pass)))
+      (λ k.
+      rw (record-2 l h k, transaction-2 l h k, taken-2 l h k)
+      (first-behind (voteChecks house (byteAt l 1) (byteAt l 2) (byteAt l 3) (transactionAt l 4))
+      ((ltb room 102, 15) ∷ []) refl (sym (cause-2 l h k) ∙ pass)))
+      (λ k.
+      rw (record-3 l h k, taken-3 l h k)
+      (first-behind (mintChecks house (byteAt l 1) (byteAt l 2) (wordAt l 3) (wordAt l 7)) ((ltb room 11, 15) ∷ [])
+      refl (sym (cause-3 l h k) ∙ pass)))
 
 -- The reader's two answers: a record, of which the checks pass, or a refusal with the number of the check.
 was-read : (number : ℕ) (fields found : Record) → Read found ≡ answerOf number fields → (number ≡ 0) × (found ≡ fields)
@@ -157,31 +206,42 @@ was-read number fields found e = go (eqb number 0) refl
   where
     go : (b : Bool) → eqb number 0 ≡ b → (number ≡ 0) × (found ≡ fields)
     go true z = let f : Read found ≡ Read fields = e ∙ rw z refl in (eqb-true number 0 z, cc)
-    go false z = let f : Read found ≡ Refused number = e ∙ rw z refl in let n : _≡_ {A = ℕ} 0 1 = cc in absurd (omega arith)
+    go false z =
+        let f : Read found ≡ Refused number = e ∙ rw z refl in
+        let n : _≡_ {A = ℕ} 0 1 = cc in
+        absurd (omega arith)
 
-was-refused : (number found : ℕ) (fields : Record) → Refused found ≡ answerOf number fields → (found ≡ number) × (number ≡ 0 → ⊥)
+was-refused : (number found : ℕ) (fields : Record) → Refused found ≡ answerOf number fields
+    → (found ≡ number) × (number ≡ 0 → ⊥)
 was-refused number found fields e = go (eqb number 0) refl
   where
     go : (b : Bool) → eqb number 0 ≡ b → (found ≡ number) × (number ≡ 0 → ⊥)
-    go true z = let f : Refused found ≡ Read fields = e ∙ rw z refl in let n : _≡_ {A = ℕ} 0 1 = cc in absurd (omega arith)
+    go true z =
+        let f : Refused found ≡ Read fields = e ∙ rw z refl in
+        let n : _≡_ {A = ℕ} 0 1 = cc in
+        absurd (omega arith)
     go false z = let f : Refused found ≡ Refused number = e ∙ rw z refl in (cc, eqb-false number 0 z)
 
 -- THEOREM: a record read and written again is a copy of its bytes.
 module _ (l before : List ℕ) {reading : Reading} (read : reading ≡ readingOf l) where
   pub copies : ((i : ℕ) → getD l i 0 < 256) → {fields : Record} {answer : Written} {after : List ℕ}
       → reading .answer ≡ Read fields
-      → Writes (recordCause fields (reading .transaction) (length before)) (recordBytes fields (reading .transaction)) before answer after
+      → Writes (recordCause fields (reading .transaction) (length before))
+      (recordBytes fields (reading .transaction)) before answer after
       → Copies l before answer after
   unfolding readingOf
   copies small {fields} e w =
       let p = was-read (readCause l) (recordAt l) fields (sym e ∙ ap (λ (x : Reading). x .answer) read) in
       let t : reading .transaction ≡ transactionIn l = ap (λ (x : Reading). x .transaction) read ∙ rw (p .0) refl in
-      let h = head-passes l (p .0) in
-      rw (p .1, t, record-room l (p .0) (length before), read-writes-back l small h, ← copy-room l (p .0) (length before)) at w
+      let again = read-writes-back l small (head-passes l (p .0)) in
+      rw (p .1, t, record-room l (p .0) (length before), again, ← copy-room l (p .0) (length before)) at w
 
-  pub copies-refused : {number : ℕ} → reading .answer ≡ Refused number → Copies l before (Written.Refused number) before
+  pub copies-refused : {number : ℕ} → reading .answer ≡ Refused number
+      → Copies l before (Written.Refused number) before
   unfolding readingOf copyCause readCause
   copies-refused {number} e =
       let p = was-refused (readCause l) number (recordAt l) (sym e ∙ ap (λ (x : Reading). x .answer) read) in
+      let enough : List (Bool × ℕ) = (ltb (length before) (takenOf l), 15) ∷ [] in
       refuses (copyCause l (length before)) (take (takenOf l) l) before
-      (p .0 ∙ sym (first-stands (headChecks l ++ bodyChecks l) ((ltb (length before) (takenOf l), 15) ∷ []) (p .1))) (λ z. p .1 (sym (p .0) ∙ z))
+      (p .0 ∙ sym (first-stands (headChecks l ++ bodyChecks l) enough (p .1)))
+      (λ z. p .1 (sym (p .0) ∙ z))

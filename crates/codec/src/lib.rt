@@ -1,4 +1,5 @@
-// Reader and writers together: a record read writes back as the same bytes, a record written reads back as the same fields.
+// Reader and writers together: a record read writes back as the same bytes,
+// a record written reads back as the same fields.
 ghost use mathlib.Core.Path.{_≡_};
 ghost use lib.ListN.{length};
 ghost use Rattle.writer.specs.Writing.{Writes};
@@ -11,7 +12,8 @@ use writer::Written;
 
 // A record of any kind, as the reader gives it. A genesis token's record takes nothing of the transaction.
 pub fn write(fields: Record, t: Transaction, out: &mut [u8]) -> Written
-    ensures { λ r. ⌜ Writes (recordCause fields t (length (now (out .entry)))) (recordBytes fields t) (now (out .entry)) r (now (out .exit)) ⌝ }
+    ensures { λ r. ⌜ Writes (recordCause fields t (length (now (out .entry)))) (recordBytes fields t)
+        (now (out .entry)) r (now (out .exit)) ⌝ }
 {
     match fields {
         Record::Register { receiver } => writer::write_register(receiver, t, out),

@@ -1,6 +1,8 @@
--- Document 01's starred lines ('Swaps at the edge (* proved)') and its example listing, in one table: `StarredTable`, at the end of this file.
--- Its rows stand in document 01's order, each under the line that it states. `starred` in proofs/Starred.antt proves all of them.
--- Rows about records speak of bytes: the writer's bytes, and one record spelled out. Rows about calls play them from the empty cluster (round).
+-- Document 01's starred lines ('Swaps at the edge (* proved)') and its example listing, in one table: `StarredTable`,
+-- at the end of this file. Its rows stand in document 01's order, each under the line that it states.
+-- `starred` in proofs/Starred.antt proves all of them.
+-- Rows about records speak of bytes: the writer's bytes, and one record spelled out.
+-- Rows about calls play them from the empty cluster (round).
 use Prim.Native.Nat.{ℕ, zero, suc}
 use mathlib.Core.Path.{_≡_}
 use mathlib.Core.Bool.{true, false}
@@ -108,28 +110,40 @@ writerCause call = recordCause (fieldsOf call) (transactionOf call) (length (byt
 
 -- It passes: the bytes are read as these fields, the writer writes them, and the empty cluster carries the call out.
 abbrev pub Passes : Call → Type 0
-Passes call = (readingOf (bytesOf call) ≡ readAs call) × (writerCause call ≡ 0) × (map carriedOut (answersTo (call ∷ [])) ≡ true ∷ [])
+Passes call =
+    (readingOf (bytesOf call) ≡ readAs call)
+    × (writerCause call ≡ 0)
+    × (map carriedOut (answersTo (call ∷ [])) ≡ true ∷ [])
 
--- It gives the number: to the reader, which takes all its bytes, so that reading goes on behind it; to the writer; and to the empty cluster.
+-- It gives the number: to the reader, which takes all its bytes, so that reading goes on behind it; to the writer;
+-- and to the empty cluster.
 abbrev pub Gives : ℕ → Call → Type 0
 Gives number call =
-    (readingOf (bytesOf call) ≡ refusal number (length (bytesOf call))) × (writerCause call ≡ number) × (answersTo (call ∷ []) ≡ Refused number ∷ [])
+    (readingOf (bytesOf call) ≡ refusal number (length (bytesOf call)))
+    × (writerCause call ≡ number)
+    × (answersTo (call ∷ []) ≡ Refused number ∷ [])
 
 -- so many records of a longer stretch, each read from the place where the one before it ended
 unfoldable pub readings : ℕ → List ℕ → List Reading
 readings zero bytes = []
 readings (suc n) bytes = readingOf bytes ∷ readings n (restOf bytes)
 
--- a whole record of kind 1 stands in front: only checks 3, 4 and 5 of its receiver and its transaction are left, and 100 bytes are taken
+-- a whole record of kind 1 stands in front: only checks 3, 4 and 5 of its receiver and its transaction are left,
+-- and 100 bytes are taken
 abbrev pub WholeRegistration : List ℕ → Type 0
 WholeRegistration bytes =
-    (readCause bytes ≡ firstOf (registerChecks (house .genesis) (byteAt bytes 1) (transactionAt bytes 2))) × (takenOf bytes ≡ 100)
+    (readCause bytes ≡ firstOf (registerChecks (house .genesis) (byteAt bytes 1) (transactionAt bytes 2)))
+    × (takenOf bytes ≡ 100)
 
 -- ---- Small transactions, tokens and calls
 
 -- an input: a token's shard, creator (making swap) and index (position), its owner (household) and its amount
 abbrev pub input : ℕ → ℕ → ℕ → ℕ → ℕ → Input
-input shard creator index owner amount = record { token = record { shard = shard; creator = creator; index = index }; owner = owner; amount = amount }
+input shard creator index owner amount = record {
+  token = record { shard = shard; creator = creator; index = index };
+  owner = owner;
+  amount = amount;
+}
 
 -- an output: a shard, an owner and an amount
 abbrev pub output : ℕ → ℕ → ℕ → Output
@@ -145,9 +159,16 @@ make number xs ys = record {
   outputs = take 4 (ys ++ replicate 4 zeroOutput);
 }
 
--- a held token: its creator and index, its owner and amount, and the number of the transaction that it is pledged to, 0 for none
+-- a held token: its creator and index, its owner and amount,
+-- and the number of the transaction that it is pledged to, 0 for none
 abbrev pub token : ℕ → ℕ → ℕ → ℕ → ℕ → Token
-token creator index owner amount pledge = record { creator = creator; index = index; owner = owner; amount = amount; pledge = pledge }
+token creator index owner amount pledge = record {
+  creator = creator;
+  index = index;
+  owner = owner;
+  amount = amount;
+  pledge = pledge;
+}
 
 -- a token's id: its shard, creator and index
 abbrev pub id : ℕ → ℕ → ℕ → TokenId
@@ -181,7 +202,8 @@ threeAndTwo amount = make 1 (input 0 0 0 10 3 ∷ input 0 0 1 10 2 ∷ []) (outp
 abbrev pub pass : ℕ → ℕ → Transaction
 pass from to = make 7 (input from 0 0 10 3 ∷ []) (output to 20 3 ∷ [])
 
--- two transactions numbered 7, of shards 0 and 1 and of shards 2 and 3: registered at both of their shards, and both votes delivered
+-- two transactions numbered 7, of shards 0 and 1 and of shards 2 and 3:
+-- registered at both of their shards, and both votes delivered
 abbrev pub sevens : List Call
 sevens =
     mint 0 0 10 3
@@ -198,7 +220,8 @@ sevens =
 
 -- ---- Document 01's example
 
--- swap 5, which takes both tokens and gives household 10 3 portions at pantry 1, then household 20 2 portions at pantry 0
+-- swap 5, which takes both tokens and gives household 10 3 portions at pantry 1,
+-- then household 20 2 portions at pantry 0
 abbrev pub example5 : Transaction
 example5 = make 5 (input 0 0 0 10 3 ∷ input 1 0 0 20 2 ∷ []) (output 1 10 3 ∷ output 0 20 2 ∷ [])
 
@@ -238,7 +261,8 @@ cut = take 5 example
 
 -- ---- The table
 
--- Ten rows for the ten starred lines, quoted in front of them, and one for the example; what stands below a line says how the row states it.
+-- Ten rows for the ten starred lines, quoted in front of them, and one for the example;
+-- what stands below a line says how the row states it.
 pub record StarredTable : Type 0 where
   -- * Empty input: the one line TOTAL 0.
   -- No bytes: 2, nothing taken, nothing behind. No calls: no answers, eight empty ledgers, and the amount held is 0.
@@ -250,7 +274,8 @@ pub record StarredTable : Type 0 where
       × (shardsAfter [] ≡ emptyShards house)
       × (totalAfter [] ≡ 0)
   -- * 99 bytes of kind 1: 2. 100 bytes: read.
-  -- Any 99 bytes of kind 1; of any 100 only checks 3 to 5 of the fields can refuse, and all are taken; and the example's swap, byte by byte.
+  -- Any 99 bytes of kind 1; of any 100 only checks 3 to 5 of the fields can refuse, and all are taken;
+  -- and the example's swap, byte by byte.
   pub length-of-kind-1 :
       ((bytes : List ℕ) → kindOf bytes ≡ 1 → length bytes ≡ 99 → readingOf bytes ≡ refusal 2 99)
       × ((bytes : List ℕ) → kindOf bytes ≡ 1 → length bytes ≡ 100 → WholeRegistration bytes)
@@ -280,45 +305,57 @@ pub record StarredTable : Type 0 where
       × (balanced (threeAndTwo 4) ≡ false)
       × Gives 5 (register 0 (threeAndTwo 4))
   -- * Two swaps name one held token rightly: the first registered votes yes, the other no.
-  -- In either order: the first one waits, and the token is pledged to it. And where the first one is decided at once, the token is gone.
+  -- In either order: the first one waits, and the token is pledged to it.
+  -- And where the first one is decided at once, the token is gone.
   pub two-claims :
       (answersTo (opened ∷ register 0 (claim 1) ∷ register 0 (claim 2) ∷ []) ≡ Minted ∷ Registered true Wait ∷ Registered false Wait ∷ [])
       × (tokensAt 0 (opened ∷ register 0 (claim 1) ∷ register 0 (claim 2) ∷ []) ≡ token 0 0 10 3 1 ∷ [])
-      × (answersTo (opened ∷ register 0 (claim 2) ∷ register 0 (claim 1) ∷ []) ≡ Minted ∷ Registered true Wait ∷ Registered false Wait ∷ [])
+      × (answersTo (opened ∷ register 0 (claim 2) ∷ register 0 (claim 1) ∷ [])
+      ≡ Minted ∷ Registered true Wait ∷ Registered false Wait ∷ [])
       × (tokensAt 0 (opened ∷ register 0 (claim 2) ∷ register 0 (claim 1) ∷ []) ≡ token 0 0 10 3 2 ∷ [])
-      × (answersTo (opened ∷ register 0 (alone 1) ∷ register 0 (alone 2) ∷ []) ≡ Minted ∷ Registered true Commit ∷ Registered false Abort ∷ [])
+      × (answersTo (opened ∷ register 0 (alone 1) ∷ register 0 (alone 2) ∷ [])
+      ≡ Minted ∷ Registered true Commit ∷ Registered false Abort ∷ [])
       × (tokensAt 0 (opened ∷ register 0 (alone 1) ∷ register 0 (alone 2) ∷ []) ≡ token 1 0 11 3 0 ∷ [])
   -- * Right token, wrong household: no, and nothing is pledged.
   -- So a swap that names it rightly afterwards gets yes.
   pub wrong-owner :
       (answersTo (opened ∷ register 0 wrongOwner ∷ []) ≡ Minted ∷ Registered false Abort ∷ [])
       × (tokensAt 0 (opened ∷ register 0 wrongOwner ∷ []) ≡ token 0 0 10 3 0 ∷ [])
-      × (answersTo (opened ∷ register 0 wrongOwner ∷ register 0 (claim 1) ∷ []) ≡ Minted ∷ Registered false Abort ∷ Registered true Wait ∷ [])
+      × (answersTo (opened ∷ register 0 wrongOwner ∷ register 0 (claim 1) ∷ [])
+      ≡ Minted ∷ Registered false Abort ∷ Registered true Wait ∷ [])
   -- * One input available, one not: no, and the first stays pledged.
   -- So a swap that names it rightly afterwards gets no.
   pub one-available :
       (answersTo (opened ∷ register 0 half ∷ []) ≡ Minted ∷ Registered false Abort ∷ [])
       × (tokensAt 0 (opened ∷ register 0 half ∷ []) ≡ token 0 0 10 3 6 ∷ [])
-      × (answersTo (opened ∷ register 0 half ∷ register 0 (claim 1) ∷ []) ≡ Minted ∷ Registered false Abort ∷ Registered false Wait ∷ [])
+      × (answersTo (opened ∷ register 0 half ∷ register 0 (claim 1) ∷ [])
+      ≡ Minted ∷ Registered false Abort ∷ Registered false Wait ∷ [])
   -- * Swap 5 registered again: 8. Another swap numbered 5: 7.
   -- Both leave all as it was. It is the same once swap 5 is decided.
   pub number-again :
-      (answersTo (opened ∷ register 0 example5 ∷ register 0 example5 ∷ register 0 other5 ∷ []) ≡ Minted ∷ Registered true Wait ∷ Refused 8 ∷ Refused 7 ∷ [])
-      × (shardsAfter (opened ∷ register 0 example5 ∷ register 0 example5 ∷ register 0 other5 ∷ []) ≡ shardsAfter (opened ∷ register 0 example5 ∷ []))
-      × (answersTo (cut ++ (register 0 example5 ∷ register 0 other5 ∷ [])) ≡ answersTo cut ++ (Refused 8 ∷ Refused 7 ∷ []))
+      (answersTo (opened ∷ register 0 example5 ∷ register 0 example5 ∷ register 0 other5 ∷ [])
+      ≡ Minted ∷ Registered true Wait ∷ Refused 8 ∷ Refused 7 ∷ [])
+      × (shardsAfter (opened ∷ register 0 example5 ∷ register 0 example5 ∷ register 0 other5 ∷ [])
+      ≡ shardsAfter (opened ∷ register 0 example5 ∷ []))
+      × (answersTo (cut ++ (register 0 example5 ∷ register 0 other5 ∷ []))
+      ≡ answersTo cut ++ (Refused 8 ∷ Refused 7 ∷ []))
       × (shardsAfter (cut ++ (register 0 example5 ∷ register 0 other5 ∷ [])) ≡ shardsAfter cut)
   -- * Two swaps numbered 7, one of pantries 0 and 1, one of 2 and 3: both may commit; the token names differ by pantry.
-  -- Registered at their shards and with their votes delivered, both commit at all of them; the ids of the tokens then held.
+  -- Registered at their shards and with their votes delivered, both commit at all of them;
+  -- the ids of the tokens then held.
   pub two-sevens :
       (answersTo sevens ≡ Minted ∷ Minted ∷ replicate 4 (Registered true Wait) ++ replicate 4 (Heard Commit))
       × (idsAfter sevens ≡ id 1 7 0 ∷ id 3 7 0 ∷ [])
       × (repeats sameToken (idsAfter sevens) ≡ false)
-  -- The listing program's example: 1 0 OPENED, 2 1 OPENED, 3 0 YES WAIT, 4 1 YES WAIT, 5 0 HEARD COMMIT, 6 1 HEARD COMMIT, 7 1 AGAIN COMMIT,
-  -- TOTAL 5. Pantry 0 then holds (0, 5, 1), pantry 1 holds (1, 5, 0). Cut after line 5, TOTAL is 4.
-  -- The seven records are read one behind the other; the calls' answers; the tokens held, and no others; in the cut case shard 1 still has its opening.
+  -- The listing program's example: 1 0 OPENED, 2 1 OPENED, 3 0 YES WAIT, 4 1 YES WAIT, 5 0 HEARD COMMIT,
+  -- 6 1 HEARD COMMIT, 7 1 AGAIN COMMIT, TOTAL 5.
+  -- Pantry 0 then holds (0, 5, 1), pantry 1 holds (1, 5, 0). Cut after line 5, TOTAL is 4.
+  -- The seven records are read one behind the other; the calls' answers; the tokens held, and no others;
+  -- in the cut case shard 1 still has its opening.
   pub example-listing :
       (readings 7 (stretchOf example) ≡ map readAs example)
-      × (answersTo example ≡ Minted ∷ Minted ∷ Registered true Wait ∷ Registered true Wait ∷ Heard Commit ∷ Heard Commit ∷ Again Commit ∷ [])
+      × (answersTo example
+      ≡ Minted ∷ Minted ∷ Registered true Wait ∷ Registered true Wait ∷ Heard Commit ∷ Heard Commit ∷ Again Commit ∷ [])
       × (tokensAt 0 example ≡ token 5 1 20 2 0 ∷ [])
       × (tokensAt 1 example ≡ token 5 0 10 3 0 ∷ [])
       × (idsAfter example ≡ id 0 5 1 ∷ id 1 5 0 ∷ [])

@@ -21,21 +21,22 @@ same-length c = search needs
 
 returns : tie.Need-returns
 returns c =
-    let after-write : tie.After-write = search in
-    let after-answer : tie.After-answer = search in
-    let after-read : tie.After-read = search in
-    let after-shared-slice-known : tie.After-shared-slice-known = search in
+    let wrote : tie.After-write = search in
+    let good : tie.After-answer = search in
+    let found : tie.After-read = search in
+    let lent : tie.After-shared-slice-known = search in
     let entry : tie.Start = search in
     let a = entry .args in
-    copies (now (a .bytes)) (now (a .out)) (after-read .read .ensures .whole) (λ i. after-shared-slice-known .shared-slice-known .given i .fits) (after-answer .answer .given .1) (after-write .write .ensures)
+    copies (now (a .bytes)) (now (a .out)) (found .read .ensures .whole)
+    (λ i. lent .shared-slice-known .given i .fits) (good .answer .given .1) (wrote .write .ensures)
 
 returns-2 : tie.Need-returns-2
 returns-2 c =
-    let after-answer2 : tie.After-answer2 = search in
-    let after-read : tie.After-read = search in
+    let refused : tie.After-answer2 = search in
+    let found : tie.After-read = search in
     let entry : tie.Start = search in
     let a = entry .args in
-    copies-refused (now (a .bytes)) (now (a .out)) (after-read .read .ensures .whole) (after-answer2 .answer2 .given .1)
+    copies-refused (now (a .bytes)) (now (a .out)) (found .read .ensures .whole) (refused .answer2 .given .1)
 
 pub copy-spec : {M : Type 1} → statement M
 copy-spec =

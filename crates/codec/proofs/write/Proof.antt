@@ -25,27 +25,27 @@ same-length c = search needs
 
 returns : tie.Need-returns
 returns c =
-    let after-write-register : tie.After-write-register = search in
-    let after-fields : tie.After-fields = search in
-    rw (after-fields .fields .given .1) (after-write-register .write-register .ensures)
+    let wrote : tie.After-write-register = search in
+    let kind : tie.After-fields = search in
+    rw (kind .fields .given .1) (wrote .write-register .ensures)
 
 same-length-2 : tie.Need-same-length-2
 same-length-2 c = search needs
 
 returns-2 : tie.Need-returns-2
 returns-2 c =
-    let after-write-vote : tie.After-write-vote = search in
-    let after-fields2 : tie.After-fields2 = search in
-    rw (after-fields2 .fields2 .given .1) (after-write-vote .write-vote .ensures)
+    let wrote : tie.After-write-vote = search in
+    let kind : tie.After-fields2 = search in
+    rw (kind .fields2 .given .1) (wrote .write-vote .ensures)
 
 same-length-3 : tie.Need-same-length-3
 same-length-3 c = search needs
 
 returns-3 : tie.Need-returns-3
 returns-3 c =
-    let after-write-mint : tie.After-write-mint = search in
-    let after-fields3 : tie.After-fields3 = search in
-    rw (after-fields3 .fields3 .given .1) (after-write-mint .write-mint .ensures)
+    let wrote : tie.After-write-mint = search in
+    let kind : tie.After-fields3 = search in
+    rw (kind .fields3 .given .1) (wrote .write-mint .ensures)
 
 pub write-spec : {M : Type 1} → statement M
 write-spec =

@@ -18,10 +18,12 @@ same-length c = search needs
 
 returns : tie.Need-returns
 returns c =
-    let after-write : tie.After-write = search in
+    let wrote : tie.After-write = search in
     let entry : tie.Start = search in
     let a = entry .args in
-    c .read .ensures .whole ∙ ap readingOf (after-write .write .ensures .lent) ∙ written-reads-back (a .fields) (a .t) (now (a .out)) (long-of (a .t) (entry .good .1 .0))
+    c .read .ensures .whole
+    ∙ ap readingOf (wrote .write .ensures .lent)
+    ∙ written-reads-back (a .fields) (a .t) (now (a .out)) (long-of (a .t) (entry .good .1 .0))
 
 pub write-and-read-spec : {M : Type 1} → statement M
 write-and-read-spec = tie.close (tie.spec write-requires read-requires same-length returns)
