@@ -58,19 +58,18 @@ module _ (genesis : ℕ) (t : Transaction) where
         pair-1 zeroInput (t .inputs) long (inputFits genesis) (sameInput zeroInput) (t .«input_count») ep y eq
 
   -- check 3 from its parts, up to the first that fails
-  module _ {within : Bool} (ec : within ≡ countsFit t) where
-    pub fit-counts : within ≡ false → false ≡ fieldsFit genesis t
+  pub fit-counts : false ≡ countsFit t → false ≡ fieldsFit genesis t
+  unfolding fieldsFit
+  fit-counts n = rw (sym n) refl
+
+  module _ (within : true ≡ countsFit t) where
+    pub fit-inputs : false ≡ fits-inputs → false ≡ fieldsFit genesis t
     unfolding fieldsFit
-    fit-counts n = rw (sym ec ∙ n) refl
+    fit-inputs n = rw (sym within, sym n) refl
 
-    module _ (y : within ≡ true) {ins : Bool} (e : ins ≡ fits-inputs) where
-      pub fit-inputs : ins ≡ false → false ≡ fieldsFit genesis t
-      unfolding fieldsFit
-      fit-inputs n = rw (sym ec ∙ y, sym e ∙ n) refl
-
-      pub fit-outputs : ins ≡ true → {outs : Bool} → outs ≡ fits-outputs → outs ≡ fieldsFit genesis t
-      unfolding fieldsFit
-      fit-outputs yi f = rw (sym ec ∙ y, sym e ∙ yi) f
+    pub fit-outputs : true ≡ fits-inputs → {outs : Bool} → outs ≡ fits-outputs → outs ≡ fieldsFit genesis t
+    unfolding fieldsFit
+    fit-outputs y f = rw (sym within, sym y) f
 
   -- where check 3 passes, the sums over all four slots are those over the used ones
   input-sum : fieldsFit genesis t ≡ true → total inputAmount (usedInputs t) ≡ total inputAmount (t .inputs)

@@ -15,7 +15,7 @@ use Rattle.transaction.specs.Lists.{repeats}
 use Rattle.transaction.specs.Checks.{house, countsFit, fieldsFit, sameName}
 use lib.ListN.{length, take}
 use borrow.Author.Tests.{not-true, not-false}
-use mathlib.Core.Path.{_≡_, refl, sym, _∙_}
+use mathlib.Core.Path.{_≡_, sym, _∙_}
 use mathlib.Core.Bool.{true, false}
 use borrow.Author.Needs.{needs}
 use Rattle.reader.proofs.bodies.cause_of.Statement.{statement}
@@ -32,8 +32,8 @@ unfolding countsFit
 counts c = c .counts-fit .ensures
 
 -- They pass.
-within : (c : tie.Else1) → let found : tie.After-counts-fit = search in found .counts-fit .result ≡ true
-within c = not-false _ (c .if1 .left)
+within : (c : tie.Else1) → let entry : tie.Start = search in true ≡ countsFit (entry .args .t)
+within c = sym (not-false _ (c .if1 .left)) ∙ counts (search)
 
 -- The first two inputs pass, so that the other two decide.
 inputs : (c : tie.After-two-inputs-fit2)
@@ -51,8 +51,8 @@ fields : (c : tie.After-outputs-fit)
 fields c =
     let passed : tie.Else3 = search in
     let entry : tie.Start = search in
-    fit-outputs house (entry .args .t) (counts (search)) (within (search))
-    (inputs (search)) (not-false _ (passed .if3 .left)) (c .outputs-fit .ensures)
+    let all = sym (not-false _ (passed .if3 .left)) ∙ inputs (search) in
+    fit-outputs house (entry .args .t) (within (search)) all (c .outputs-fit .ensures)
 
 -- It passes.
 fit : (c : tie.Else4) → let entry : tie.Start = search in true ≡ fieldsFit house (entry .args .t)
@@ -74,7 +74,7 @@ returns : tie.Need-returns
 returns c =
     let entry : tie.Start = search in
     let t = entry .args .t in
-    cause-3 house t (fit-counts house t (counts (search)) (not-true _ (c .if1 .taken)))
+    cause-3 house t (fit-counts house t (sym (not-true _ (c .if1 .taken)) ∙ counts (search)))
 
 array-copy-out-two-inputs-fit : tie.Need-array-copy-out-two-inputs-fit
 array-copy-out-two-inputs-fit c = search needs
@@ -91,7 +91,7 @@ returns-2 c =
     let entry : tie.Start = search in
     let t = entry .args .t in
     let fail = two-fail house t (long entry) (found .two-inputs-fit .ensures) (not-true _ (c .if2 .taken)) in
-    cause-3 house t (fit-inputs house t (counts (search)) (within (search)) fail refl)
+    cause-3 house t (fit-inputs house t (within (search)) fail)
 
 array-copy-out-two-inputs-fit-3 : tie.Need-array-copy-out-two-inputs-fit-3
 array-copy-out-two-inputs-fit-3 c = search needs
@@ -106,8 +106,8 @@ returns-3 : tie.Need-returns-3
 returns-3 c =
     let entry : tie.Start = search in
     let t = entry .args .t in
-    let fail = not-true _ (c .if3 .taken) in
-    cause-3 house t (fit-inputs house t (counts (search)) (within (search)) (inputs (search)) fail)
+    let fail = sym (not-true _ (c .if3 .taken)) ∙ inputs (search) in
+    cause-3 house t (fit-inputs house t (within (search)) fail)
 
 outputs-fit-requires : tie.Need-outputs-fit-requires
 outputs-fit-requires c κs = search needs

@@ -3,7 +3,7 @@ use Rattle.transaction.proofs.Long.{long-of}
 use Rattle.transaction.specs.Checks.{countsFit}
 use lib.ListN.{length}
 use borrow.Author.Tests.{not-true, not-false}
-use mathlib.Core.Path.{_≡_, refl}
+use mathlib.Core.Path.{_≡_, sym, _∙_}
 use mathlib.Core.Bool.{true}
 use borrow.Author.Needs.{needs}
 use Rattle.transaction.proofs.fields.fields_fit.Statement.{statement}
@@ -20,8 +20,8 @@ unfolding countsFit
 counts c = c .counts-fit .ensures
 
 -- They pass.
-within : (c : tie.Else1) → let found : tie.After-counts-fit = search in found .counts-fit .result ≡ true
-within c = not-false _ (c .if1 .left)
+within : (c : tie.Else1) → let entry : tie.Start = search in true ≡ countsFit (entry .args .t)
+within c = sym (not-false _ (c .if1 .left)) ∙ counts (search)
 
 -- The first two inputs pass, so that the other two decide.
 inputs : (c : tie.After-two-inputs-fit2)
@@ -39,7 +39,7 @@ counts-fit-requires c κs = search needs
 returns : tie.Need-returns
 returns c =
     let entry : tie.Start = search in
-    fit-counts (entry .args .genesis) (entry .args .t) (counts (search)) (not-true _ (c .if1 .taken))
+    fit-counts (entry .args .genesis) (entry .args .t) (sym (not-true _ (c .if1 .taken)) ∙ counts (search))
 
 array-copy-out-two-inputs-fit : tie.Need-array-copy-out-two-inputs-fit
 array-copy-out-two-inputs-fit c = search needs
@@ -57,7 +57,7 @@ returns-2 c =
     let g = entry .args .genesis in
     let t = entry .args .t in
     let fail = two-fail g t (long entry) (found .two-inputs-fit .ensures) (not-true _ (c .if2 .taken)) in
-    fit-inputs g t (counts (search)) (within (search)) fail refl
+    fit-inputs g t (within (search)) fail
 
 array-copy-out-two-inputs-fit-3 : tie.Need-array-copy-out-two-inputs-fit-3
 array-copy-out-two-inputs-fit-3 c = search needs
@@ -71,9 +71,8 @@ two-inputs-fit-requires-2 c κs = search needs
 returns-3 : tie.Need-returns-3
 returns-3 c =
     let entry : tie.Start = search in
-    let g = entry .args .genesis in
-    let t = entry .args .t in
-    fit-inputs g t (counts (search)) (within (search)) (inputs (search)) (not-true _ (c .if3 .taken))
+    let fail = sym (not-true _ (c .if3 .taken)) ∙ inputs (search) in
+    fit-inputs (entry .args .genesis) (entry .args .t) (within (search)) fail
 
 outputs-fit-requires : tie.Need-outputs-fit-requires
 outputs-fit-requires c κs = search needs
@@ -82,10 +81,8 @@ returns-4 : tie.Need-returns-4
 returns-4 c =
     let passed : tie.Else3 = search in
     let entry : tie.Start = search in
-    let g = entry .args .genesis in
-    let t = entry .args .t in
-    let all = not-false _ (passed .if3 .left) in
-    fit-outputs g t (counts (search)) (within (search)) (inputs (search)) all (c .outputs-fit .ensures)
+    let fit = sym (not-false _ (passed .if3 .left)) ∙ inputs (search) in
+    fit-outputs (entry .args .genesis) (entry .args .t) (within (search)) fit (c .outputs-fit .ensures)
 
 pub fields-fit-spec : {M : Type 1} → statement M
 fields-fit-spec =
