@@ -239,6 +239,9 @@ module _ (l : List ℕ) (h : headCause l ≡ 0) (k : (kindOf l ≡ 1) ⊎ (kindO
   pub size-within : 98 + 2 ≤ bodyLength (kindOf l) + 1
   size-within = ⊎-elim (λ e. omega (arith, length-1 (kindOf l) e)) (λ e. omega (arith, length-2 (kindOf l) e)) k
 
+  pub front-long : 100 ≤ length l
+  front-long = omega (arith, whole l h, size-within)
+
   pub transaction-last : transactionAt l (bodyLength (kindOf l) + 1 - 98) ≡ transactionIn l
   transaction-last =
       ⊎-elim

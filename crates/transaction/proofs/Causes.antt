@@ -1,21 +1,20 @@
 -- The cases of `causeOf`, each from what was found of the parts, and what its 0 says.
 use Prim.Native.Nat.{ℕ}
-use mathlib.Core.Path.{_≡_, refl, sym, ap, _∙_}
+use mathlib.Core.Path.{_≡_, refl, sym, ap}
 use mathlib.Core.Bool.{Bool, true, false, _&&_}
 use borrow.Author.Tests.{eq-eqb, ne-eqb}
 use lib.Dec.{eqb}
-use lib.ListN.{length, take}
+use lib.ListN.{length}
 use Rattle.transaction.specs.declared.Input.{Input}
 use Rattle.transaction.specs.declared.Output.{Output}
 use Rattle.transaction.specs.declared.Transaction.{Transaction}
-use Rattle.transaction.specs.Lists.{total, repeats, slotsFit}
+use Rattle.transaction.specs.Lists.{total, slotsFit}
 use Rattle.transaction.specs.Tokens.{usedInputs, usedOutputs, sameInput, sameOutput, zeroInput, zeroOutput}
 use Rattle.transaction.specs.Checks.{
   inputFits,
   outputFits,
   countsFit,
   fieldsFit,
-  sameName,
   namedTwice,
   inputAmount,
   outputAmount,
@@ -90,21 +89,21 @@ module _ (genesis : ℕ) (t : Transaction) where
 
   -- where check 3 passes
   module _ (fit : true ≡ fieldsFit genesis t) where
-    pub cause-4 : true ≡ repeats sameName (take (t .«input_count») (t .inputs)) → 4 ≡ causeOf genesis t
-    unfolding causeOf namedTwice
+    pub cause-4 : true ≡ namedTwice t → 4 ≡ causeOf genesis t
+    unfolding causeOf
     cause-4 twice = rw (sym fit, sym twice) refl
 
     -- and check 4 too, the sums found being those of all slots
-    module _ (once : false ≡ repeats sameName (take (t .«input_count») (t .inputs))) {m n : ℕ}
-        (em : m ≡ total inputAmount (t .inputs)) (en : n ≡ total outputAmount (t .outputs)) where
+    module _ (once : false ≡ namedTwice t) {m n : ℕ} (em : m ≡ total inputAmount (t .inputs))
+        (en : n ≡ total outputAmount (t .outputs)) where
       sums : balanced t ≡ eqb m n
       unfolding balanced
       sums = rw (input-sum (sym fit), output-sum (sym fit), em, en) refl
 
       pub cause-5 : (m ≡ n → ⊥) → 5 ≡ causeOf genesis t
-      unfolding causeOf namedTwice
+      unfolding causeOf
       cause-5 q = rw (sym fit, sym once, sums, ne-eqb m n q) refl
 
       pub cause-0 : m ≡ n → 0 ≡ causeOf genesis t
-      unfolding causeOf namedTwice
+      unfolding causeOf
       cause-0 q = rw (sym fit, sym once, sums, eq-eqb m n q) refl

@@ -11,9 +11,8 @@ use Rattle.transaction.proofs.Causes.{
   cause-5,
 }
 use Rattle.transaction.proofs.Long.{long-of}
-use Rattle.transaction.specs.Lists.{repeats}
-use Rattle.transaction.specs.Checks.{house, countsFit, fieldsFit, sameName}
-use lib.ListN.{length, take}
+use Rattle.transaction.specs.Checks.{house, countsFit, fieldsFit, namedTwice}
+use lib.ListN.{length}
 use borrow.Author.Tests.{not-true, not-false}
 use mathlib.Core.Path.{_≡_, sym, _∙_}
 use mathlib.Core.Bool.{true, false}
@@ -58,14 +57,15 @@ fields c =
 fit : (c : tie.Else4) → let entry : tie.Start = search in true ≡ fieldsFit house (entry .args .t)
 fit c = sym (not-false _ (c .if4 .left)) ∙ fields (search)
 
+-- What was found of the names is what the definition says.
+twice : (c : tie.After-named-twice)
+    → let entry : tie.Start = search in c .named-twice .result ≡ namedTwice (entry .args .t)
+unfolding namedTwice
+twice c = c .named-twice .ensures
+
 -- Check 4 passes.
-once : (c : tie.Else5)
-    → let entry : tie.Start = search in
-    let t = entry .args .t in
-    false ≡ repeats sameName (take (t .«input_count») (t .inputs))
-once c =
-    let found : tie.After-named-twice = search in
-    sym (c .if5 .left) ∙ found .named-twice .ensures
+once : (c : tie.Else5) → let entry : tie.Start = search in false ≡ namedTwice (entry .args .t)
+once c = sym (c .if5 .left) ∙ twice (search)
 
 counts-fit-requires : tie.Need-counts-fit-requires
 counts-fit-requires c κs = search needs
@@ -119,9 +119,7 @@ named-twice-requires : tie.Need-named-twice-requires
 named-twice-requires c κs = search needs
 
 returns-5 : tie.Need-returns-5
-returns-5 c =
-    let found : tie.After-named-twice = search in
-    cause-4 house _ (fit (search)) (sym (c .if5 .taken) ∙ found .named-twice .ensures)
+returns-5 c = cause-4 house _ (fit (search)) (sym (c .if5 .taken) ∙ twice (search))
 
 input-total-requires : tie.Need-input-total-requires
 input-total-requires c κs = search needs

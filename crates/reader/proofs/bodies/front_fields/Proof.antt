@@ -1,4 +1,4 @@
-use Rattle.reader.proofs.Cases.{whole, size-within, second-kind, record-1, record-2}
+use Rattle.reader.proofs.Cases.{front-long, second-kind, record-1, record-2}
 use Prim.Native.Nat.{_≤_}
 use lib.ListN.{length}
 use native.Mathlib.Omega.{arith}
@@ -9,9 +9,7 @@ use Rattle.reader.proofs.bodies.front_fields.Tie as tie
 
 -- The fields in front are there, and a transaction behind them.
 long : (entry : tie.Start) → 100 ≤ length (now (entry .args .bytes))
-long entry =
-    let l = now (entry .args .bytes) in
-    omega (arith, whole l (entry .pre .0), size-within l (entry .pre .0) (entry .pre .1))
+long entry = front-long (now (entry .args .bytes)) (entry .pre .0) (entry .pre .1)
 
 shared-slice-read-receiver : tie.Need-shared-slice-read-receiver
 shared-slice-read-receiver c = omega (arith, long (search))

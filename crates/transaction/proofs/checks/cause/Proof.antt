@@ -1,8 +1,6 @@
-use Rattle.transaction.specs.Lists.{repeats}
-use Rattle.transaction.specs.Checks.{fieldsFit, sameName}
+use Rattle.transaction.specs.Checks.{fieldsFit, namedTwice}
 use mathlib.Core.Path.{_≡_, sym, _∙_}
 use mathlib.Core.Bool.{true, false}
-use lib.ListN.{take}
 use borrow.Author.Tests.{not-true, not-false}
 use Rattle.transaction.proofs.Causes.{cause-0, cause-3, cause-4, cause-5}
 use borrow.Author.Needs.{needs}
@@ -15,14 +13,15 @@ fit c =
     let found : tie.After-fields-fit = search in
     sym (not-false _ (c .if1 .left)) ∙ found .fields-fit .ensures
 
+-- What was found of the names is what the definition says.
+twice : (c : tie.After-named-twice)
+    → let entry : tie.Start = search in c .named-twice .result ≡ namedTwice (entry .args .t)
+unfolding namedTwice
+twice c = c .named-twice .ensures
+
 -- Check 4 passes.
-once : (c : tie.Else2)
-    → let entry : tie.Start = search in
-    let t = entry .args .t in
-    false ≡ repeats sameName (take (t .«input_count») (t .inputs))
-once c =
-    let found : tie.After-named-twice = search in
-    sym (c .if2 .left) ∙ found .named-twice .ensures
+once : (c : tie.Else2) → let entry : tie.Start = search in false ≡ namedTwice (entry .args .t)
+once c = sym (c .if2 .left) ∙ twice (search)
 
 fields-fit-requires : tie.Need-fields-fit-requires
 fields-fit-requires c κs = search needs
@@ -38,10 +37,8 @@ named-twice-requires c κs = search needs
 
 returns-2 : tie.Need-returns-2
 returns-2 c =
-    let found : tie.After-named-twice = search in
     let entry : tie.Start = search in
-    let twice = sym (c .if2 .taken) ∙ found .named-twice .ensures in
-    cause-4 (entry .args .genesis) (entry .args .t) (fit (search)) twice
+    cause-4 (entry .args .genesis) (entry .args .t) (fit (search)) (sym (c .if2 .taken) ∙ twice (search))
 
 input-total-requires : tie.Need-input-total-requires
 input-total-requires c κs = search needs
