@@ -9,14 +9,27 @@ use Rattle.transaction.specs.declared.Input.{Input}
 use Rattle.transaction.specs.declared.Output.{Output}
 use Rattle.transaction.specs.declared.Transaction.{Transaction}
 use Rattle.transaction.specs.Tokens.{zeroInput, zeroOutput}
-use Rattle.writer.specs.Layout.{byteOf, wordOf, inputBytes, outputBytes, inputsBytes, outputsBytes, transactionBytes, registerBytes, voteBytes, mintBytes}
+use Rattle.writer.specs.Layout.{
+  byteOf,
+  wordOf,
+  inputBytes,
+  outputBytes,
+  inputsBytes,
+  outputsBytes,
+  transactionBytes,
+  registerBytes,
+  voteBytes,
+  mintBytes,
+}
 
 sets-append : (l : List ℕ) (i : ℕ) (xs ys : List ℕ) → sets l i (xs ++ ys) ≡ sets (sets l i xs) (i + length xs) ys
 sets-append l i [] ys = rw add-zero
 sets-append l i (x ∷ xs) ys = rw (add-suc, ← suc-add) (sets-append _ _ xs ys)
 
 -- a second store, right behind the n bytes of the first
-pub behind : {a b : List ℕ} (l : List ℕ) (at : ℕ) (xs ys : List ℕ) (n : ℕ) → length xs ≡ n → a ≡ sets l at xs → b ≡ sets a (at + n) ys
+pub behind : {a b : List ℕ} (l : List ℕ) (at : ℕ) (xs ys : List ℕ) (n : ℕ) → length xs ≡ n
+    → a ≡ sets l at xs
+    → b ≡ sets a (at + n) ys
     → b ≡ sets l at (xs ++ ys)
 behind l at xs ys n q ea eb =
     eb ∙ ap (λ (z : List ℕ). sets z (at + n) ys) ea ∙ ap (λ (m : ℕ). sets (sets l at xs) (at + m) ys) (sym q)
@@ -69,9 +82,13 @@ pub word-run : (l : List ℕ) (at v : ℕ) {a b c d : List ℕ}
     → d ≡ sets l at (wordOf v)
 unfolding wordOf
 word-run l at v e1 e2 e3 e4 =
-    behind l at (byteOf (v / 16777216) ++ byteOf (v / 65536 % 256) ++ byteOf (v / 256 % 256)) (byteOf (v % 256)) 3 refl
-    (behind l at (byteOf (v / 16777216) ++ byteOf (v / 65536 % 256)) (byteOf (v / 256 % 256)) 2 refl
-    (behind l at (byteOf (v / 16777216)) (byteOf (v / 65536 % 256)) 1 refl e1 e2) e3) e4
+    let one = byteOf (v / 16777216) in
+    let two = byteOf (v / 65536 % 256) in
+    let three = byteOf (v / 256 % 256) in
+    let four = byteOf (v % 256) in
+    behind l at (one ++ two ++ three) four 3 refl
+    (behind l at (one ++ two) three 2 refl
+    (behind l at one two 1 refl e1 e2) e3) e4
 
 pub input-run : (l : List ℕ) (at : ℕ) (x : Input) {a b c d e : List ℕ}
     → a ≡ sets l at (byteOf (x .token .shard))
@@ -82,10 +99,14 @@ pub input-run : (l : List ℕ) (at : ℕ) (x : Input) {a b c d e : List ℕ}
     → e ≡ sets l at (inputBytes x)
 unfolding wordOf inputBytes
 input-run l at x e1 e2 e3 e4 e5 =
-    behind l at (byteOf (x .token .shard) ++ wordOf (x .token .creator) ++ byteOf (x .token .index) ++ wordOf (x .owner)) (wordOf (x .amount)) 10 refl
-    (behind l at (byteOf (x .token .shard) ++ wordOf (x .token .creator) ++ byteOf (x .token .index)) (wordOf (x .owner)) 6 refl
-    (behind l at (byteOf (x .token .shard) ++ wordOf (x .token .creator)) (byteOf (x .token .index)) 5 refl
-    (behind l at (byteOf (x .token .shard)) (wordOf (x .token .creator)) 1 refl e1 e2) e3) e4) e5
+    let shard = byteOf (x .token .shard) in
+    let creator = wordOf (x .token .creator) in
+    let index = byteOf (x .token .index) in
+    let owner = wordOf (x .owner) in
+    behind l at (shard ++ creator ++ index ++ owner) (wordOf (x .amount)) 10 refl
+    (behind l at (shard ++ creator ++ index) owner 6 refl
+    (behind l at (shard ++ creator) index 5 refl
+    (behind l at shard creator 1 refl e1 e2) e3) e4) e5
 
 pub output-run : (l : List ℕ) (at : ℕ) (y : Output) {a b c : List ℕ}
     → a ≡ sets l at (byteOf (y .shard))
@@ -105,9 +126,13 @@ pub inputs-run : (l : List ℕ) (at : ℕ) (x : List Input) {a b c d : List ℕ}
     → d ≡ sets l at (inputsBytes x)
 unfolding wordOf inputBytes inputsBytes
 inputs-run l at x e1 e2 e3 e4 =
-    behind l at (inputBytes (getD x 0 zeroInput) ++ inputBytes (getD x 1 zeroInput) ++ inputBytes (getD x 2 zeroInput)) (inputBytes (getD x 3 zeroInput)) 42 refl
-    (behind l at (inputBytes (getD x 0 zeroInput) ++ inputBytes (getD x 1 zeroInput)) (inputBytes (getD x 2 zeroInput)) 28 refl
-    (behind l at (inputBytes (getD x 0 zeroInput)) (inputBytes (getD x 1 zeroInput)) 14 refl e1 e2) e3) e4
+    let one = inputBytes (getD x 0 zeroInput) in
+    let two = inputBytes (getD x 1 zeroInput) in
+    let three = inputBytes (getD x 2 zeroInput) in
+    let four = inputBytes (getD x 3 zeroInput) in
+    behind l at (one ++ two ++ three) four 42 refl
+    (behind l at (one ++ two) three 28 refl
+    (behind l at one two 14 refl e1 e2) e3) e4
 
 pub outputs-run : (l : List ℕ) (at : ℕ) (y : List Output) {a b c d : List ℕ}
     → a ≡ sets l at (outputBytes (getD y 0 zeroOutput))
@@ -117,9 +142,13 @@ pub outputs-run : (l : List ℕ) (at : ℕ) (y : List Output) {a b c d : List �
     → d ≡ sets l at (outputsBytes y)
 unfolding wordOf outputBytes outputsBytes
 outputs-run l at y e1 e2 e3 e4 =
-    behind l at (outputBytes (getD y 0 zeroOutput) ++ outputBytes (getD y 1 zeroOutput) ++ outputBytes (getD y 2 zeroOutput)) (outputBytes (getD y 3 zeroOutput)) 27 refl
-    (behind l at (outputBytes (getD y 0 zeroOutput) ++ outputBytes (getD y 1 zeroOutput)) (outputBytes (getD y 2 zeroOutput)) 18 refl
-    (behind l at (outputBytes (getD y 0 zeroOutput)) (outputBytes (getD y 1 zeroOutput)) 9 refl e1 e2) e3) e4
+    let one = outputBytes (getD y 0 zeroOutput) in
+    let two = outputBytes (getD y 1 zeroOutput) in
+    let three = outputBytes (getD y 2 zeroOutput) in
+    let four = outputBytes (getD y 3 zeroOutput) in
+    behind l at (one ++ two ++ three) four 27 refl
+    (behind l at (one ++ two) three 18 refl
+    (behind l at one two 9 refl e1 e2) e3) e4
 
 pub transaction-run : (l : List ℕ) (at : ℕ) (t : Transaction) {a b c d e : List ℕ}
     → a ≡ sets l at (wordOf (t .number))
@@ -130,10 +159,13 @@ pub transaction-run : (l : List ℕ) (at : ℕ) (t : Transaction) {a b c d e : L
     → e ≡ sets l at (transactionBytes t)
 unfolding wordOf inputBytes inputsBytes transactionBytes
 transaction-run l at t e1 e2 e3 e4 e5 =
-    behind l at (wordOf (t .number) ++ byteOf (t .«input_count») ++ byteOf (t .«output_count») ++ inputsBytes (t .inputs)) (outputsBytes (t .outputs)) 62 refl
-    (behind l at (wordOf (t .number) ++ byteOf (t .«input_count») ++ byteOf (t .«output_count»)) (inputsBytes (t .inputs)) 6 refl
-    (behind l at (wordOf (t .number) ++ byteOf (t .«input_count»)) (byteOf (t .«output_count»)) 5 refl
-    (behind l at (wordOf (t .number)) (byteOf (t .«input_count»)) 4 refl e1 e2) e3) e4) e5
+    let number = wordOf (t .number) in
+    let inputs = byteOf (t .«input_count») in
+    let outputs = byteOf (t .«output_count») in
+    behind l at (number ++ inputs ++ outputs ++ inputsBytes (t .inputs)) (outputsBytes (t .outputs)) 62 refl
+    (behind l at (number ++ inputs ++ outputs) (inputsBytes (t .inputs)) 6 refl
+    (behind l at (number ++ inputs) outputs 5 refl
+    (behind l at number inputs 4 refl e1 e2) e3) e4) e5
 
 pub register-run : (l : List ℕ) (r : ℕ) (t : Transaction) {a b c : List ℕ} → 100 ≤ length l
     → a ≡ sets l 0 (byteOf 1)

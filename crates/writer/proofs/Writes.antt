@@ -17,13 +17,13 @@ module _ (fields : List (Bool × ℕ)) (size room : ℕ) where
   pub room-refused : {found : ℕ} → found ≡ firstOf fields → (found ≡ 0 → ⊥) → found ≡ withRoom fields size room
   room-refused e n = e ∙ sym (first-stands fields ((ltb room size, 15) ∷ []) (λ q. n (e ∙ q)))
 
-  pub room-short : {found : ℕ} → numbered fields ≡ true → found ≡ firstOf fields → found ≡ 0 → room < size → 15 ≡ withRoom fields size room
-  room-short n e z h =
-      sym (first-behind fields ((ltb room size, 15) ∷ []) n (sym e ∙ z) ∙ rw (lt-ltb room size h) refl)
+  pub room-short : numbered fields ≡ true → firstOf fields ≡ 0 → room < size → 15 ≡ withRoom fields size room
+  room-short n z h =
+      sym (first-behind fields ((ltb room size, 15) ∷ []) n z ∙ rw (lt-ltb room size h) refl)
 
-  pub room-enough : {found : ℕ} → numbered fields ≡ true → found ≡ firstOf fields → found ≡ 0 → size ≤ room → 0 ≡ withRoom fields size room
-  room-enough n e z h =
-      sym (first-behind fields ((ltb room size, 15) ∷ []) n (sym e ∙ z) ∙ rw (le-ltb room size h) refl)
+  pub room-enough : numbered fields ≡ true → firstOf fields ≡ 0 → size ≤ room → 0 ≡ withRoom fields size room
+  room-enough n z h =
+      sym (first-behind fields ((ltb room size, 15) ∷ []) n z ∙ rw (le-ltb room size h) refl)
 
   -- what 0 says: the fields pass, and there is room
   pub fields-pass : withRoom fields size room ≡ 0 → firstOf fields ≡ 0

@@ -15,7 +15,8 @@ pub enum Written {
 
 // A record of kind 1: a transaction for the shard that registers it.
 pub fn write_register(receiver: u8, t: Transaction, out: &mut [u8]) -> Written
-    ensures { λ r. ⌜ Writes (registerCause receiver t (length (now (out .entry)))) (registerBytes receiver t) (now (out .entry)) r (now (out .exit)) ⌝ }
+    ensures { λ r. ⌜ Writes (registerCause receiver t (length (now (out .entry)))) (registerBytes receiver t)
+        (now (out .entry)) r (now (out .exit)) ⌝ }
 {
     let cause = room::register_cause(receiver, t, out.len());
     if cause != 0 {
@@ -27,7 +28,8 @@ pub fn write_register(receiver: u8, t: Transaction, out: &mut [u8]) -> Written
 
 // A record of kind 2: a vote, 1 yes or 0 no, from one shard to another.
 pub fn write_vote(receiver: u8, sender: u8, verdict: u8, t: Transaction, out: &mut [u8]) -> Written
-    ensures { λ r. ⌜ Writes (voteCause receiver sender verdict t (length (now (out .entry)))) (voteBytes receiver sender verdict t) (now (out .entry)) r (now (out .exit)) ⌝ }
+    ensures { λ r. ⌜ Writes (voteCause receiver sender verdict t (length (now (out .entry)))) (voteBytes receiver sender verdict t)
+        (now (out .entry)) r (now (out .exit)) ⌝ }
 {
     let cause = room::vote_cause(receiver, sender, verdict, t, out.len());
     if cause != 0 {
@@ -39,7 +41,8 @@ pub fn write_vote(receiver: u8, sender: u8, verdict: u8, t: Transaction, out: &m
 
 // A record of kind 3 (an opening): a genesis token for a shard.
 pub fn write_mint(receiver: u8, index: u8, owner: u32, amount: u32, out: &mut [u8]) -> Written
-    ensures { λ r. ⌜ Writes (mintCause receiver index owner amount (length (now (out .entry)))) (mintBytes receiver index owner amount) (now (out .entry)) r (now (out .exit)) ⌝ }
+    ensures { λ r. ⌜ Writes (mintCause receiver index owner amount (length (now (out .entry)))) (mintBytes receiver index owner amount)
+        (now (out .entry)) r (now (out .exit)) ⌝ }
 {
     let cause = room::mint_cause(receiver, index, owner, amount, out.len());
     if cause != 0 {

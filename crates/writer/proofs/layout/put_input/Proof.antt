@@ -1,5 +1,4 @@
 use Rattle.writer.proofs.Stores.{input-run}
-use denote.Ref.{now}
 use borrow.Author.Needs.{needs}
 use Rattle.writer.proofs.layout.put_input.Statement.{statement}
 use Rattle.writer.proofs.layout.put_input.Tie as tie
@@ -36,14 +35,17 @@ same-length c = search needs
 
 returns : tie.Need-returns
 returns c =
-    let after-put-word3 : tie.After-put-word3 = search in
-    let after-put-word2 : tie.After-put-word2 = search in
-    let after-put-byte2 : tie.After-put-byte2 = search in
-    let after-put-word : tie.After-put-word = search in
-    let after-put-byte : tie.After-put-byte = search in
-    let entry : tie.Start = search in
-    let a = entry .args in
-    input-run (now (a .out)) (a .at) (a .x) (after-put-byte .put-byte .ensures) (after-put-word .put-word .ensures) (after-put-byte2 .put-byte2 .ensures) (after-put-word2 .put-word2 .ensures) (after-put-word3 .put-word3 .ensures)
+    let fifth : tie.After-put-word3 = search in
+    let fourth : tie.After-put-word2 = search in
+    let third : tie.After-put-byte2 = search in
+    let second : tie.After-put-word = search in
+    let first : tie.After-put-byte = search in
+    input-run _ _ _
+    (first .put-byte .ensures)
+    (second .put-word .ensures)
+    (third .put-byte2 .ensures)
+    (fourth .put-word2 .ensures)
+    (fifth .put-word3 .ensures)
 
 pub put-input-spec : {M : Type 1} → statement M
 put-input-spec =

@@ -1,5 +1,4 @@
 use Rattle.writer.proofs.Stores.{inputs-run}
-use denote.Ref.{now}
 use borrow.Author.Needs.{needs}
 use Rattle.writer.proofs.layout.put_inputs.Statement.{statement}
 use Rattle.writer.proofs.layout.put_inputs.Tie as tie
@@ -42,13 +41,15 @@ same-length c = search needs
 
 returns : tie.Need-returns
 returns c =
-    let after-put-input4 : tie.After-put-input4 = search in
-    let after-put-input3 : tie.After-put-input3 = search in
-    let after-put-input2 : tie.After-put-input2 = search in
-    let after-put-input : tie.After-put-input = search in
-    let entry : tie.Start = search in
-    let a = entry .args in
-    inputs-run (now (a .out)) (a .at) (a .t3) (after-put-input .put-input .ensures) (after-put-input2 .put-input2 .ensures) (after-put-input3 .put-input3 .ensures) (after-put-input4 .put-input4 .ensures)
+    let fourth : tie.After-put-input4 = search in
+    let third : tie.After-put-input3 = search in
+    let second : tie.After-put-input2 = search in
+    let first : tie.After-put-input = search in
+    inputs-run _ _ _
+    (first .put-input .ensures)
+    (second .put-input2 .ensures)
+    (third .put-input3 .ensures)
+    (fourth .put-input4 .ensures)
 
 pub put-inputs-spec : {M : Type 1} → statement M
 put-inputs-spec =

@@ -24,14 +24,18 @@ same-length c = search needs
 
 returns : tie.Need-returns
 returns c =
-    let after-put-word2 : tie.After-put-word2 = search in
-    let after-put-word : tie.After-put-word = search in
-    let after-put-byte3 : tie.After-put-byte3 = search in
-    let after-put-byte2 : tie.After-put-byte2 = search in
-    let after-put-byte : tie.After-put-byte = search in
+    let fifth : tie.After-put-word2 = search in
+    let fourth : tie.After-put-word = search in
+    let third : tie.After-put-byte3 = search in
+    let second : tie.After-put-byte2 = search in
+    let first : tie.After-put-byte = search in
     let entry : tie.Start = search in
-    let a = entry .args in
-    mint-run (now (a .out)) (a .receiver) (a .index) (a .owner) (a .amount) (entry .pre) (after-put-byte .put-byte .ensures) (after-put-byte2 .put-byte2 .ensures) (after-put-byte3 .put-byte3 .ensures) (after-put-word .put-word .ensures) (after-put-word2 .put-word2 .ensures)
+    mint-run (now (entry .args .out)) _ _ _ _ (entry .pre)
+    (first .put-byte .ensures)
+    (second .put-byte2 .ensures)
+    (third .put-byte3 .ensures)
+    (fourth .put-word .ensures)
+    (fifth .put-word2 .ensures)
 
 pub put-mint-spec : {M : Type 1} → statement M
 put-mint-spec =

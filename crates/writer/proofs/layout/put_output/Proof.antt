@@ -1,5 +1,4 @@
 use Rattle.writer.proofs.Stores.{output-run}
-use denote.Ref.{now}
 use borrow.Author.Needs.{needs}
 use Rattle.writer.proofs.layout.put_output.Statement.{statement}
 use Rattle.writer.proofs.layout.put_output.Tie as tie
@@ -24,12 +23,13 @@ same-length c = search needs
 
 returns : tie.Need-returns
 returns c =
-    let after-put-word2 : tie.After-put-word2 = search in
-    let after-put-word : tie.After-put-word = search in
-    let after-put-byte : tie.After-put-byte = search in
-    let entry : tie.Start = search in
-    let a = entry .args in
-    output-run (now (a .out)) (a .at) (a .y) (after-put-byte .put-byte .ensures) (after-put-word .put-word .ensures) (after-put-word2 .put-word2 .ensures)
+    let third : tie.After-put-word2 = search in
+    let second : tie.After-put-word = search in
+    let first : tie.After-put-byte = search in
+    output-run _ _ _
+    (first .put-byte .ensures)
+    (second .put-word .ensures)
+    (third .put-word2 .ensures)
 
 pub put-output-spec : {M : Type 1} → statement M
 put-output-spec =

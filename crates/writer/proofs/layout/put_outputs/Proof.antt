@@ -1,5 +1,4 @@
 use Rattle.writer.proofs.Stores.{outputs-run}
-use denote.Ref.{now}
 use borrow.Author.Needs.{needs}
 use Rattle.writer.proofs.layout.put_outputs.Statement.{statement}
 use Rattle.writer.proofs.layout.put_outputs.Tie as tie
@@ -42,13 +41,15 @@ same-length c = search needs
 
 returns : tie.Need-returns
 returns c =
-    let after-put-output4 : tie.After-put-output4 = search in
-    let after-put-output3 : tie.After-put-output3 = search in
-    let after-put-output2 : tie.After-put-output2 = search in
-    let after-put-output : tie.After-put-output = search in
-    let entry : tie.Start = search in
-    let a = entry .args in
-    outputs-run (now (a .out)) (a .at) (a .t3) (after-put-output .put-output .ensures) (after-put-output2 .put-output2 .ensures) (after-put-output3 .put-output3 .ensures) (after-put-output4 .put-output4 .ensures)
+    let fourth : tie.After-put-output4 = search in
+    let third : tie.After-put-output3 = search in
+    let second : tie.After-put-output2 = search in
+    let first : tie.After-put-output = search in
+    outputs-run _ _ _
+    (first .put-output .ensures)
+    (second .put-output2 .ensures)
+    (third .put-output3 .ensures)
+    (fourth .put-output4 .ensures)
 
 pub put-outputs-spec : {M : Type 1} → statement M
 put-outputs-spec =

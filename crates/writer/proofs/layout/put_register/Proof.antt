@@ -18,12 +18,14 @@ same-length c = search needs
 
 returns : tie.Need-returns
 returns c =
-    let after-put-transaction : tie.After-put-transaction = search in
-    let after-put-byte2 : tie.After-put-byte2 = search in
-    let after-put-byte : tie.After-put-byte = search in
+    let third : tie.After-put-transaction = search in
+    let second : tie.After-put-byte2 = search in
+    let first : tie.After-put-byte = search in
     let entry : tie.Start = search in
-    let a = entry .args in
-    register-run (now (a .out)) (a .receiver) (a .t) (entry .pre) (after-put-byte .put-byte .ensures) (after-put-byte2 .put-byte2 .ensures) (after-put-transaction .put-transaction .ensures)
+    register-run (now (entry .args .out)) _ _ (entry .pre)
+    (first .put-byte .ensures)
+    (second .put-byte2 .ensures)
+    (third .put-transaction .ensures)
 
 pub put-register-spec : {M : Type 1} → statement M
 put-register-spec =

@@ -1,5 +1,4 @@
 use Rattle.writer.proofs.Stores.{transaction-run}
-use denote.Ref.{now}
 use borrow.Author.Needs.{needs}
 use Rattle.writer.proofs.layout.put_transaction.Statement.{statement}
 use Rattle.writer.proofs.layout.put_transaction.Tie as tie
@@ -36,14 +35,17 @@ same-length c = search needs
 
 returns : tie.Need-returns
 returns c =
-    let after-put-outputs : tie.After-put-outputs = search in
-    let after-put-inputs : tie.After-put-inputs = search in
-    let after-put-byte2 : tie.After-put-byte2 = search in
-    let after-put-byte : tie.After-put-byte = search in
-    let after-put-word : tie.After-put-word = search in
-    let entry : tie.Start = search in
-    let a = entry .args in
-    transaction-run (now (a .out)) (a .at) (a .t) (after-put-word .put-word .ensures) (after-put-byte .put-byte .ensures) (after-put-byte2 .put-byte2 .ensures) (after-put-inputs .put-inputs .ensures) (after-put-outputs .put-outputs .ensures)
+    let fifth : tie.After-put-outputs = search in
+    let fourth : tie.After-put-inputs = search in
+    let third : tie.After-put-byte2 = search in
+    let second : tie.After-put-byte = search in
+    let first : tie.After-put-word = search in
+    transaction-run _ _ _
+    (first .put-word .ensures)
+    (second .put-byte .ensures)
+    (third .put-byte2 .ensures)
+    (fourth .put-inputs .ensures)
+    (fifth .put-outputs .ensures)
 
 pub put-transaction-spec : {M : Type 1} → statement M
 put-transaction-spec =

@@ -24,14 +24,18 @@ same-length c = search needs
 
 returns : tie.Need-returns
 returns c =
-    let after-put-transaction : tie.After-put-transaction = search in
-    let after-put-byte4 : tie.After-put-byte4 = search in
-    let after-put-byte3 : tie.After-put-byte3 = search in
-    let after-put-byte2 : tie.After-put-byte2 = search in
-    let after-put-byte : tie.After-put-byte = search in
+    let fifth : tie.After-put-transaction = search in
+    let fourth : tie.After-put-byte4 = search in
+    let third : tie.After-put-byte3 = search in
+    let second : tie.After-put-byte2 = search in
+    let first : tie.After-put-byte = search in
     let entry : tie.Start = search in
-    let a = entry .args in
-    vote-run (now (a .out)) (a .receiver) (a .sender) (a .verdict) (a .t) (entry .pre) (after-put-byte .put-byte .ensures) (after-put-byte2 .put-byte2 .ensures) (after-put-byte3 .put-byte3 .ensures) (after-put-byte4 .put-byte4 .ensures) (after-put-transaction .put-transaction .ensures)
+    vote-run (now (entry .args .out)) _ _ _ _ (entry .pre)
+    (first .put-byte .ensures)
+    (second .put-byte2 .ensures)
+    (third .put-byte3 .ensures)
+    (fourth .put-byte4 .ensures)
+    (fifth .put-transaction .ensures)
 
 pub put-vote-spec : {M : Type 1} → statement M
 put-vote-spec =

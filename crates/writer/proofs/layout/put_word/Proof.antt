@@ -1,5 +1,4 @@
 use Rattle.writer.proofs.Stores.{word-run}
-use denote.Ref.{now}
 use borrow.Author.Needs.{needs}
 use Rattle.writer.proofs.layout.put_word.Statement.{statement}
 use Rattle.writer.proofs.layout.put_word.Tie as tie
@@ -42,13 +41,15 @@ same-length c = search needs
 
 returns : tie.Need-returns
 returns c =
-    let after-put-byte4 : tie.After-put-byte4 = search in
-    let after-put-byte3 : tie.After-put-byte3 = search in
-    let after-put-byte2 : tie.After-put-byte2 = search in
-    let after-put-byte : tie.After-put-byte = search in
-    let entry : tie.Start = search in
-    let a = entry .args in
-    word-run (now (a .out)) (a .at) (a .v) (after-put-byte .put-byte .ensures) (after-put-byte2 .put-byte2 .ensures) (after-put-byte3 .put-byte3 .ensures) (after-put-byte4 .put-byte4 .ensures)
+    let fourth : tie.After-put-byte4 = search in
+    let third : tie.After-put-byte3 = search in
+    let second : tie.After-put-byte2 = search in
+    let first : tie.After-put-byte = search in
+    word-run _ _ _
+    (first .put-byte .ensures)
+    (second .put-byte2 .ensures)
+    (third .put-byte3 .ensures)
+    (fourth .put-byte4 .ensures)
 
 pub put-word-spec : {M : Type 1} → statement M
 put-word-spec =

@@ -1,10 +1,26 @@
+use Prim.Native.Nat.{ℕ}
+use mathlib.Core.Bool.{Bool}
+use mathlib.Core.List.{List}
+use mathlib.Core.Path.{_≡_, refl, sym, _∙_}
+use borrow.Author.Needs.{needs}
+use Rattle.transaction.specs.Lists.{firstOf}
 use Rattle.transaction.specs.Checks.{house, registerChecks}
 use Rattle.writer.specs.Writing.{registerCause}
 use Rattle.writer.proofs.Writes.{room-refused, room-short, room-enough}
-use mathlib.Core.Path.{refl}
-use borrow.Author.Needs.{needs}
 use Rattle.writer.proofs.room.register_cause.Statement.{statement}
 use Rattle.writer.proofs.room.register_cause.Tie as tie
+
+-- The checks of the fields.
+abbrev fields : tie.Start → List (Bool × ℕ)
+fields entry =
+    let a = entry .args in
+    registerChecks house (a .receiver) (a .t)
+
+-- They pass.
+pass : (c : tie.Else1) → let entry : tie.Start = search in firstOf (fields entry) ≡ 0
+pass c =
+    let found : tie.After-register-cause = search in
+    sym (found .register-cause .ensures) ∙ c .if1 .left
 
 register-cause-requires : tie.Need-register-cause-requires
 register-cause-requires c κs = search needs
@@ -12,28 +28,21 @@ register-cause-requires c κs = search needs
 returns : tie.Need-returns
 unfolding registerCause
 returns c =
-    let after-register-cause : tie.After-register-cause = search in
+    let found : tie.After-register-cause = search in
     let entry : tie.Start = search in
-    let a = entry .args in
-    room-refused (registerChecks house (a .receiver) (a .t)) 100 (a .room) (after-register-cause .register-cause .ensures) (c .if1 .taken)
+    room-refused (fields entry) 100 (entry .args .room) (found .register-cause .ensures) (c .if1 .taken)
 
 returns-2 : tie.Need-returns-2
 unfolding registerCause
 returns-2 c =
-    let else1 : tie.Else1 = search in
-    let after-register-cause : tie.After-register-cause = search in
     let entry : tie.Start = search in
-    let a = entry .args in
-    room-short (registerChecks house (a .receiver) (a .t)) 100 (a .room) refl (after-register-cause .register-cause .ensures) (else1 .if1 .left) (c .if2 .taken)
+    room-short (fields entry) 100 (entry .args .room) refl (pass (search)) (c .if2 .taken)
 
 returns-3 : tie.Need-returns-3
 unfolding registerCause
 returns-3 c =
-    let else1 : tie.Else1 = search in
-    let after-register-cause : tie.After-register-cause = search in
     let entry : tie.Start = search in
-    let a = entry .args in
-    room-enough (registerChecks house (a .receiver) (a .t)) 100 (a .room) refl (after-register-cause .register-cause .ensures) (else1 .if1 .left) (c .if2 .left)
+    room-enough (fields entry) 100 (entry .args .room) refl (pass (search)) (c .if2 .left)
 
 pub register-cause-spec : {M : Type 1} → statement M
 register-cause-spec = tie.close (tie.spec register-cause-requires returns returns-2 returns-3)
