@@ -9,5 +9,7 @@ use Rattle.holdings.specs.declared.Inputs.{Inputs}
 use Rattle.holdings.proofs.Inputs as inputs
 use Rattle.holdings.proofs.Inputs.Laws as inputs-laws
 
-pub inputs-long : (x : Inputs) → shadow ((row inputs.the-type) .own x (val inputs.the-type inputs-laws.the-laws x ∷ [])) → length (x .list) ≡ 4
+pub inputs-long : (x : Inputs)
+    → shadow ((row inputs.the-type) .own x (val inputs.the-type inputs-laws.the-laws x ∷ []))
+    → length (x .list) ≡ 4
 inputs-long x g = sym (length-map (x .list) _) ∙ g .1 .1 .1 .0 .1 .0 .1

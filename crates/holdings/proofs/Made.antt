@@ -41,40 +41,53 @@ module _ (me number : ℕ) where
   above n k h = lt-ltb k (suc (suc (suc (suc n)))) (omega arith)
 
   made-of : (a b c e : Output) (n : ℕ)
-      → tokensFrom me number 0 (take n (a ∷ b ∷ c ∷ e ∷ []))
-      ≡ madeFrom me number (ltb 0 n) 0 a ++ madeFrom me number (ltb 1 n) 1 b ++ madeFrom me number (ltb 2 n) 2 c ++ madeFrom me number (ltb 3 n) 3 e
+      → let made : ℕ → Output → List Token = λ k. madeFrom me number (ltb k n) k in
+      tokensFrom me number 0 (take n (a ∷ b ∷ c ∷ e ∷ [])) ≡ made 0 a ++ made 1 b ++ made 2 c ++ made 3 e
   made-of a b c e zero = refl
   made-of a b c e (suc zero) = from-more 0 a [] refl ∙ nest (madeFrom me number true 0 a) [] [] []
   made-of a b c e (suc (suc zero)) =
-      from-more 0 a (b ∷ []) (from-more 1 b [] refl) ∙ nest (madeFrom me number true 0 a) (madeFrom me number true 1 b) [] []
+      let made : ℕ → Output → List Token = madeFrom me number true in
+      from-more 0 a (b ∷ []) (from-more 1 b [] refl) ∙ nest (made 0 a) (made 1 b) [] []
   made-of a b c e (suc (suc (suc zero))) =
+      let made : ℕ → Output → List Token = madeFrom me number true in
       from-more 0 a (b ∷ c ∷ []) (from-more 1 b (c ∷ []) (from-more 2 c [] refl))
-      ∙ nest (madeFrom me number true 0 a) (madeFrom me number true 1 b) (madeFrom me number true 2 c) []
+      ∙ nest (made 0 a) (made 1 b) (made 2 c) []
   made-of a b c e (suc (suc (suc (suc n)))) =
+      let made : ℕ → Output → List Token = madeFrom me number true in
       rw (above n 0 (omega arith), above n 1 (omega arith), above n 2 (omega arith), above n 3 (omega arith))
       (rw (take-nil {A = Output} n)
       (from-more 0 a (b ∷ c ∷ e ∷ []) (from-more 1 b (c ∷ e ∷ []) (from-more 2 c (e ∷ []) (from-more 3 e [] refl)))
-      ∙ nest (madeFrom me number true 0 a) (madeFrom me number true 1 b) (madeFrom me number true 2 c) (madeFrom me number true 3 e)))
+      ∙ nest (made 0 a) (made 1 b) (made 2 c) (made 3 e)))
+
+-- the tokens of a transaction's output slot
+abbrev pub slot : ℕ → Transaction → ℕ → List Token
+slot me t k = madeFrom me (t .number) (ltb k (t .«output_count»)) k (getD (t .outputs) k zeroOutput)
 
 module _ (me : ℕ) (t : Transaction) (long : length (t .outputs) ≡ 4) where
-  abbrev slot : ℕ → List Token
-  slot k = madeFrom me (t .number) (ltb k (t .«output_count»)) k (getD (t .outputs) k zeroOutput)
-
-  made-four : madeHere me t ≡ slot 0 ++ slot 1 ++ slot 2 ++ slot 3
+  made-four : madeHere me t ≡ slot me t 0 ++ slot me t 1 ++ slot me t 2 ++ slot me t 3
   unfolding madeHere
   made-four =
-      ap (λ (l : List Output). tokensFrom me (t .number) 0 (take (t .«output_count») l)) (sym (four zeroOutput (t .outputs) long))
-      ∙ made-of me (t .number) (getD (t .outputs) 0 zeroOutput) (getD (t .outputs) 1 zeroOutput) (getD (t .outputs) 2 zeroOutput)
-      (getD (t .outputs) 3 zeroOutput) (t .«output_count»)
+      let y : ℕ → Output = λ k. getD (t .outputs) k zeroOutput in
+      let n = t .«output_count» in
+      ap (λ (l : List Output). tokensFrom me (t .number) 0 (take n l)) (sym (four zeroOutput (t .outputs) long))
+      ∙ made-of me (t .number) (y 0) (y 1) (y 2) (y 3) n
 
   -- the room that each slot takes
-  pub made-length : length (madeHere me t) ≡ length (slot 0) + length (slot 1) + length (slot 2) + length (slot 3)
+  pub made-length : length (madeHere me t)
+      ≡ length (slot me t 0) + (length (slot me t 1) + (length (slot me t 2) + length (slot me t 3)))
   made-length =
+      let made = slot me t in
       ap length made-four
-      ∙ rw (length-append (slot 0 ++ slot 1 ++ slot 2) (slot 3), length-append (slot 0 ++ slot 1) (slot 2), length-append (slot 0) (slot 1)) refl
+      ∙ rw (length-append (made 0 ++ made 1 ++ made 2) (made 3), length-append (made 0 ++ made 1) (made 2))
+      (rw (length-append (made 0) (made 1)) (omega arith))
 
   -- made one behind the other
-  pub made-by : (p : List Token) {q r s u : List Token} → q ≡ p ++ slot 0 → r ≡ q ++ slot 1 → s ≡ r ++ slot 2 → u ≡ s ++ slot 3 → u ≡ p ++ madeHere me t
+  pub made-by : (p : List Token) {q r s u : List Token}
+      → q ≡ p ++ slot me t 0
+      → r ≡ q ++ slot me t 1
+      → s ≡ r ++ slot me t 2
+      → u ≡ s ++ slot me t 3
+      → u ≡ p ++ madeHere me t
   made-by p eq er es eu =
       eu ∙ rw (es, er, eq) (rw made-four (simp append-assoc))
 
@@ -83,5 +96,6 @@ module _ {A : Type 0} (used wanted : Bool) (l : List A) (x : A) where
   pub unused : not used ≡ true → l ≡ l ++ oneIf (used && wanted) x
   unused e = rw (not-true used e) (sym (append-nil l))
 
-  pub used-if : {found : Bool} {r : List A} → not used ≡ false → found ≡ wanted → r ≡ l ++ oneIf found x → r ≡ l ++ oneIf (used && wanted) x
+  pub used-if : {found : Bool} {r : List A} → not used ≡ false → found ≡ wanted → r ≡ l ++ oneIf found x
+      → r ≡ l ++ oneIf (used && wanted) x
   used-if e f h = rw (not-false used e, ← f) h

@@ -71,15 +71,15 @@ fn no_inputs() -> Inputs
 }
 
 // One input more, where it is wanted.
-fn push_if(before: Inputs, wanted: bool, x: Input) -> Inputs
-    requires { ⌜ before .count < 4 ⌝ }
-    ensures { λ r. ⌜ (inputsOf r ≡ inputsOf before ++ oneIf wanted x) × (r .count ≤ before .count + 1) ⌝ }
+fn push_if(so_far: Inputs, wanted: bool, x: Input) -> Inputs
+    requires { ⌜ «so_far» .count < 4 ⌝ }
+    ensures { λ r. ⌜ (inputsOf r ≡ inputsOf «so_far» ++ oneIf wanted x) × (r .count ≤ «so_far» .count + 1) ⌝ }
 {
     if !wanted {
-        return before;
+        return so_far;
     }
-    let n = before.count;
-    let mut list = before.list;
+    let n = so_far.count;
+    let mut list = so_far.list;
     list[n] = x;
     Inputs {
         count: n + 1,
@@ -103,15 +103,16 @@ pub fn inputs_here(me: u8, t: Transaction) -> Inputs
     push_if(three, (3 < n) & (d.token.shard == me), d)
 }
 
-fn push_available(s: &Words, before: Inputs, used: bool, x: Input) -> Inputs
-    requires { ⌜ (before .count < 4) × (shardOf (now s) .held ≤ tokenSlots) ⌝ }
-    ensures { λ r. ⌜ (inputsOf r ≡ inputsOf before ++ oneIf (used && available (ledgerOf (now (s .entry)) .tokens) x) x) × (r .count ≤ before .count + 1) ⌝ }
+fn push_available(s: &Words, so_far: Inputs, used: bool, x: Input) -> Inputs
+    requires { ⌜ («so_far» .count < 4) × (shardOf (now s) .held ≤ tokenSlots) ⌝ }
+    ensures { λ r. ⌜ (inputsOf r ≡ inputsOf «so_far» ++ oneIf (used && available (ledgerOf (now (s .entry)) .tokens) x) x)
+        × (r .count ≤ «so_far» .count + 1) ⌝ }
 {
     if !used {
-        return before;
+        return so_far;
     }
     let wanted = is_available(s, x);
-    push_if(before, wanted, x)
+    push_if(so_far, wanted, x)
 }
 
 // Second, the available ones among the inputs here.

@@ -3,7 +3,6 @@ use Rattle.transaction.specs.Tokens.{zeroInput}
 use Rattle.layout.specs.Layout.{ledgerOf}
 use Rattle.holdings.proofs.Long.{inputs-long}
 use Rattle.model.specs.Steps.{available}
-use native.Mathlib.Omega.{arith}
 use denote.Ref.{now}
 use borrow.Author.Needs.{needs}
 use Rattle.holdings.proofs.availability.available_of.Statement.{statement}
@@ -38,31 +37,21 @@ push-available-requires-4 c κs = search needs
 
 returns : tie.Need-returns
 returns c =
-    let after-push-available3 : tie.After-push-available3 = search in
-    let after-push-available2 : tie.After-push-available2 = search in
-    let after-push-available : tie.After-push-available = search in
-    let after-no-inputs : tie.After-no-inputs = search in
+    let third : tie.After-push-available3 = search in
+    let second : tie.After-push-available2 = search in
+    let first : tie.After-push-available = search in
+    let none : tie.After-no-inputs = search in
     let entry : tie.Start = search in
-    let args = entry .args in
-    let good = entry .good in
-    let no-inputs = after-no-inputs .no-inputs in
-    let push-available = after-push-available .push-available in
-    let push-available2 = after-push-available2 .push-available2 in
-    let push-available3 = after-push-available3 .push-available3 in
-    let push-available4 = c .push-available4 in
-    let here = args .here in
-    let long = inputs-long here (good .1 .0) in
-    let kept = keep-by zeroInput (here .list) long (available (ledgerOf (now (args .s)) .tokens)) (here .count) (no-inputs .ensures .0) in (
-      kept (push-available .ensures .0) (push-available2 .ensures .0) (push-available3 .ensures .0) (push-available4 .ensures .0),
-      omega (
-        arith,
-        no-inputs .ensures .1,
-        push-available .ensures .1,
-        push-available2 .ensures .1,
-        push-available3 .ensures .1,
-        push-available4 .ensures .1,
-      ),
-    )
+    let here = entry .args .here in
+    let wanted = available (ledgerOf (now (entry .args .s)) .tokens) in
+    let kept =
+    keep-by zeroInput (here .list) (inputs-long here (entry .good .1 .0)) wanted (here .count)
+    (none .no-inputs .ensures .0)
+    (first .push-available .ensures .0)
+    (second .push-available2 .ensures .0)
+    (third .push-available3 .ensures .0)
+    (c .push-available4 .ensures .0) in
+    (kept, search needs)
 
 pub available-of-spec : {M : Type 1} → statement M
 available-of-spec =

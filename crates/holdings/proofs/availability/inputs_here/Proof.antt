@@ -36,23 +36,21 @@ push-if-requires-4 c κs = search needs
 returns : tie.Need-returns
 unfolding inputsHere
 returns c =
-    let after-push-if3 : tie.After-push-if3 = search in
-    let after-push-if2 : tie.After-push-if2 = search in
-    let after-push-if : tie.After-push-if = search in
-    let after-no-inputs : tie.After-no-inputs = search in
-    let after-a : tie.After-a = search in
+    let third : tie.After-push-if3 = search in
+    let second : tie.After-push-if2 = search in
+    let first : tie.After-push-if = search in
+    let none : tie.After-no-inputs = search in
+    let slots : tie.After-a = search in
     let entry : tie.Start = search in
-    let args = entry .args in
-    let good = entry .good in
-    let no-inputs = after-no-inputs .no-inputs in
-    let push-if = after-push-if .push-if in
-    let push-if2 = after-push-if2 .push-if2 in
-    let push-if3 = after-push-if3 .push-if3 in
-    let push-if4 = c .push-if4 in
-    let t = args .t in
-    let long = long-of t (good .1 .0) .inputs in
-    let kept = keep-by zeroInput (t .inputs) long (inputHere (args .me)) (t .«input_count») in
-    (kept (no-inputs .ensures .0) (push-if .ensures .0) (push-if2 .ensures .0) (push-if3 .ensures .0) (push-if4 .ensures .0), search needs)
+    let t = entry .args .t in
+    let kept =
+    keep-by zeroInput (t .inputs) (long-of t (entry .good .1 .0) .inputs) (inputHere (entry .args .me)) (t .«input_count»)
+    (none .no-inputs .ensures .0)
+    (first .push-if .ensures .0)
+    (second .push-if2 .ensures .0)
+    (third .push-if3 .ensures .0)
+    (c .push-if4 .ensures .0) in
+    (kept, search needs)
 
 pub inputs-here-spec : {M : Type 1} → statement M
 inputs-here-spec =

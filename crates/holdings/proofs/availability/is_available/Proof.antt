@@ -1,6 +1,6 @@
 use Rattle.model.specs.Steps.{freeFor, available}
 use Rattle.loops.proofs.Loops.{Seeking, seek-start, seek-hit, seek-next, seek-end}
-use Rattle.layout.specs.Layout.{heldPlace, word, tokensOf, view, noToken}
+use Rattle.layout.specs.Layout.{heldPlace, word, tokensOf, view, noToken, slotToken}
 use Rattle.layout.proofs.Slots.{length-tokens}
 use Prim.Native.Nat.{_-_}
 use native.Mathlib.Omega.{arith}
@@ -15,6 +15,16 @@ Inv-loop s x n k₀ k = (n ≡ word s heldPlace) × Seeking (freeFor x) (tokensO
 
 abbrev μ-loop : tie.MeasureT-loop
 μ-loop s x n k₀ k = n - k
+
+-- What was found of the token is so of its slot.
+free : (c : tie.After-is-free-for Inv-loop μ-loop)
+    → let turn : tie.At-loop Inv-loop μ-loop = search in
+    let entry : tie.Start Inv-loop μ-loop = search in
+    freeFor (entry .args .x) (slotToken (now (entry .args .s)) (turn .loop .k)) ≡ c .is-free-for .result
+free c =
+    let read : tie.After-token-at Inv-loop μ-loop = search in
+    let entry : tie.Start Inv-loop μ-loop = search in
+    ap (freeFor (entry .args .x)) (sym (read .token-at .ensures)) ∙ sym (c .is-free-for .ensures)
 
 held-requires : tie.Need-held-requires Inv-loop μ-loop
 held-requires c κs = search needs
@@ -31,17 +41,10 @@ is-free-for-requires c κs = search needs
 returns : tie.Need-returns Inv-loop μ-loop
 unfolding view available
 returns c =
-    let after-is-free-for : tie.After-is-free-for Inv-loop μ-loop = search in
-    let after-token-at : tie.After-token-at Inv-loop μ-loop = search in
-    let at-loop : tie.At-loop Inv-loop μ-loop = search in
+    let turn : tie.At-loop Inv-loop μ-loop = search in
     let entry : tie.Start Inv-loop μ-loop = search in
-    let args = entry .args in
-    let token-at = after-token-at .token-at in
-    let is-free-for = after-is-free-for .is-free-for in
-    let if1 = c .if1 in
-    let loop = at-loop .loop in
-    let free = ap (freeFor (args .x)) (sym (token-at .ensures)) ∙ sym (is-free-for .ensures) ∙ if1 .taken in
-    sym (seek-hit noToken (loop .inv .1) (omega arith) (omega (arith, length-tokens (now (args .s)))) free)
+    let slots = length-tokens (now (entry .args .s)) in
+    sym (seek-hit noToken (turn .loop .inv .1) (omega arith) (omega (arith, slots)) (free (search) ∙ c .if1 .taken))
 
 add-k : tie.Need-add-k Inv-loop μ-loop
 add-k c = search needs
@@ -51,24 +54,17 @@ loop-less c = search needs
 
 loop-again : tie.Need-loop-again Inv-loop μ-loop
 loop-again c =
-    let after-is-free-for : tie.After-is-free-for Inv-loop μ-loop = search in
-    let after-token-at : tie.After-token-at Inv-loop μ-loop = search in
-    let at-loop : tie.At-loop Inv-loop μ-loop = search in
+    let turn : tie.At-loop Inv-loop μ-loop = search in
     let entry : tie.Start Inv-loop μ-loop = search in
-    let args = entry .args in
-    let token-at = after-token-at .token-at in
-    let is-free-for = after-is-free-for .is-free-for in
-    let if1 = c .if1 in
-    let loop = at-loop .loop in
-    let free = ap (freeFor (args .x)) (sym (token-at .ensures)) ∙ sym (is-free-for .ensures) ∙ if1 .left in
-    (loop .inv .0, seek-next noToken (loop .inv .1) (omega arith) (omega (arith, length-tokens (now (args .s)))) free)
+    let slots = length-tokens (now (entry .args .s)) in
+    let next = seek-next noToken (turn .loop .inv .1) (omega arith) (omega (arith, slots)) (free (search) ∙ c .if1 .left) in
+    (turn .loop .inv .0, next)
 
 returns-2 : tie.Need-returns-2 Inv-loop μ-loop
 unfolding view available
 returns-2 c =
-    let at-loop : tie.At-loop Inv-loop μ-loop = search in
-    let loop = at-loop .loop in
-    sym (seek-end (loop .inv .1) (omega arith))
+    let turn : tie.At-loop Inv-loop μ-loop = search in
+    sym (seek-end (turn .loop .inv .1) (omega arith))
 
 pub is-available-spec : {M : Type 1} → statement M
 is-available-spec =

@@ -9,18 +9,14 @@ names-token-requires c κs = search needs
 
 returns : tie.Need-returns
 returns c =
-    let after-names-token : tie.After-names-token = search in
-    let names-token = after-names-token .names-token in
-    let if1 = c .if1 in
-    rw (sym (names-token .ensures) ∙ not-true _ (if1 .taken)) refl
+    let named : tie.After-names-token = search in
+    rw (sym (named .names-token .ensures) ∙ not-true _ (c .if1 .taken)) refl
 
 returns-2 : tie.Need-returns-2
 returns-2 c =
-    let else1 : tie.Else1 = search in
-    let after-names-token : tie.After-names-token = search in
-    let names-token = after-names-token .names-token in
-    let if1 = else1 .if1 in
-    rw (sym (names-token .ensures) ∙ not-false _ (if1 .left)) refl
+    let no : tie.Else1 = search in
+    let named : tie.After-names-token = search in
+    rw (sym (named .names-token .ensures) ∙ not-false _ (no .if1 .left)) refl
 
 pub is-free-for-spec : {M : Type 1} → statement M
 is-free-for-spec = tie.close (tie.spec names-token-requires returns returns-2)

@@ -12,25 +12,19 @@ transaction-at-requires c κs = search needs
 
 commit-here-requires : tie.Need-commit-here-requires
 commit-here-requires c κs =
-    let after-transaction-at : tie.After-transaction-at = search in
-    let after-own-number : tie.After-own-number = search in
+    let read : tie.After-transaction-at = search in
+    let own : tie.After-own-number = search in
     let entry : tie.Start = search in
     let args = entry .args in
-    let own-number = after-own-number .own-number in
-    let transaction-at = after-transaction-at .transaction-at in
-    let pre = entry .pre in
-    settle-room (args .place) (now (args .s)) (own-number .ensures) (transaction-at .ensures) pre
+    settle-room (args .place) (now (args .s)) (own .own-number .ensures) (read .transaction-at .ensures) (entry .pre)
 
 returns : tie.Need-returns
 returns c =
-    let after-transaction-at : tie.After-transaction-at = search in
-    let after-own-number : tie.After-own-number = search in
+    let read : tie.After-transaction-at = search in
+    let own : tie.After-own-number = search in
     let entry : tie.Start = search in
     let args = entry .args in
-    let own-number = after-own-number .own-number in
-    let transaction-at = after-transaction-at .transaction-at in
-    let commit-here = c .commit-here in
-    settled (args .place) (now (args .s)) (own-number .ensures) (transaction-at .ensures) (commit-here .ensures)
+    settled (args .place) (now (args .s)) (own .own-number .ensures) (read .transaction-at .ensures) (c .commit-here .ensures)
 
 pub commit-at-spec : {M : Type 1} → statement M
 commit-at-spec =

@@ -13,30 +13,21 @@ destroy-requires c κs = search needs
 
 make-requires : tie.Need-make-requires
 make-requires c κs =
-    let after-destroy : tie.After-destroy = search in
-    let after-inputs-here : tie.After-inputs-here = search in
+    let destroyed : tie.After-destroy = search in
+    let found : tie.After-inputs-here = search in
     let entry : tie.Start = search in
-    let inputs-here = after-inputs-here .inputs-here in
-    let args = entry .args in
-    let pre = entry .pre in
-    let destroy = after-destroy .destroy in
-    let here = inputsOf (inputs-here .result) in
-    let law = commit-room (args .me) (args .t) here (inputs-here .ensures .0) (now (args .s)) _ (pre .0) (destroy .ensures) in
-    law (pre .1)
+    let here = inputsOf (found .inputs-here .result) in
+    commit-room (entry .args .me) (entry .args .t) here (found .inputs-here .ensures .0)
+    (now (entry .args .s)) _ (entry .pre .0) (destroyed .destroy .ensures) (entry .pre .1)
 
 returns : tie.Need-returns
 returns c =
-    let after-destroy : tie.After-destroy = search in
-    let after-inputs-here : tie.After-inputs-here = search in
+    let destroyed : tie.After-destroy = search in
+    let found : tie.After-inputs-here = search in
     let entry : tie.Start = search in
-    let inputs-here = after-inputs-here .inputs-here in
-    let args = entry .args in
-    let pre = entry .pre in
-    let destroy = after-destroy .destroy in
-    let make = c .make in
-    let here = inputsOf (inputs-here .result) in
-    let law = committed (args .me) (args .t) here (inputs-here .ensures .0) (now (args .s)) _ (pre .0) (destroy .ensures) in
-    law _ (make .ensures)
+    let here = inputsOf (found .inputs-here .result) in
+    committed (entry .args .me) (entry .args .t) here (found .inputs-here .ensures .0)
+    (now (entry .args .s)) _ (entry .pre .0) (destroyed .destroy .ensures) _ (c .make .ensures)
 
 pub commit-here-spec : {M : Type 1} → statement M
 commit-here-spec = tie.close (tie.spec inputs-here-requires destroy-requires make-requires returns)

@@ -1,9 +1,22 @@
-use Rattle.holdings.proofs.Long.{inputs-long}
-use Rattle.holdings.proofs.Tokens.{destroying-in-turn, turn-room, four-turns}
 use denote.Ref.{now}
 use borrow.Author.Needs.{needs}
+use Rattle.holdings.specs.Held.{Room}
+use Rattle.holdings.proofs.Long.{inputs-long}
+use Rattle.holdings.proofs.Tokens.{destroying-in-turn, turn-room, four-turns}
 use Rattle.holdings.proofs.committing.destroy.Statement.{statement}
 use Rattle.holdings.proofs.committing.destroy.Tie as tie
+
+-- There is room after the first input's turn, the second's and the third's.
+room1 : (c : tie.After-destroy-if) → Room (c .destroy-if .last .0)
+room1 c =
+    let entry : tie.Start = search in
+    turn-room destroying-in-turn (now (entry .args .s)) _ (entry .pre) (c .destroy-if .ensures)
+
+room2 : (c : tie.After-destroy-if2) → Room (c .destroy-if2 .last .0)
+room2 c = turn-room destroying-in-turn _ _ (room1 (search)) (c .destroy-if2 .ensures)
+
+room3 : (c : tie.After-destroy-if3) → Room (c .destroy-if3 .last .0)
+room3 c = turn-room destroying-in-turn _ _ (room2 (search)) (c .destroy-if3 .ensures)
 
 array-copy-out-destroy-if : tie.Need-array-copy-out-destroy-if
 array-copy-out-destroy-if c = search needs
@@ -15,62 +28,32 @@ array-copy-out-destroy-if-2 : tie.Need-array-copy-out-destroy-if-2
 array-copy-out-destroy-if-2 c = search needs
 
 destroy-if-requires-2 : tie.Need-destroy-if-requires-2
-destroy-if-requires-2 c κs =
-    let after-destroy-if : tie.After-destroy-if = search in
-    let entry : tie.Start = search in
-    let args = entry .args in
-    let pre = entry .pre in
-    let destroy-if = after-destroy-if .destroy-if in
-    turn-room destroying-in-turn (now (args .s)) _ pre (destroy-if .ensures)
+destroy-if-requires-2 c κs = room1 (search)
 
 array-copy-out-destroy-if-3 : tie.Need-array-copy-out-destroy-if-3
 array-copy-out-destroy-if-3 c = search needs
 
 destroy-if-requires-3 : tie.Need-destroy-if-requires-3
-destroy-if-requires-3 c κs =
-    let after-destroy-if2 : tie.After-destroy-if2 = search in
-    let after-destroy-if : tie.After-destroy-if = search in
-    let entry : tie.Start = search in
-    let args = entry .args in
-    let pre = entry .pre in
-    let destroy-if = after-destroy-if .destroy-if in
-    let destroy-if2 = after-destroy-if2 .destroy-if2 in
-    let room = turn-room destroying-in-turn (now (args .s)) _ pre (destroy-if .ensures) in
-    turn-room destroying-in-turn _ _ room (destroy-if2 .ensures)
+destroy-if-requires-3 c κs = room2 (search)
 
 array-copy-out-destroy-if-4 : tie.Need-array-copy-out-destroy-if-4
 array-copy-out-destroy-if-4 c = search needs
 
 destroy-if-requires-4 : tie.Need-destroy-if-requires-4
-destroy-if-requires-4 c κs =
-    let after-destroy-if3 : tie.After-destroy-if3 = search in
-    let after-destroy-if2 : tie.After-destroy-if2 = search in
-    let after-destroy-if : tie.After-destroy-if = search in
-    let entry : tie.Start = search in
-    let args = entry .args in
-    let pre = entry .pre in
-    let destroy-if = after-destroy-if .destroy-if in
-    let destroy-if2 = after-destroy-if2 .destroy-if2 in
-    let destroy-if3 = after-destroy-if3 .destroy-if3 in
-    let room = turn-room destroying-in-turn (now (args .s)) _ pre (destroy-if .ensures) in
-    let room2 = turn-room destroying-in-turn _ _ room (destroy-if2 .ensures) in
-    turn-room destroying-in-turn _ _ room2 (destroy-if3 .ensures)
+destroy-if-requires-4 c κs = room3 (search)
 
 returns : tie.Need-returns
 returns c =
-    let after-destroy-if3 : tie.After-destroy-if3 = search in
-    let after-destroy-if2 : tie.After-destroy-if2 = search in
-    let after-destroy-if : tie.After-destroy-if = search in
+    let third : tie.After-destroy-if3 = search in
+    let second : tie.After-destroy-if2 = search in
+    let first : tie.After-destroy-if = search in
     let entry : tie.Start = search in
-    let args = entry .args in
-    let good = entry .good in
-    let destroy-if = after-destroy-if .destroy-if in
-    let destroy-if2 = after-destroy-if2 .destroy-if2 in
-    let destroy-if3 = after-destroy-if3 .destroy-if3 in
-    let destroy-if4 = c .destroy-if4 in
-    let x = args .inputs in
-    let law = four-turns destroying-in-turn (x .list) (x .count) (inputs-long x (good .1 .0)) (now (args .s)) _ _ _ _ in
-    law (destroy-if .ensures) (destroy-if2 .ensures) (destroy-if3 .ensures) (destroy-if4 .ensures)
+    let x = entry .args .inputs in
+    four-turns destroying-in-turn (x .list) (x .count) (inputs-long x (entry .good .1 .0)) (now (entry .args .s)) _ _ _ _
+    (first .destroy-if .ensures)
+    (second .destroy-if2 .ensures)
+    (third .destroy-if3 .ensures)
+    (c .destroy-if4 .ensures)
 
 pub destroy-spec : {M : Type 1} → statement M
 destroy-spec =

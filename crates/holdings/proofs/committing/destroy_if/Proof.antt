@@ -1,4 +1,3 @@
-use mathlib.Core.Path.{refl}
 use Rattle.holdings.proofs.Tokens.{destroying-in-turn, turn-none}
 use denote.Ref.{now}
 use borrow.Author.Needs.{needs}
@@ -10,18 +9,14 @@ destroy-named-requires c κs = search needs
 
 returns : tie.Need-returns
 returns c =
-    let then1 : tie.Then1 = search in
-    let if1 = then1 .if1 in
-    let destroy-named = c .destroy-named in
-    rw (if1 .taken) (destroy-named .ensures)
+    let yes : tie.Then1 = search in
+    rw (yes .if1 .taken) (c .destroy-named .ensures)
 
 returns-2 : tie.Need-returns-2
 returns-2 c =
     let entry : tie.Start = search in
     let args = entry .args in
-    let if1 = c .if1 in
-    let pre = entry .pre in
-    turn-none destroying-in-turn (now (args .s)) (args .used) (args .x) (if1 .left) (pre)
+    turn-none destroying-in-turn (now (args .s)) (args .used) (args .x) (c .if1 .left) (entry .pre)
 
 pub destroy-if-spec : {M : Type 1} → statement M
 destroy-if-spec = tie.close (tie.spec destroy-named-requires returns returns-2)

@@ -27,8 +27,7 @@ held-requires c κs = search needs
 loop-holds : tie.Need-loop-holds Inv-loop μ-loop
 loop-holds c =
     let entry : tie.Start Inv-loop μ-loop = search in
-    let args = entry .args in
-    (search needs, (record { is = refl; long = search needs }, pack-start (omega (arith, length-tokens (now (args .s))))))
+    (search needs, (record { is = refl; long = search needs }, pack-start (omega (arith, length-tokens (now (entry .args .s))))))
 
 token-at-requires : tie.Need-token-at-requires Inv-loop μ-loop
 token-at-requires c κs = search needs
@@ -50,39 +49,33 @@ loop-less c = search needs
 
 loop-again : tie.Need-loop-again Inv-loop μ-loop
 loop-again c =
-    let then1 : tie.Then1 Inv-loop μ-loop = search in
-    let after-names-token : tie.After-names-token Inv-loop μ-loop = search in
-    let after-token-at : tie.After-token-at Inv-loop μ-loop = search in
-    let at-loop : tie.At-loop Inv-loop μ-loop = search in
-    let after-held : tie.After-held Inv-loop μ-loop = search in
+    let yes : tie.Then1 Inv-loop μ-loop = search in
+    let named : tie.After-names-token Inv-loop μ-loop = search in
+    let read : tie.After-token-at Inv-loop μ-loop = search in
+    let turn : tie.At-loop Inv-loop μ-loop = search in
+    let counted : tie.After-held Inv-loop μ-loop = search in
     let entry : tie.Start Inv-loop μ-loop = search in
-    let args = entry .args in
-    let names-token = after-names-token .names-token in
-    let token-at = after-token-at .token-at in
-    let if1 = then1 .if1 in
-    let held = after-held .held in
-    let loop = at-loop .loop in
-    let put-token = c .put-token in
-    let stay = stays-if (args .x) (names-token .ensures) (token-at .ensures) (if1 .taken) in
-    let before = tokensOf (now (args .s)) in
-    let next = pack-next (stays (args .x ∷ [])) before (held .result) (loop .s) _ (loop .count) (loop .k) (loop .inv .1 .1) (search needs) stay in
-    (loop .inv .0, (again (now (args .s)) (loop .s) _ (loop .inv .1 .0) (put-token .ensures), next (token-at .ensures) (put-token .ensures)))
+    let loop = turn .loop in
+    let x = entry .args .x in
+    let ws = now (entry .args .s) in
+    let stay = stays-if x (named .names-token .ensures) (read .token-at .ensures) (yes .if1 .taken) in
+    let same = again ws (loop .s) _ (loop .inv .1 .0) (c .put-token .ensures) in
+    let next =
+    pack-next (stays (x ∷ [])) (tokensOf ws) (counted .held .result) (loop .s) _ (loop .count) (loop .k)
+    (loop .inv .1 .1) (search needs) stay (read .token-at .ensures) (c .put-token .ensures) in
+    (loop .inv .0, (same, next))
 
 loop-less-2 : tie.Need-loop-less-2 Inv-loop μ-loop
 loop-less-2 c = search needs
 
 loop-again-2 : tie.Need-loop-again-2 Inv-loop μ-loop
 loop-again-2 c =
-    let after-names-token : tie.After-names-token Inv-loop μ-loop = search in
-    let after-token-at : tie.After-token-at Inv-loop μ-loop = search in
-    let at-loop : tie.At-loop Inv-loop μ-loop = search in
+    let named : tie.After-names-token Inv-loop μ-loop = search in
+    let read : tie.After-token-at Inv-loop μ-loop = search in
+    let turn : tie.At-loop Inv-loop μ-loop = search in
     let entry : tie.Start Inv-loop μ-loop = search in
-    let args = entry .args in
-    let names-token = after-names-token .names-token in
-    let token-at = after-token-at .token-at in
-    let if1 = c .if1 in
-    let loop = at-loop .loop in
-    let goes = stays-not (args .x) (names-token .ensures) (token-at .ensures) (if1 .left) in
+    let loop = turn .loop in
+    let goes = stays-not (entry .args .x) (named .names-token .ensures) (read .token-at .ensures) (c .if1 .left) in
     (loop .inv .0, (loop .inv .1 .0, pack-out noToken (loop .inv .1 .1) (search needs) goes))
 
 set-held-requires : tie.Need-set-held-requires Inv-loop μ-loop
@@ -91,13 +84,12 @@ set-held-requires c κs = search needs
 returns : tie.Need-returns Inv-loop μ-loop
 unfolding view destroying
 returns c =
-    let at-loop : tie.At-loop Inv-loop μ-loop = search in
+    let turn : tie.At-loop Inv-loop μ-loop = search in
     let entry : tie.Start Inv-loop μ-loop = search in
-    let loop = at-loop .loop in
-    let args = entry .args in
-    let set-held = c .set-held in
+    let loop = turn .loop in
     let packed = pack-end (loop .inv .1 .1) (search needs) in
-    counted (now (args .s)) (loop .s) (loop .inv .1 .0) _ (loop .count) (set-held .ensures) (omega arith) (rw (← loop .inv .0) packed)
+    counted (now (entry .args .s)) (loop .s) (loop .inv .1 .0) _ (loop .count)
+    (c .set-held .ensures) (omega arith) (rw (← loop .inv .0) packed)
 
 pub destroy-named-spec : {M : Type 1} → statement M
 destroy-named-spec =

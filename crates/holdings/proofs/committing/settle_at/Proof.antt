@@ -1,4 +1,3 @@
-use Rattle.holdings.specs.Held.{Settling}
 use Rattle.holdings.proofs.Tokens.{holds-same}
 use denote.Ref.{now}
 use borrow.Author.Needs.{needs}
@@ -10,11 +9,9 @@ enum-told c = search needs
 
 commit-at-requires : tie.Need-commit-at-requires
 commit-at-requires c κs =
-    let after-enum-told : tie.After-enum-told = search in
+    let told : tie.After-enum-told = search in
     let entry : tie.Start = search in
-    let enum-told = after-enum-told .enum-told in
-    let pre = entry .pre in
-    rw (enum-told .given .1) at pre
+    rw (told .enum-told .given .1) at (entry .pre)
 
 enum-told-2 : tie.Need-enum-told-2
 enum-told-2 c = search needs
@@ -24,26 +21,18 @@ enum-told-3 c = search needs
 
 returns : tie.Need-returns
 returns c =
-    let after-enum-told : tie.After-enum-told = search in
-    let enum-told = after-enum-told .enum-told in
-    let commit-at = c .commit-at in
-    rw (enum-told .given .1) (commit-at .ensures)
+    let told : tie.After-enum-told = search in
+    rw (told .enum-told .given .1) (c .commit-at .ensures)
 
 returns-2 : tie.Need-returns-2
 returns-2 c =
     let entry : tie.Start = search in
-    let enum-told2 = c .enum-told2 in
-    let args = entry .args in
-    let pre = entry .pre in
-    rw (enum-told2 .given .1) (holds-same (now (args .s)) (pre .room))
+    rw (c .enum-told2 .given .1) (holds-same (now (entry .args .s)) (entry .pre .room))
 
 returns-3 : tie.Need-returns-3
 returns-3 c =
     let entry : tie.Start = search in
-    let enum-told3 = c .enum-told3 in
-    let args = entry .args in
-    let pre = entry .pre in
-    rw (enum-told3 .given .1) (holds-same (now (args .s)) (pre .room))
+    rw (c .enum-told3 .given .1) (holds-same (now (entry .args .s)) (entry .pre .room))
 
 pub settle-at-spec : {M : Type 1} → statement M
 settle-at-spec =

@@ -26,8 +26,7 @@ held-requires c κs = search needs
 loop-holds : tie.Need-loop-holds Inv-loop μ-loop
 loop-holds c =
     let entry : tie.Start Inv-loop μ-loop = search in
-    let args = entry .args in
-    (search needs, (record { is = refl; long = search needs }, place-start (omega (arith, length-tokens (now (args .s))))))
+    (search needs, (record { is = refl; long = search needs }, place-start (omega (arith, length-tokens (now (entry .args .s))))))
 
 token-at-requires : tie.Need-token-at-requires Inv-loop μ-loop
 token-at-requires c κs = search needs
@@ -46,51 +45,45 @@ loop-less c = search needs
 
 loop-again : tie.Need-loop-again Inv-loop μ-loop
 loop-again c =
-    let then1 : tie.Then1 Inv-loop μ-loop = search in
-    let after-names-token : tie.After-names-token Inv-loop μ-loop = search in
-    let after-token-at : tie.After-token-at Inv-loop μ-loop = search in
-    let at-loop : tie.At-loop Inv-loop μ-loop = search in
-    let after-held : tie.After-held Inv-loop μ-loop = search in
+    let yes : tie.Then1 Inv-loop μ-loop = search in
+    let named : tie.After-names-token Inv-loop μ-loop = search in
+    let read : tie.After-token-at Inv-loop μ-loop = search in
+    let turn : tie.At-loop Inv-loop μ-loop = search in
+    let counted : tie.After-held Inv-loop μ-loop = search in
     let entry : tie.Start Inv-loop μ-loop = search in
-    let args = entry .args in
-    let names-token = after-names-token .names-token in
-    let token-at = after-token-at .token-at in
-    let if1 = then1 .if1 in
-    let held = after-held .held in
-    let loop = at-loop .loop in
-    let put-pledge = c .put-pledge in
-    let f = pledgeIf (args .number) (args .x ∷ []) in
-    let pledged = pledged-if (args .x) (names-token .ensures) (token-at .ensures) (args .number) (if1 .taken) in
-    let next = place-next f (tokensOf (now (args .s))) (held .result) (loop .s) _ (loop .k) (loop .inv .1 .1) (search needs) pledged in
-    (loop .inv .0, (again (now (args .s)) (loop .s) _ (loop .inv .1 .0) (put-pledge .ensures), next (put-pledge .ensures)))
+    let loop = turn .loop in
+    let x = entry .args .x in
+    let number = entry .args .number in
+    let ws = now (entry .args .s) in
+    let pledged = pledged-if x (named .names-token .ensures) (read .token-at .ensures) number (yes .if1 .taken) in
+    let same = again ws (loop .s) _ (loop .inv .1 .0) (c .put-pledge .ensures) in
+    let next =
+    place-next (pledgeIf number (x ∷ [])) (tokensOf ws) (counted .held .result) (loop .s) _ (loop .k)
+    (loop .inv .1 .1) (search needs) pledged (c .put-pledge .ensures) in
+    (loop .inv .0, (same, next))
 
 loop-less-2 : tie.Need-loop-less-2 Inv-loop μ-loop
 loop-less-2 c = search needs
 
 loop-again-2 : tie.Need-loop-again-2 Inv-loop μ-loop
 loop-again-2 c =
-    let after-names-token : tie.After-names-token Inv-loop μ-loop = search in
-    let after-token-at : tie.After-token-at Inv-loop μ-loop = search in
-    let at-loop : tie.At-loop Inv-loop μ-loop = search in
+    let named : tie.After-names-token Inv-loop μ-loop = search in
+    let read : tie.After-token-at Inv-loop μ-loop = search in
+    let turn : tie.At-loop Inv-loop μ-loop = search in
     let entry : tie.Start Inv-loop μ-loop = search in
     let args = entry .args in
-    let names-token = after-names-token .names-token in
-    let token-at = after-token-at .token-at in
-    let if1 = c .if1 in
-    let loop = at-loop .loop in
-    let same = pledged-not (args .x) (names-token .ensures) (token-at .ensures) (args .number) (if1 .left) in
+    let loop = turn .loop in
+    let same = pledged-not (args .x) (named .names-token .ensures) (read .token-at .ensures) (args .number) (c .if1 .left) in
     (loop .inv .0, (loop .inv .1 .0, place-stays noToken (loop .inv .1 .1) (search needs) same))
 
 returns : tie.Need-returns Inv-loop μ-loop
 unfolding view pledges
 returns c =
-    let at-loop : tie.At-loop Inv-loop μ-loop = search in
+    let turn : tie.At-loop Inv-loop μ-loop = search in
     let entry : tie.Start Inv-loop μ-loop = search in
-    let loop = at-loop .loop in
-    let args = entry .args in
-    let pre = entry .pre in
+    let loop = turn .loop in
     let placed = place-end (loop .inv .1 .1) (search needs) in
-    as-many (now (args .s)) (loop .s) (loop .inv .1 .0) (pre .held) (rw (← loop .inv .0) placed)
+    as-many (now (entry .args .s)) (loop .s) (loop .inv .1 .0) (entry .pre .held) (rw (← loop .inv .0) placed)
 
 pub pledge-named-spec : {M : Type 1} → statement M
 pledge-named-spec =
