@@ -7,7 +7,19 @@ use lib.ListN.{length, getD, take}
 use lib.Seq.{length-take-le, getD-take}
 use Rattle.model.specs.declared.Token.{Token}
 use Rattle.model.specs.declared.Known.{Known}
-use Rattle.layout.specs.Layout.{tokenSlots, knownSlots, tokensOf, transactionsOf, shardOf, view, ledgerOf, noToken, noKnown, slotToken, slotKnown}
+use Rattle.layout.specs.Layout.{
+  tokenSlots,
+  knownSlots,
+  tokensOf,
+  transactionsOf,
+  shardOf,
+  view,
+  ledgerOf,
+  noToken,
+  noKnown,
+  slotToken,
+  slotKnown,
+}
 use Rattle.layout.proofs.Slots.{length-tokens, length-known}
 
 -- an element within a list is the same by any default
@@ -17,7 +29,8 @@ getD-any (x ∷ l) zero d e h = refl
 getD-any (x ∷ l) (suc i) d e h = getD-any l i d e (omega arith)
 
 -- the entry at a place among the first n
-entry-at : {A : Type 0} (l : List A) (n place : ℕ) (d e : A) → place < n → n ≤ length l → getD l place d ≡ getD (take n l) place e
+entry-at : {A : Type 0} (l : List A) (n place : ℕ) (d e : A) → place < n → n ≤ length l
+    → getD l place d ≡ getD (take n l) place e
 entry-at l n place d e h k = getD-any l place d e (omega arith) ∙ sym (getD-take n l place e h)
 
 module _ (ws : List ℕ) where
@@ -32,10 +45,12 @@ module _ (ws : List ℕ) where
 
   -- a slot within the count is an element of the ledger's list
   module _ (k : ℕ) where
-    pub held-entry : k < shardOf ws .held → shardOf ws .held ≤ tokenSlots → (d : Token) → slotToken ws k ≡ getD (ledgerOf ws .tokens) k d
+    pub held-entry : k < shardOf ws .held → shardOf ws .held ≤ tokenSlots → (d : Token)
+        → slotToken ws k ≡ getD (ledgerOf ws .tokens) k d
     unfolding view
     held-entry h l d = entry-at (tokensOf ws) (shardOf ws .held) k noToken d h (omega (arith, length-tokens ws))
 
-    pub known-entry : k < shardOf ws .known → shardOf ws .known ≤ knownSlots → (d : Known) → slotKnown ws k ≡ getD (ledgerOf ws .known) k d
+    pub known-entry : k < shardOf ws .known → shardOf ws .known ≤ knownSlots → (d : Known)
+        → slotKnown ws k ≡ getD (ledgerOf ws .known) k d
     unfolding view
     known-entry h l d = entry-at (transactionsOf ws) (shardOf ws .known) k noKnown d h (omega (arith, length-known ws))

@@ -24,7 +24,8 @@ pub tab-same : {A : Type 0} (n : ℕ) (f g : ℕ → A) → ((i : ℕ) → i < n
 tab-same zero f g h = refl
 tab-same {A} (suc n) f g h =
     ap (λ (x : A). x ∷ tab n (λ (i : ℕ). g (suc i))) (h 0 (omega arith))
-    ∙ ap (λ (l : List A). f 0 ∷ l) (tab-same n (λ (i : ℕ). f (suc i)) (λ (i : ℕ). g (suc i)) (λ i l. h (suc i) (omega arith)))
+    ∙ ap (λ (l : List A). f 0 ∷ l)
+    (tab-same n (λ (i : ℕ). f (suc i)) (λ (i : ℕ). g (suc i)) (λ i l. h (suc i) (omega arith)))
 
 pub tab-change : {A : Type 0} (n k : ℕ) (f g : ℕ → A) → k < n → ((i : ℕ) → i < n → (i ≡ k → ⊥) → g i ≡ f i)
     → tab n g ≡ set (tab n f) k (g k)
@@ -76,7 +77,8 @@ lower-or-higher : (i k : ℕ) → (i ≡ k → ⊥) → (i < k) ⊎ (k < i)
 lower-or-higher zero zero n = absurd (n refl)
 lower-or-higher zero (suc k) n = inl (omega arith)
 lower-or-higher (suc i) zero n = inr (omega arith)
-lower-or-higher (suc i) (suc k) n = ⊎-elim (λ h. inl (omega arith)) (λ h. inr (omega arith)) (lower-or-higher i k (λ e. n (ap suc e)))
+lower-or-higher (suc i) (suc k) n =
+    ⊎-elim (λ h. inl (omega arith)) (λ h. inr (omega arith)) (lower-or-higher i k (λ e. n (ap suc e)))
 
 -- what stands in a slot depends on the slot's words alone
 abbrev pub Local : {A : Type 0} → (List ℕ → ℕ → A) → ℕ → Type 0
@@ -97,7 +99,8 @@ module _ {A : Type 0} (read : List ℕ → ℕ → A) (size place slots : ℕ) (
         (λ k l. local ws vs (slot k) (λ j x y. let s = stride k slots size l in p .rest j (h j (omega arith) (omega arith))))
 
     -- a change of one slot
-    pub region-set : (k : ℕ) → k < slots → Within (slot k) (slot k + size) ws vs → region vs ≡ set (region ws) k (read vs (slot k))
+    pub region-set : (k : ℕ) → k < slots → Within (slot k) (slot k + size) ws vs
+        → region vs ≡ set (region ws) k (read vs (slot k))
     region-set k h p =
         tab-change slots k (λ (i : ℕ). read ws (slot i)) (λ (i : ℕ). read vs (slot i)) h
         (λ i l ne. local ws vs (slot i) (λ j x y. p .rest j (λ z w. between i j (lower-or-higher i k ne) x y z w)))

@@ -1,17 +1,14 @@
 -- What a read gives, and that each reading depends on its own words alone.
 use Prim.Native.Nat.{ℕ, zero, suc, _+_, _*_, _%_, _≤_, _<_}
-use mathlib.Core.Path.{_≡_, refl, ap, sym, _∙_}
-use mathlib.Core.Bool.{Bool, false, not}
+use mathlib.Core.Path.{_≡_, refl, ap}
+use mathlib.Core.Bool.{false}
 use mathlib.Core.List.{List}
 use native.Mathlib.Omega.{arith}
-use lib.Dec.{eqb}
 use lib.ListN.{length, getD, List·getD-eq-default}
 use Rattle.transaction.specs.declared.Input.{Input}
 use Rattle.transaction.specs.declared.Output.{Output}
 use Rattle.transaction.specs.declared.Transaction.{Transaction}
 use Rattle.transaction.specs.Tokens.{zeroInput, zeroOutput}
-use Rattle.model.specs.declared.Token.{Token}
-use Rattle.model.specs.declared.Known.{Known}
 use Rattle.layout.specs.Layout.{
   tokenSlots,
   knownSlots,
@@ -71,7 +68,9 @@ heard-get ws b k h = tab-at 8 (λ (i : ℕ). byte ws (b + i)) k 0 h
 
 pub heard-none : (ws : List ℕ) (b k : ℕ) → 8 ≤ k → getD (heardIn ws b) k 0 ≡ 0
 unfolding heardIn
-heard-none ws b k h = List·getD-eq-default (tab 8 (λ (i : ℕ). byte ws (b + i))) 0 {n = k} (rw (length-tab 8 (λ (i : ℕ). byte ws (b + i))) h)
+heard-none ws b k h =
+    List·getD-eq-default (tab 8 (λ (i : ℕ). byte ws (b + i))) 0 {n = k}
+    (rw (length-tab 8 (λ (i : ℕ). byte ws (b + i))) h)
 
 pub input-get : (ws : List ℕ) (b i : ℕ) → i < 4 → getD (inputsIn ws b) i zeroInput ≡ inputIn ws (b + i * inputSize)
 unfolding inputsIn
@@ -91,14 +90,18 @@ output-get ws b (suc (suc (suc (suc i)))) h = absurd (omega arith)
 
 -- the shard of a slot of a known transaction
 pub input-shard : (ws : List ℕ) (k i : ℕ) → k < knownSlots → i < 4
-    → getD (slotKnown ws k .transaction .inputs) i zeroInput .token .shard ≡ byte ws (entryPlace k + inputsOffset + i * inputSize)
+    → getD (slotKnown ws k .transaction .inputs) i zeroInput .token .shard
+    ≡ byte ws (entryPlace k + inputsOffset + i * inputSize)
 unfolding inputIn
-input-shard ws k i h l = rw (known-get ws k h) (ap (λ (x : Input). x .token .shard) (input-get ws (entryPlace k + inputsOffset) i l))
+input-shard ws k i h l =
+    rw (known-get ws k h) (ap (λ (x : Input). x .token .shard) (input-get ws (entryPlace k + inputsOffset) i l))
 
 pub output-shard : (ws : List ℕ) (k i : ℕ) → k < knownSlots → i < 4
-    → getD (slotKnown ws k .transaction .outputs) i zeroOutput .shard ≡ byte ws (entryPlace k + outputsOffset + i * outputSize)
+    → getD (slotKnown ws k .transaction .outputs) i zeroOutput .shard
+    ≡ byte ws (entryPlace k + outputsOffset + i * outputSize)
 unfolding outputIn
-output-shard ws k i h l = rw (known-get ws k h) (ap (λ (y : Output). y .shard) (output-get ws (entryPlace k + outputsOffset) i l))
+output-shard ws k i h l =
+    rw (known-get ws k h) (ap (λ (y : Output). y .shard) (output-get ws (entryPlace k + outputsOffset) i l))
 
 -- what is noted of a sender on a known transaction
 pub heard-at : (ws : List ℕ) (k sender : ℕ) → k < knownSlots → sender < 8
@@ -109,7 +112,8 @@ pub heard-above : (ws : List ℕ) (k sender : ℕ) → k < knownSlots → 8 ≤ 
 heard-above ws k sender h l = rw (known-get ws k h) (heard-none ws (entryPlace k + heardOffset) sender l)
 
 -- from its two parts
-pub known-parts : (ws : List ℕ) (k : ℕ) → k < knownSlots → {t : Transaction} {heard : List ℕ} → t ≡ slotKnown ws k .transaction
+pub known-parts : (ws : List ℕ) (k : ℕ) → k < knownSlots → {t : Transaction} {heard : List ℕ}
+    → t ≡ slotKnown ws k .transaction
     → heard ≡ heardIn ws (entryPlace k + heardOffset) → record { transaction = t; heard = heard } ≡ slotKnown ws k
 known-parts ws k h et eh = rw (et, eh, known-get ws k h) refl
 
@@ -165,7 +169,8 @@ module _ (ws vs : List ℕ) where
 
     output-same : (i : ℕ) → b ≤ i → i + outputSize ≤ f → outputIn vs i ≡ outputIn ws i
     unfolding outputIn
-    output-same i l h = rw (at i (omega arith) (omega arith), at (i + 1) (omega arith) (omega arith), at (i + 2) (omega arith) (omega arith))
+    output-same i l h =
+        rw (at i (omega arith) (omega arith), at (i + 1) (omega arith) (omega arith), at (i + 2) (omega arith) (omega arith))
 
     pub inputs-same : (i : ℕ) → b ≤ i → i + 4 * inputSize ≤ f → inputsIn vs i ≡ inputsIn ws i
     unfolding inputsIn
@@ -204,7 +209,8 @@ module _ (ws vs : List ℕ) where
         )
 
     known-same : (i : ℕ) → b ≤ i → i + knownSize ≤ f → knownIn vs i ≡ knownIn ws i
-    known-same i l h = rw (transaction-same i (omega arith) (omega arith), heard-same (i + heardOffset) (omega arith) (omega arith))
+    known-same i l h =
+        rw (transaction-same i (omega arith) (omega arith), heard-same (i + heardOffset) (omega arith) (omega arith))
 
 pub token-local : Local tokenIn tokenSize
 token-local ws vs i s =

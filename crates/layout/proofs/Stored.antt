@@ -53,7 +53,6 @@ use Rattle.layout.specs.Layout.{
   tokensOf,
   transactionsOf,
   givenOf,
-  Shard,
   shardOf,
   withTokens,
   withHeld,
@@ -140,21 +139,25 @@ module _ (ws vs : List ℕ) where
       )
 
 module _ (ws vs : List ℕ) (k : ℕ) where
-  tokens-set : k < tokenSlots → Within (tokenPlace k) (tokenPlace k + tokenSize) ws vs → tokensOf vs ≡ set (tokensOf ws) k (tokenAt vs k)
+  tokens-set : k < tokenSlots → Within (tokenPlace k) (tokenPlace k + tokenSize) ws vs
+      → tokensOf vs ≡ set (tokensOf ws) k (tokenAt vs k)
   unfolding tokensOf
   tokens-set h p = region-set tokenIn tokenSize tokensPlace tokenSlots token-local k h p
 
-  known-set : k < knownSlots → Within (entryPlace k) (entryPlace k + knownSize) ws vs → transactionsOf vs ≡ set (transactionsOf ws) k (knownAt vs k)
+  known-set : k < knownSlots → Within (entryPlace k) (entryPlace k + knownSize) ws vs
+      → transactionsOf vs ≡ set (transactionsOf ws) k (knownAt vs k)
   unfolding transactionsOf
   known-set h p = region-set knownIn knownSize transactionsPlace knownSlots known-local k h p
 
-  given-set : k < genesisSlots → Within (givenPlace + k) (givenPlace + k + 1) ws vs → givenOf vs ≡ set (givenOf ws) k (givenAt vs k)
+  given-set : k < genesisSlots → Within (givenPlace + k) (givenPlace + k + 1) ws vs
+      → givenOf vs ≡ set (givenOf ws) k (givenAt vs k)
   unfolding givenOf
   given-set h p =
       tab-change genesisSlots k (givenAt ws) (givenAt vs) h
       (λ i l ne. ap (λ (w : ℕ). not (eqb w 0)) (p .rest (givenPlace + i) (λ x y. ne (omega arith))))
 
-  pub token-stored : k < tokenSlots → Within (tokenPlace k) (tokenPlace k + tokenSize) ws vs → {t : Token} → tokenAt vs k ≡ t
+  pub token-stored : k < tokenSlots → Within (tokenPlace k) (tokenPlace k + tokenSize) ws vs → {t : Token}
+      → tokenAt vs k ≡ t
       → shardOf vs ≡ withTokens (shardOf ws) (set (shardOf ws .tokens) k t)
   token-stored h p {t} q =
       let at : tokensOf vs ≡ set (tokensOf ws) k t = tokens-set h p ∙ ap (set (tokensOf ws) k) q in
@@ -167,7 +170,8 @@ module _ (ws vs : List ℕ) (k : ℕ) where
         at,
       )
 
-  pub known-stored : k < knownSlots → Within (entryPlace k) (entryPlace k + knownSize) ws vs → {x : Known} → knownAt vs k ≡ x
+  pub known-stored : k < knownSlots → Within (entryPlace k) (entryPlace k + knownSize) ws vs → {x : Known}
+      → knownAt vs k ≡ x
       → shardOf vs ≡ withTransactions (shardOf ws) (set (shardOf ws .transactions) k x)
   known-stored h p {x} q =
       let at : transactionsOf vs ≡ set (transactionsOf ws) k x = known-set h p ∙ ap (set (transactionsOf ws) k) q in
@@ -180,7 +184,8 @@ module _ (ws vs : List ℕ) (k : ℕ) where
         at,
       )
 
-  pub given-stored : k < genesisSlots → Within (givenPlace + k) (givenPlace + k + 1) ws vs → {g : Bool} → givenAt vs k ≡ g
+  pub given-stored : k < genesisSlots → Within (givenPlace + k) (givenPlace + k + 1) ws vs → {g : Bool}
+      → givenAt vs k ≡ g
       → shardOf vs ≡ withGiven (shardOf ws) (set (shardOf ws .given) k g)
   given-stored h p {g} q =
       let at : givenOf vs ≡ set (givenOf ws) k g = given-set h p ∙ ap (set (givenOf ws) k) q in
@@ -208,10 +213,12 @@ module _ (ws : List ℕ) (long : length ws ≡ shardWords) where
       let there : word (set ws knownPlace n) knownPlace ≡ n = getD-set-same ws knownPlace n 0 (omega arith) in
       record { is = count-stored ws (set ws knownPlace n) p ∙ ap (withKnown (shardOf ws)) there; long = p .long ∙ long }
 
-  pub flag-put : (k : ℕ) → k < genesisSlots → Becomes (withGiven (shardOf ws) (set (shardOf ws .given) k true)) (set ws (givenPlace + k) 1)
+  pub flag-put : (k : ℕ) → k < genesisSlots
+      → Becomes (withGiven (shardOf ws) (set (shardOf ws .given) k true)) (set ws (givenPlace + k) 1)
   flag-put k h =
       let p = stored (givenPlace + k) (givenPlace + k + 1) (givenPlace + k) 1 ws (omega arith) (omega arith) in
-      let there : word (set ws (givenPlace + k) 1) (givenPlace + k) ≡ 1 = getD-set-same ws (givenPlace + k) 1 0 (omega arith) in
+      let there : word (set ws (givenPlace + k) 1) (givenPlace + k) ≡ 1 =
+      getD-set-same ws (givenPlace + k) 1 0 (omega arith) in
       record { is = given-stored ws (set ws (givenPlace + k) 1) k h p (rw there refl); long = p .long ∙ long }
 
 -- a word after a store elsewhere
@@ -233,7 +240,10 @@ pledge-put ws k number h long =
       past ws (b + 4) (b + 3) number (λ e. omega arith),
       there,
     ) refl in
-    record { is = token-stored ws vs k h p (token ∙ ap (pledgedTo number) (sym (token-get ws k h))); long = p .long ∙ long }
+    record {
+      is = token-stored ws vs k h p (token ∙ ap (pledgedTo number) (sym (token-get ws k h)));
+      long = p .long ∙ long;
+    }
 
 -- a verdict noted
 pub heard-put : (ws : List ℕ) (k sender said : ℕ) → k < knownSlots → sender < 8 → said < 256 → length ws ≡ shardWords
@@ -289,7 +299,8 @@ module _ (b : ℕ) (xs ws : List ℕ) where
       zero-more : (a : ℕ) → a + 0 ≡ a
       zero-more a = omega arith
 
-  run-more : (n : ℕ) (vs : List ℕ) (x : ℕ) → Run n b xs ws vs → b + n < length ws → x ≡ getD xs n 0 → Run (n + 1) b xs ws (set vs (b + n) x)
+  run-more : (n : ℕ) (vs : List ℕ) (x : ℕ) → Run n b xs ws vs → b + n < length ws → x ≡ getD xs n 0
+      → Run (n + 1) b xs ws (set vs (b + n) x)
   run-more n vs x r h e = record {
     within =
         and-then (wider b (b + n) b (b + (n + 1)) (omega arith) (omega arith) (r .within))
@@ -309,16 +320,19 @@ module _ (b : ℕ) (xs ws : List ℕ) where
   run-at {n} {vs} r h = ap (word vs) (omega arith) ∙ r .so 0 h
 
 module _ (ws : List ℕ) (b x₀ x₁ x₂ : ℕ) where
-  three-run : b + 3 ≤ length ws → (xs : List ℕ) → x₀ ≡ getD xs 0 0 → x₁ ≡ getD xs 1 0 → x₂ ≡ getD xs 2 0 → Run 3 b xs ws (three ws b x₀ x₁ x₂)
+  three-run : b + 3 ≤ length ws → (xs : List ℕ) → x₀ ≡ getD xs 0 0 → x₁ ≡ getD xs 1 0 → x₂ ≡ getD xs 2 0
+      → Run 3 b xs ws (three ws b x₀ x₁ x₂)
   three-run h xs e₀ e₁ e₂ =
       run-more b xs ws 2 (set (set ws b x₀) (b + 1) x₁) x₂
       (run-more b xs ws 1 (set ws b x₀) x₁ (run-first b xs ws x₀ (omega arith) e₀) (omega arith) e₁) (omega arith) e₂
 
-  five-run : b + 5 ≤ length ws → (xs : List ℕ) (x₃ x₄ : ℕ) → x₀ ≡ getD xs 0 0 → x₁ ≡ getD xs 1 0 → x₂ ≡ getD xs 2 0 → x₃ ≡ getD xs 3 0
+  five-run : b + 5 ≤ length ws → (xs : List ℕ) (x₃ x₄ : ℕ) → x₀ ≡ getD xs 0 0 → x₁ ≡ getD xs 1 0 → x₂ ≡ getD xs 2 0
+      → x₃ ≡ getD xs 3 0
       → x₄ ≡ getD xs 4 0 → Run 5 b xs ws (five ws b x₀ x₁ x₂ x₃ x₄)
   five-run h xs x₃ x₄ e₀ e₁ e₂ e₃ e₄ =
       run-more b xs ws 4 (set (three ws b x₀ x₁ x₂) (b + 3) x₃) x₄
-      (run-more b xs ws 3 (three ws b x₀ x₁ x₂) x₃ (three-run (omega arith) xs e₀ e₁ e₂) (omega arith) e₃) (omega arith) e₄
+      (run-more b xs ws 3 (three ws b x₀ x₁ x₂) x₃ (three-run (omega arith) xs e₀ e₁ e₂) (omega arith) e₃)
+      (omega arith) e₄
 
 -- a token's five words
 pub token-put : (ws : List ℕ) (k : ℕ) (t : Token) → k < tokenSlots → length ws ≡ shardWords → t .index < 256
@@ -326,7 +340,9 @@ pub token-put : (ws : List ℕ) (k : ℕ) (t : Token) → k < tokenSlots → len
 token-put ws k t h long i =
     let b = tokenPlace k in
     let xs = t .creator ∷ t .index ∷ t .owner ∷ t .amount ∷ t .pledge ∷ [] in
-    let r = five-run ws b (t .creator) (t .index) (t .owner) (omega arith) xs (t .amount) (t .pledge) refl refl refl refl refl in
+    let r =
+    five-run ws b (t .creator) (t .index) (t .owner) (omega arith) xs (t .amount) (t .pledge) refl refl refl
+    refl refl in
     record {
       is =
           token-stored ws _ k h (r .within)
@@ -371,7 +387,8 @@ output-put ws b y h p =
     (r .within, rw (run-at b xs ws r (omega arith), r .so 1 (omega arith), r .so 2 (omega arith), mod-eq-of-lt p) refl)
 
 pub head-put : (ws : List ℕ) (b number inputs outputs : ℕ) → b + 3 ≤ length ws → inputs < 256 → outputs < 256
-    → Within b (b + 3) ws (three ws b number inputs outputs) × Headed (three ws b number inputs outputs) b number inputs outputs
+    → Within b (b + 3) ws (three ws b number inputs outputs)
+    × Headed (three ws b number inputs outputs) b number inputs outputs
 head-put ws b number inputs outputs h p q =
     let xs = number ∷ inputs ∷ outputs ∷ [] in
     let r = three-run ws b number inputs outputs h xs refl refl refl in (
@@ -386,7 +403,8 @@ head-put ws b number inputs outputs h p q =
 -- ---- Four slots stored one behind the other
 
 -- what stands before a later change
-still : {A : Type 0} (read : List ℕ → ℕ → A) (size : ℕ) → Local read size → (i a e : ℕ) {ws vs : List ℕ} {x : A} → Within a e ws vs
+still : {A : Type 0} (read : List ℕ → ℕ → A) (size : ℕ) → Local read size → (i a e : ℕ) {ws vs : List ℕ} {x : A}
+    → Within a e ws vs
     → i + size ≤ a → read ws i ≡ x → read vs i ≡ x
 still read size local i a e {ws} {vs} p h g = local ws vs i (apart p i (i + size) (λ j x y z w. omega arith)) ∙ g
 
@@ -403,15 +421,21 @@ abbrev pub Puts : {A : Type 0} → (List ℕ → ℕ → A) → ℕ → ℕ → 
 Puts read size i x ws vs = Within i (i + size) ws vs × (read vs i ≡ x)
 
 module _ {A : Type 0} (read : List ℕ → ℕ → A) (size : ℕ) (local : Local read size) (b : ℕ) where
-  four-put : (v w x y z : List ℕ) (p q r s : A) → Puts read size b p v w → Puts read size (b + size) q w x → Puts read size (b + 2 * size) r x y
+  four-put : (v w x y z : List ℕ) (p q r s : A) → Puts read size b p v w → Puts read size (b + size) q w x
+      → Puts read size (b + 2 * size) r x y
       → Puts read size (b + 3 * size) s y z → Four read size b v z p q r s
   four-put v w x y z p q r s hp hq hr hs =
       let e = b + 4 * size in
-      let yz : Within (b + 3 * size) e y z = wider (b + 3 * size) (b + 3 * size + size) (b + 3 * size) e (omega arith) (omega arith) (hs .0) in
-      let xy : Within (b + 2 * size) e x y = wider (b + 2 * size) (b + 2 * size + size) (b + 2 * size) e (omega arith) (omega arith) (hr .0) in
-      let xz : Within (b + 2 * size) e x z = and-then xy (wider (b + 3 * size) e (b + 2 * size) e (omega arith) (omega arith) yz) in
-      let wx : Within (b + size) e w x = wider (b + size) (b + size + size) (b + size) e (omega arith) (omega arith) (hq .0) in
-      let wz : Within (b + size) e w z = and-then wx (wider (b + 2 * size) e (b + size) e (omega arith) (omega arith) xz) in
+      let yz : Within (b + 3 * size) e y z =
+      wider (b + 3 * size) (b + 3 * size + size) (b + 3 * size) e (omega arith) (omega arith) (hs .0) in
+      let xy : Within (b + 2 * size) e x y =
+      wider (b + 2 * size) (b + 2 * size + size) (b + 2 * size) e (omega arith) (omega arith) (hr .0) in
+      let xz : Within (b + 2 * size) e x z =
+      and-then xy (wider (b + 3 * size) e (b + 2 * size) e (omega arith) (omega arith) yz) in
+      let wx : Within (b + size) e w x =
+      wider (b + size) (b + size + size) (b + size) e (omega arith) (omega arith) (hq .0) in
+      let wz : Within (b + size) e w z =
+      and-then wx (wider (b + 2 * size) e (b + size) e (omega arith) (omega arith) xz) in
       let vw : Within b e v w = wider b (b + size) b e (omega arith) (omega arith) (hp .0) in
       record {
         within = and-then vw (wider (b + size) e b e (omega arith) (omega arith) wz);
@@ -423,16 +447,20 @@ module _ {A : Type 0} (read : List ℕ → ℕ → A) (size : ℕ) (local : Loca
 
 module _ (b : ℕ) (v w x y z : List ℕ) where
   pub inputs-put : (l : List Input) → length l ≡ 4 → Puts inputIn inputSize b (getD l 0 zeroInput) v w
-      → Puts inputIn inputSize (b + inputSize) (getD l 1 zeroInput) w x → Puts inputIn inputSize (b + 2 * inputSize) (getD l 2 zeroInput) x y
-      → Puts inputIn inputSize (b + 3 * inputSize) (getD l 3 zeroInput) y z → Within b (b + 4 * inputSize) v z × (inputsIn z b ≡ l)
+      → Puts inputIn inputSize (b + inputSize) (getD l 1 zeroInput) w x
+      → Puts inputIn inputSize (b + 2 * inputSize) (getD l 2 zeroInput) x y
+      → Puts inputIn inputSize (b + 3 * inputSize) (getD l 3 zeroInput) y z
+      → Within b (b + 4 * inputSize) v z × (inputsIn z b ≡ l)
   unfolding inputsIn
   inputs-put l long p q r s =
       let f = four-put inputIn inputSize input-local b v w x y z _ _ _ _ p q r s in
       (f .within, rw (f .first, f .second, f .third, f .fourth) (four zeroInput l long))
 
   pub outputs-put : (l : List Output) → length l ≡ 4 → Puts outputIn outputSize b (getD l 0 zeroOutput) v w
-      → Puts outputIn outputSize (b + outputSize) (getD l 1 zeroOutput) w x → Puts outputIn outputSize (b + 2 * outputSize) (getD l 2 zeroOutput) x y
-      → Puts outputIn outputSize (b + 3 * outputSize) (getD l 3 zeroOutput) y z → Within b (b + 4 * outputSize) v z × (outputsIn z b ≡ l)
+      → Puts outputIn outputSize (b + outputSize) (getD l 1 zeroOutput) w x
+      → Puts outputIn outputSize (b + 2 * outputSize) (getD l 2 zeroOutput) x y
+      → Puts outputIn outputSize (b + 3 * outputSize) (getD l 3 zeroOutput) y z
+      → Within b (b + 4 * outputSize) v z × (outputsIn z b ≡ l)
   unfolding outputsIn
   outputs-put l long p q r s =
       let f = four-put outputIn outputSize output-local b v w x y z _ _ _ _ p q r s in
@@ -449,7 +477,8 @@ module _ (b : ℕ) (heard ws : List ℕ) where
   pub noting-start : Noting b heard ws ws 0
   noting-start = record { within = omega arith; kept = nothing-changed b (b + 8) ws; so = λ j h. absurd (not-suc-le-zero h) }
 
-  pub noting-next : (vs : List ℕ) (i x : ℕ) → Noting b heard ws vs i → i < 8 → b + 8 ≤ length ws → x ≡ getD heard i 0 → x < 256
+  pub noting-next : (vs : List ℕ) (i x : ℕ) → Noting b heard ws vs i → i < 8 → b + 8 ≤ length ws
+      → x ≡ getD heard i 0 → x < 256
       → Noting b heard ws (set vs (b + i) x) (i + 1)
   noting-next vs i x s h l e q = record {
     within = omega arith;
@@ -460,7 +489,8 @@ module _ (b : ℕ) (heard ws : List ℕ) where
       go : (j : ℕ) → j < i + 1 → (c : Bool) → eqb j i ≡ c → byte (set vs (b + i) x) (b + j) ≡ getD heard j 0
       go j k true c =
           let same : j ≡ i = eqb-true j i c in
-          let there : word (set vs (b + i) x) (b + i) ≡ x = getD-set-same vs (b + i) x 0 (omega (arith, s .kept .long)) in
+          let there : word (set vs (b + i) x) (b + i) ≡ x =
+          getD-set-same vs (b + i) x 0 (omega (arith, s .kept .long)) in
           rw same (ap (λ (w : ℕ). w % 256) there ∙ mod-eq-of-lt q ∙ e)
       go j k false c =
           let other : j ≡ i → ⊥ = eqb-false j i c in
@@ -477,9 +507,11 @@ module _ (b : ℕ) (heard ws : List ℕ) where
 
 module _ (k : ℕ) (v w x y z : List ℕ) (t : Known) (h : k < knownSlots) (long : length v ≡ shardWords) where
   pub known-put : (let b = entryPlace k in
-      Within b (b + 3) v w × Headed w b (t .transaction .number) (t .transaction .«input_count») (t .transaction .«output_count»)
+      Within b (b + 3) v w
+      × Headed w b (t .transaction .number) (t .transaction .«input_count») (t .transaction .«output_count»)
       → Within (b + inputsOffset) (b + inputsOffset + 20) w x × (inputsIn x (b + inputsOffset) ≡ t .transaction .inputs)
-      → Within (b + outputsOffset) (b + outputsOffset + 12) x y × (outputsIn y (b + outputsOffset) ≡ t .transaction .outputs)
+      → Within (b + outputsOffset) (b + outputsOffset + 12) x y
+      × (outputsIn y (b + outputsOffset) ≡ t .transaction .outputs)
       → Within (b + heardOffset) (b + heardOffset + 8) y z × (heardIn z (b + heardOffset) ≡ t .heard)
       → PutsKnown v k t z)
   known-put hp hq hr hs =
@@ -493,15 +525,22 @@ module _ (k : ℕ) (v w x y z : List ℕ) (t : Known) (h : k < knownSlots) (long
       let xz : Within o e x z = and-then xy (wider g e o e (omega arith) (omega arith) yz) in
       let wx : Within i e w x = wider i (i + 20) i e (omega arith) (omega arith) (hq .0) in
       let wz : Within i e w z = and-then wx (wider o e i e (omega arith) (omega arith) xz) in
-      let vz : Within b e v z = and-then (wider b (b + 3) b e (omega arith) (omega arith) (hp .0)) (wider i e b e (omega arith) (omega arith) wz) in
+      let vz : Within b e v z =
+      and-then (wider b (b + 3) b e (omega arith) (omega arith) (hp .0))
+      (wider i e b e (omega arith) (omega arith) wz) in
       let number : word z b ≡ t .transaction .number = wz .rest b (λ g m. omega arith) ∙ hp .1 .numbered in
-      let ins : byte z (b + 1) ≡ t .transaction .«input_count» = ap (λ (c : ℕ). c % 256) (wz .rest (b + 1) (λ g m. omega arith)) ∙ hp .1 .ins in
-      let outs : byte z (b + 2) ≡ t .transaction .«output_count» = ap (λ (c : ℕ). c % 256) (wz .rest (b + 2) (λ g m. omega arith)) ∙ hp .1 .outs in
+      let ins : byte z (b + 1) ≡ t .transaction .«input_count» =
+      ap (λ (c : ℕ). c % 256) (wz .rest (b + 1) (λ g m. omega arith)) ∙ hp .1 .ins in
+      let outs : byte z (b + 2) ≡ t .transaction .«output_count» =
+      ap (λ (c : ℕ). c % 256) (wz .rest (b + 2) (λ g m. omega arith)) ∙ hp .1 .outs in
       let inputs : inputsIn z i ≡ t .transaction .inputs =
       inputs-same x z i o (apart xz i o (λ j a c d f. omega arith)) i (omega arith) (omega arith) ∙ hq .1 in
       let outputs : outputsIn z o ≡ t .transaction .outputs =
       outputs-same y z o g (apart yz o g (λ j a c d f. omega arith)) o (omega arith) (omega arith) ∙ hr .1 in
-      record { is = known-stored v z k h vz (rw (number, ins, outs, inputs, outputs, hs .1) refl); long = vz .long ∙ long }
+      record {
+        is = known-stored v z k h vz (rw (number, ins, outs, inputs, outputs, hs .1) refl);
+        long = vz .long ∙ long;
+      }
 
 -- ---- All words 0
 
@@ -510,7 +549,8 @@ zeros zero i = refl
 zeros (suc n) zero = refl
 zeros (suc n) (suc i) = zeros n i
 
-pub all-cleared : (n number : ℕ) → n ≡ shardWords → number < 256 → Cleared number (set (replicate n 0) numberPlace number)
+pub all-cleared : (n number : ℕ) → n ≡ shardWords → number < 256
+    → Cleared number (set (replicate n 0) numberPlace number)
 all-cleared n number e h =
     let all : length {A = ℕ} (replicate n 0) ≡ n = length-replicate n 0 in
     record {

@@ -1,5 +1,5 @@
--- What stands where in a shard's words, and the shard that the words stand for. A word more is one line among the places; a field more is one line
--- there and one in the reading.
+-- What stands where in a shard's words, and the shard that the words stand for. A word more is one line among the
+-- places; a field more is one line there and one in the reading.
 use Prim.Native.Nat.{ℕ, zero, suc, _+_, _*_, _%_, _≤_, _<_}
 use mathlib.Core.Bool.{Bool, not}
 use mathlib.Core.Path.{_≡_}
@@ -15,7 +15,8 @@ use Rattle.model.specs.Steps.{Ledger}
 
 -- ---- How many slots there are, and how many words each has
 
--- tokens (document 01: at most 128 are held), known transactions (swaps, at most 32), genesis indices (opening positions, 128)
+-- tokens (document 01: at most 128 are held), known transactions (swaps, at most 32), genesis indices (opening
+-- positions, 128)
 abbrev pub tokenSlots : ℕ
 tokenSlots = 128
 
@@ -99,7 +100,13 @@ tab (suc n) f = f 0 ∷ tab n (λ (i : ℕ). f (suc i))
 
 abbrev pub tokenIn : List ℕ → ℕ → Token
 tokenIn ws b =
-    record { creator = word ws b; index = byte ws (b + 1); owner = word ws (b + 2); amount = word ws (b + 3); pledge = word ws (b + 4) }
+    record {
+      creator = word ws b;
+      index = byte ws (b + 1);
+      owner = word ws (b + 2);
+      amount = word ws (b + 3);
+      pledge = word ws (b + 4);
+    }
 
 unfoldable pub inputIn : List ℕ → ℕ → Input
 inputIn ws b =
@@ -118,7 +125,8 @@ inputsIn ws b =
 
 unfoldable pub outputsIn : List ℕ → ℕ → List Output
 outputsIn ws b =
-    outputIn ws b ∷ outputIn ws (b + outputSize) ∷ outputIn ws (b + 2 * outputSize) ∷ outputIn ws (b + 3 * outputSize) ∷ []
+    outputIn ws b ∷ outputIn ws (b + outputSize) ∷ outputIn ws (b + 2 * outputSize)
+    ∷ outputIn ws (b + 3 * outputSize) ∷ []
 
 abbrev pub transactionIn : List ℕ → ℕ → Transaction
 transactionIn ws b =
@@ -178,7 +186,8 @@ shardOf ws =
       given = givenOf ws;
     }
 
--- its ledger as the reference model has it: the tokens and the known transactions are the first ones of their slots, in order
+-- its ledger as the reference model has it: the tokens and the known transactions are the first ones of their slots, in
+-- order
 unfoldable pub view : Shard → Ledger
 view s = record { tokens = take (s .held) (s .tokens); given = s .given; known = take (s .known) (s .transactions) }
 

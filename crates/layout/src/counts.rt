@@ -1,9 +1,11 @@
-// The shard's number, how many tokens it holds and transactions it knows, the genesis indices given; and an empty shard.
+// The shard's number, how many tokens it holds and transactions it knows, the genesis indices given; and an empty
+// shard.
 ghost use mathlib.Core.Path.{_≡_};
 ghost use mathlib.Core.Bool.{true, false};
 ghost use Prim.Native.Nat.{_%_, _≤_, _<_};
 ghost use lib.ListN.{length, getD, set};
-ghost use Rattle.layout.specs.Layout.{shardWords, tokenSlots, knownSlots, genesisSlots, shardOf, withHeld, withKnown, withGiven, Becomes, Cleared};
+ghost use Rattle.layout.specs.Layout.{shardWords, tokenSlots, knownSlots, genesisSlots, shardOf};
+ghost use Rattle.layout.specs.Layout.{withHeld, withKnown, withGiven, Becomes, Cleared};
 use crate::GIVEN_PLACE;
 use crate::HELD_PLACE;
 use crate::KNOWN_PLACE;
@@ -67,7 +69,8 @@ pub fn set_known_count(s: &mut Words, n: usize)
 // The genesis index is given.
 pub fn give(s: &mut Words, index: usize)
     requires { ⌜ (index < genesisSlots) × (length (now s) ≡ shardWords) ⌝ }
-    ensures { λ _. ⌜ Becomes (withGiven (shardOf (now (s .entry))) (set (shardOf (now (s .entry)) .given) index true)) (now (s .exit)) ⌝ }
+    ensures { λ _. ⌜ Becomes (withGiven (shardOf (now (s .entry))) (set (shardOf (now (s .entry)) .given) index true))
+        (now (s .exit)) ⌝ }
 {
     s[GIVEN_PLACE + index] = 1;
 }

@@ -29,7 +29,8 @@ pub fn token_at(s: &Words, k: usize) -> Token
 // Only its id, for searches: the token has that creator and index.
 pub fn is_token(s: &Words, k: usize, creator: u32, index: u8) -> bool
     requires { ⌜ k < tokenSlots ⌝ }
-    ensures { λ r. ⌜ r ≡ (eqb (slotToken (now (s .entry)) k .creator) creator && eqb (slotToken (now (s .entry)) k .index) index) ⌝ }
+    ensures { λ r. ⌜ r ≡ (eqb (slotToken (now (s .entry)) k .creator) creator
+        && eqb (slotToken (now (s .entry)) k .index) index) ⌝ }
 {
     let b = TOKENS_PLACE + k * TOKEN_SIZE;
     (s[b] == creator) & (byte(s[b + 1]) == index)

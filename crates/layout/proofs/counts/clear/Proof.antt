@@ -11,8 +11,7 @@ element-write-s c = search needs
 returns : tie.Need-returns
 returns c =
     let entry : tie.Start = search in
-    let args = entry .args in
-    all-cleared shardWords (args .number) refl (search needs)
+    all-cleared shardWords (entry .args .number) refl (search needs)
 
 pub clear-spec : {M : Type 1} → statement M
 clear-spec = tie.close (tie.spec element-write-s returns)

@@ -15,9 +15,7 @@ element-write-s c = search needs
 
 returns : tie.Need-returns
 returns c =
-    let args = c .args in
-    let pre = c .pre in
-    flag-put (now (args .s)) (pre .1) (args .index) (pre .0)
+    flag-put (now (c .args .s)) (c .pre .1) (c .args .index) (c .pre .0)
 
 pub give-spec : {M : Type 1} → statement M
 give-spec = tie.close (tie.spec add-s mul-s element-write-s returns)

@@ -12,9 +12,7 @@ element-write-s c = search needs
 
 returns : tie.Need-returns
 returns c =
-    let args = c .args in
-    let pre = c .pre in
-    held-put (now (args .s)) (pre .1) (args .n)
+    held-put (now (c .args .s)) (c .pre .1) (c .args .n)
 
 pub set-held-spec : {M : Type 1} → statement M
 set-held-spec = tie.close (tie.spec cast-s element-write-s returns)

@@ -12,9 +12,7 @@ element-write-s c = search needs
 
 returns : tie.Need-returns
 returns c =
-    let args = c .args in
-    let pre = c .pre in
-    count-put (now (args .s)) (pre .1) (args .n)
+    count-put (now (c .args .s)) (c .pre .1) (c .args .n)
 
 pub set-known-count-spec : {M : Type 1} → statement M
 set-known-count-spec = tie.close (tie.spec cast-s element-write-s returns)

@@ -29,9 +29,8 @@ byte-requires c κs = search needs
 returns : tie.Need-returns
 returns c =
     let entry : tie.Start = search in
-    let byte = c .byte in
     let args = entry .args in
-    byte .ensures ∙ sym (heard-at (now (args .s)) (args .k) (args .sender) (search needs) (search needs))
+    c .byte .ensures ∙ sym (heard-at (now (args .s)) (args .k) (args .sender) (search needs) (search needs))
 
 returns-2 : tie.Need-returns-2
 returns-2 c =

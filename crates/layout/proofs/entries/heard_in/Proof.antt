@@ -100,31 +100,23 @@ byte-requires-8 c κs = search needs
 returns : tie.Need-returns
 unfolding heardIn
 returns c =
-    let after-byte7 : tie.After-byte7 = search in
-    let after-byte6 : tie.After-byte6 = search in
-    let after-byte5 : tie.After-byte5 = search in
-    let after-byte4 : tie.After-byte4 = search in
-    let after-byte3 : tie.After-byte3 = search in
-    let after-byte2 : tie.After-byte2 = search in
-    let after-byte : tie.After-byte = search in
-    let byte = after-byte .byte in
-    let byte2 = after-byte2 .byte2 in
-    let byte3 = after-byte3 .byte3 in
-    let byte4 = after-byte4 .byte4 in
-    let byte5 = after-byte5 .byte5 in
-    let byte6 = after-byte6 .byte6 in
-    let byte7 = after-byte7 .byte7 in
-    let byte8 = c .byte8 in
+    let seventh : tie.After-byte7 = search in
+    let sixth : tie.After-byte6 = search in
+    let fifth : tie.After-byte5 = search in
+    let fourth : tie.After-byte4 = search in
+    let third : tie.After-byte3 = search in
+    let second : tie.After-byte2 = search in
+    let first : tie.After-byte = search in
     rw (
       add-zero,
-      byte .ensures,
-      byte2 .ensures,
-      byte3 .ensures,
-      byte4 .ensures,
-      byte5 .ensures,
-      byte6 .ensures,
-      byte7 .ensures,
-      byte8 .ensures,
+      first .byte .ensures,
+      second .byte2 .ensures,
+      third .byte3 .ensures,
+      fourth .byte4 .ensures,
+      fifth .byte5 .ensures,
+      sixth .byte6 .ensures,
+      seventh .byte7 .ensures,
+      c .byte8 .ensures,
     )
 
 pub heard-in-spec : {M : Type 1} → statement M

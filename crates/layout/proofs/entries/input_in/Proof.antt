@@ -54,11 +54,9 @@ element-copy-out-t29 c = search needs
 returns : tie.Need-returns
 unfolding inputIn
 returns c =
-    let after-byte2 : tie.After-byte2 = search in
-    let after-byte : tie.After-byte = search in
-    let byte = after-byte .byte in
-    let byte2 = after-byte2 .byte2 in
-    rw (byte .ensures, byte2 .ensures)
+    let second : tie.After-byte2 = search in
+    let first : tie.After-byte = search in
+    rw (first .byte .ensures, second .byte2 .ensures)
 
 pub input-in-spec : {M : Type 1} → statement M
 input-in-spec =

@@ -33,14 +33,10 @@ input-in-requires-4 c κs = search needs
 returns : tie.Need-returns
 unfolding inputsIn
 returns c =
-    let after-input-in3 : tie.After-input-in3 = search in
-    let after-input-in2 : tie.After-input-in2 = search in
-    let after-input-in : tie.After-input-in = search in
-    let input-in = after-input-in .input-in in
-    let input-in2 = after-input-in2 .input-in2 in
-    let input-in3 = after-input-in3 .input-in3 in
-    let input-in4 = c .input-in4 in
-    rw (input-in .ensures, input-in2 .ensures, input-in3 .ensures, input-in4 .ensures)
+    let third : tie.After-input-in3 = search in
+    let second : tie.After-input-in2 = search in
+    let first : tie.After-input-in = search in
+    rw (first .input-in .ensures, second .input-in2 .ensures, third .input-in3 .ensures, c .input-in4 .ensures)
 
 pub inputs-in-spec : {M : Type 1} → statement M
 inputs-in-spec =

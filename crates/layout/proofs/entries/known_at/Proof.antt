@@ -21,13 +21,10 @@ heard-in-requires c κs = search needs
 
 returns : tie.Need-returns
 returns c =
-    let after-transaction-at : tie.After-transaction-at = search in
+    let read : tie.After-transaction-at = search in
     let entry : tie.Start = search in
     let args = entry .args in
-    let pre = entry .pre in
-    let transaction-at = after-transaction-at .transaction-at in
-    let heard-in = c .heard-in in
-    known-parts (now (args .s)) (args .k) (pre) (transaction-at .ensures) (heard-in .ensures)
+    known-parts (now (args .s)) (args .k) (entry .pre) (read .transaction-at .ensures) (c .heard-in .ensures)
 
 pub known-at-spec : {M : Type 1} → statement M
 known-at-spec =

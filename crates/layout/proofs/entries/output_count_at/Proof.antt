@@ -24,9 +24,7 @@ byte-requires : tie.Need-byte-requires
 byte-requires c κs = search needs
 
 returns : tie.Need-returns
-returns c =
-    let byte = c .byte in
-    byte .ensures ∙ sym (ap (λ (k : Known). k .transaction .«output_count») (known-get _ _ (search needs)))
+returns c = c .byte .ensures ∙ sym (ap (λ (k : Known). k .transaction .«output_count») (known-get _ _ (search needs)))
 
 pub output-count-at-spec : {M : Type 1} → statement M
 output-count-at-spec =

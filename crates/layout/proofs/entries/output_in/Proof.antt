@@ -33,9 +33,8 @@ element-copy-out-t17 c = search needs
 returns : tie.Need-returns
 unfolding outputIn
 returns c =
-    let after-byte : tie.After-byte = search in
-    let byte = after-byte .byte in
-    rw (byte .ensures)
+    let byte : tie.After-byte = search in
+    rw (byte .byte .ensures)
 
 pub output-in-spec : {M : Type 1} → statement M
 output-in-spec =

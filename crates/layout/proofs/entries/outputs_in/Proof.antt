@@ -33,14 +33,10 @@ output-in-requires-4 c κs = search needs
 returns : tie.Need-returns
 unfolding outputsIn
 returns c =
-    let after-output-in3 : tie.After-output-in3 = search in
-    let after-output-in2 : tie.After-output-in2 = search in
-    let after-output-in : tie.After-output-in = search in
-    let output-in = after-output-in .output-in in
-    let output-in2 = after-output-in2 .output-in2 in
-    let output-in3 = after-output-in3 .output-in3 in
-    let output-in4 = c .output-in4 in
-    rw (output-in .ensures, output-in2 .ensures, output-in3 .ensures, output-in4 .ensures)
+    let third : tie.After-output-in3 = search in
+    let second : tie.After-output-in2 = search in
+    let first : tie.After-output-in = search in
+    rw (first .output-in .ensures, second .output-in2 .ensures, third .output-in3 .ensures, c .output-in4 .ensures)
 
 pub outputs-in-spec : {M : Type 1} → statement M
 outputs-in-spec =

@@ -55,14 +55,11 @@ byte-requires-2 c κs = search needs
 
 returns : tie.Need-returns
 returns c =
-    let after-byte : tie.After-byte = search in
-    let after-outputs-in : tie.After-outputs-in = search in
-    let after-inputs-in : tie.After-inputs-in = search in
-    let byte = after-byte .byte in
-    let byte2 = c .byte2 in
-    let inputs-in = after-inputs-in .inputs-in in
-    let outputs-in = after-outputs-in .outputs-in in
-    rw (byte .ensures, byte2 .ensures, inputs-in .ensures, outputs-in .ensures) (sym (ap (λ (k : Known). k .transaction) (known-get _ _ (search needs))))
+    let first : tie.After-byte = search in
+    let outputs : tie.After-outputs-in = search in
+    let inputs : tie.After-inputs-in = search in
+    rw (first .byte .ensures, c .byte2 .ensures, inputs .inputs-in .ensures, outputs .outputs-in .ensures)
+    (sym (ap (λ (k : Known). k .transaction) (known-get _ _ (search needs))))
 
 pub transaction-at-spec : {M : Type 1} → statement M
 transaction-at-spec =

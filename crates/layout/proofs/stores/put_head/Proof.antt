@@ -32,8 +32,8 @@ element-write-s-3 c = search needs
 returns : tie.Need-returns
 returns c =
     let args = c .args in
-    let pre = c .pre in
-    head-put (now (args .s)) (args .b) (args .number) (args .inputs) (args .outputs) (omega (arith, pre)) (search needs) (search needs)
+    head-put (now (args .s)) (args .b) (args .number) (args .inputs) (args .outputs) (omega (arith, c .pre))
+    (search needs) (search needs)
 
 pub put-head-spec : {M : Type 1} → statement M
 put-head-spec =

@@ -25,8 +25,8 @@ element-write-s c = search needs
 returns : tie.Need-returns
 returns c =
     let args = c .args in
-    let pre = c .pre in
-    heard-put (now (args .s)) (args .k) (args .sender) (args .said) (pre .0) (pre .1 .0) (search needs) (pre .1 .1)
+    heard-put (now (args .s)) (args .k) (args .sender) (args .said) (c .pre .0) (c .pre .1 .0) (search needs)
+    (c .pre .1 .1)
 
 pub put-heard-spec : {M : Type 1} → statement M
 put-heard-spec = tie.close (tie.spec mul-s add-s add-s-2 add-s-3 mul-s-2 element-write-s returns)

@@ -57,8 +57,7 @@ returns : tie.Need-returns
 returns c =
     let entry : tie.Start = search in
     let args = entry .args in
-    let pre = entry .pre in
-    input-put (now (args .s)) (args .b) (args .x) (omega (arith, pre)) (search needs) (search needs)
+    input-put (now (args .s)) (args .b) (args .x) (omega (arith, entry .pre)) (search needs) (search needs)
 
 pub put-input-spec : {M : Type 1} → statement M
 put-input-spec =

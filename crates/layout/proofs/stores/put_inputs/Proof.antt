@@ -51,17 +51,16 @@ put-input-requires-4 c κs = search needs
 
 returns : tie.Need-returns
 returns c =
-    let after-put-input3 : tie.After-put-input3 = search in
-    let after-put-input2 : tie.After-put-input2 = search in
-    let after-put-input : tie.After-put-input = search in
+    let third : tie.After-put-input3 = search in
+    let second : tie.After-put-input2 = search in
+    let first : tie.After-put-input = search in
     let entry : tie.Start = search in
     let args = entry .args in
-    let put-input = after-put-input .put-input in
-    let put-input2 = after-put-input2 .put-input2 in
-    let put-input3 = after-put-input3 .put-input3 in
-    let put-input4 = c .put-input4 in
-    let long = long-t3 entry in
-    inputs-put (args .b) (now (args .s)) _ _ _ _ (args .t3) long (put-input .ensures) (put-input2 .ensures) (put-input3 .ensures) (put-input4 .ensures)
+    inputs-put (args .b) (now (args .s)) _ _ _ _ (args .t3) (long-t3 entry)
+    (first .put-input .ensures)
+    (second .put-input2 .ensures)
+    (third .put-input3 .ensures)
+    (c .put-input4 .ensures)
 
 pub put-inputs-spec : {M : Type 1} → statement M
 put-inputs-spec =

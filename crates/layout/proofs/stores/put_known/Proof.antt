@@ -33,18 +33,16 @@ put-verdicts-requires c κs = search needs
 
 returns : tie.Need-returns
 returns c =
-    let after-put-outputs : tie.After-put-outputs = search in
-    let after-put-inputs : tie.After-put-inputs = search in
-    let after-put-head : tie.After-put-head = search in
+    let outputs : tie.After-put-outputs = search in
+    let inputs : tie.After-put-inputs = search in
+    let head : tie.After-put-head = search in
     let entry : tie.Start = search in
     let args = entry .args in
-    let pre = entry .pre in
-    let put-head = after-put-head .put-head in
-    let put-inputs = after-put-inputs .put-inputs in
-    let put-outputs = after-put-outputs .put-outputs in
-    let put-verdicts = c .put-verdicts in
-    let law = known-put (args .k) (now (args .s)) _ _ _ _ (args .x) (pre .0) (pre .1) in
-    law (put-head .ensures) (put-inputs .ensures) (put-outputs .ensures) (put-verdicts .ensures)
+    known-put (args .k) (now (args .s)) _ _ _ _ (args .x) (entry .pre .0) (entry .pre .1)
+    (head .put-head .ensures)
+    (inputs .put-inputs .ensures)
+    (outputs .put-outputs .ensures)
+    (c .put-verdicts .ensures)
 
 pub put-known-spec : {M : Type 1} → statement M
 put-known-spec =

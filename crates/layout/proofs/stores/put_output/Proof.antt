@@ -36,8 +36,7 @@ returns : tie.Need-returns
 returns c =
     let entry : tie.Start = search in
     let args = entry .args in
-    let pre = entry .pre in
-    output-put (now (args .s)) (args .b) (args .y) (omega (arith, pre)) (search needs)
+    output-put (now (args .s)) (args .b) (args .y) (omega (arith, entry .pre)) (search needs)
 
 pub put-output-spec : {M : Type 1} → statement M
 put-output-spec =

@@ -51,17 +51,16 @@ put-output-requires-4 c κs = search needs
 
 returns : tie.Need-returns
 returns c =
-    let after-put-output3 : tie.After-put-output3 = search in
-    let after-put-output2 : tie.After-put-output2 = search in
-    let after-put-output : tie.After-put-output = search in
+    let third : tie.After-put-output3 = search in
+    let second : tie.After-put-output2 = search in
+    let first : tie.After-put-output = search in
     let entry : tie.Start = search in
     let args = entry .args in
-    let put-output = after-put-output .put-output in
-    let put-output2 = after-put-output2 .put-output2 in
-    let put-output3 = after-put-output3 .put-output3 in
-    let put-output4 = c .put-output4 in
-    let long = long-t3 entry in
-    outputs-put (args .b) (now (args .s)) _ _ _ _ (args .t3) long (put-output .ensures) (put-output2 .ensures) (put-output3 .ensures) (put-output4 .ensures)
+    outputs-put (args .b) (now (args .s)) _ _ _ _ (args .t3) (long-t3 entry)
+    (first .put-output .ensures)
+    (second .put-output2 .ensures)
+    (third .put-output3 .ensures)
+    (c .put-output4 .ensures)
 
 pub put-outputs-spec : {M : Type 1} → statement M
 put-outputs-spec =

@@ -46,23 +46,23 @@ loop-less c = search needs
 
 loop-again : tie.Need-loop-again Inv-loop μ-loop
 loop-again c =
-    let at-loop : tie.At-loop Inv-loop μ-loop = search in
+    let turn : tie.At-loop Inv-loop μ-loop = search in
     let entry : tie.Start Inv-loop μ-loop = search in
     let args = entry .args in
-    let loop = at-loop .loop in
-    let widen = c .widen in
-    let pre = entry .pre in
-    noting-next (args .b) (args .t3) (now (args .s)) (loop .s) (loop .i) (widen .result) (loop .inv) (search needs) (omega (arith, pre))
-    (widen .ensures .0) (widen .ensures .1)
+    let loop = turn .loop in
+    noting-next (args .b) (args .t3) (now (args .s)) (loop .s) (loop .i) (c .widen .result) (loop .inv)
+    (search needs) (omega (arith, entry .pre)) (c .widen .ensures .0) (c .widen .ensures .1)
 
 returns : tie.Need-returns Inv-loop μ-loop
 returns c =
-    let at-loop : tie.At-loop Inv-loop μ-loop = search in
+    let turn : tie.At-loop Inv-loop μ-loop = search in
     let entry : tie.Start Inv-loop μ-loop = search in
     let args = entry .args in
-    let loop = at-loop .loop in
-    let long = long-t3 entry in
-    (loop .inv .kept, noting-end (args .b) (args .t3) (now (args .s)) (loop .s) (loop .i) long (loop .inv) (search needs))
+    let loop = turn .loop in
+    let end =
+    noting-end (args .b) (args .t3) (now (args .s)) (loop .s) (loop .i) (long-t3 entry) (loop .inv)
+    (search needs) in
+    (loop .inv .kept, end)
 
 pub put-verdicts-spec : {M : Type 1} → statement M
 put-verdicts-spec =

@@ -32,9 +32,8 @@ byte-requires c κs = search needs
 returns : tie.Need-returns
 returns c =
     let entry : tie.Start = search in
-    let byte = c .byte in
     let args = entry .args in
-    rw (byte .ensures, token-get (now (args .s)) (args .k) (search needs)) refl
+    rw (c .byte .ensures, token-get (now (args .s)) (args .k) (search needs)) refl
 
 pub is-token-spec : {M : Type 1} → statement M
 is-token-spec =

@@ -21,9 +21,7 @@ element-write-s c = search needs
 
 returns : tie.Need-returns
 returns c =
-    let args = c .args in
-    let pre = c .pre in
-    pledge-put (now (args .s)) (args .k) (args .number) (pre .0) (pre .1)
+    pledge-put (now (c .args .s)) (c .args .k) (c .args .number) (c .pre .0) (c .pre .1)
 
 pub put-pledge-spec : {M : Type 1} → statement M
 put-pledge-spec = tie.close (tie.spec mul-s add-s add-s-2 mul-s-2 element-write-s returns)

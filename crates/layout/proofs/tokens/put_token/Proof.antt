@@ -59,8 +59,7 @@ returns : tie.Need-returns
 returns c =
     let entry : tie.Start = search in
     let args = entry .args in
-    let pre = entry .pre in
-    token-put (now (args .s)) (args .k) (args .t) (pre .0) (pre .1) (search needs)
+    token-put (now (args .s)) (args .k) (args .t) (entry .pre .0) (entry .pre .1) (search needs)
 
 pub put-token-spec : {M : Type 1} → statement M
 put-token-spec =

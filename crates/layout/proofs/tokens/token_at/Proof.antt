@@ -57,9 +57,8 @@ element-copy-out-t28 c = search needs
 
 returns : tie.Need-returns
 returns c =
-    let after-byte : tie.After-byte = search in
-    let byte = after-byte .byte in
-    rw (byte .ensures) (sym (token-get _ _ (search needs)))
+    let byte : tie.After-byte = search in
+    rw (byte .byte .ensures) (sym (token-get _ _ (search needs)))
 
 pub token-at-spec : {M : Type 1} → statement M
 token-at-spec =
