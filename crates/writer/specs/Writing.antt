@@ -1,4 +1,5 @@
--- What a writer answers and what it leaves in the lent bytes: rows 3, 4, 5 and then 15 of document 01's table of refusals.
+-- What a writer answers and what it leaves in the lent bytes: rows 3, 4, 5 and then 15 of document 01's table of
+-- refusals.
 use Prim.Native.Nat.{ℕ}
 use mathlib.Core.Path.{_≡_}
 use mathlib.Core.Bool.{Bool, cond}
