@@ -32,7 +32,8 @@ all-map f g (a ∷ x) = ap (λ (b : Bool). f (g a) && b) (all-map f g x)
 
 -- every shard of the transaction has voted: those of its inputs, and those of its outputs
 pub all-voted : (agreed : Bool) (heard : List ℕ) (t : Transaction) {i o : Bool}
-    → i ≡ all (inputVoted agreed heard) (take (t .«input_count») (t .inputs)) → o ≡ all (outputVoted agreed heard) (take (t .«output_count») (t .outputs))
+    → i ≡ all (inputVoted agreed heard) (take (t .«input_count») (t .inputs))
+    → o ≡ all (outputVoted agreed heard) (take (t .«output_count») (t .outputs))
     → i && o ≡ all (voted agreed heard) (shardsOf t)
 all-voted agreed heard t ei eo =
     rw (ei, eo)
@@ -45,12 +46,20 @@ module _ (t : Transaction) (heard : List ℕ) where
   unfolding decide
   decide-wait {h} e n = rw (sym e ∙ not-true h n) refl
 
-  pub decide-commit : {h y : Bool} → h ≡ all (voted false heard) (shardsOf t) → not h ≡ false → y ≡ all (voted true heard) (shardsOf t) → y ≡ true
+  pub decide-commit : {h y : Bool}
+      → h ≡ all (voted false heard) (shardsOf t)
+      → not h ≡ false
+      → y ≡ all (voted true heard) (shardsOf t)
+      → y ≡ true
       → Commit ≡ decide t heard
   unfolding decide
   decide-commit {h} e n f w = rw (sym e ∙ not-false h n, sym f ∙ w) refl
 
-  pub decide-abort : {h y : Bool} → h ≡ all (voted false heard) (shardsOf t) → not h ≡ false → y ≡ all (voted true heard) (shardsOf t) → y ≡ false
+  pub decide-abort : {h y : Bool}
+      → h ≡ all (voted false heard) (shardsOf t)
+      → not h ≡ false
+      → y ≡ all (voted true heard) (shardsOf t)
+      → y ≡ false
       → Abort ≡ decide t heard
   unfolding decide
   decide-abort {h} e n f w = rw (sym e ∙ not-false h n, sym f ∙ w) refl
@@ -61,29 +70,37 @@ one-length true x = refl
 one-length false x = refl
 
 module _ (me : ℕ) (t : Transaction) (long : length (t .outputs) ≡ 4) where
-  abbrev slot : ℕ → Bool
-  slot k = ltb k (t .«output_count») && outputHere me (getD (t .outputs) k zeroOutput)
+  -- the slot is used, where n are, and its output is here
+  abbrev slot : ℕ → ℕ → Bool
+  slot n k = ltb k n && outputHere me (getD (t .outputs) k zeroOutput)
 
   abbrev part : ℕ → List Output
-  part k = oneIf (slot k) (getD (t .outputs) k zeroOutput)
+  part k = oneIf (slot (t .«output_count») k) (getD (t .outputs) k zeroOutput)
 
   here-parts : outputsHere me t ≡ [] ++ part 0 ++ part 1 ++ part 2 ++ part 3
   unfolding outputsHere
   here-parts = sym (keep-by zeroOutput (t .outputs) long (outputHere me) (t .«output_count») refl refl refl refl refl)
 
-  pub here-count : {a b c d : ℕ} → a ≡ cond (slot 0) 1 0 → b ≡ cond (slot 1) 1 0 → c ≡ cond (slot 2) 1 0 → d ≡ cond (slot 3) 1 0
+  part-length : (k : ℕ) → length (part k) ≡ cond (slot (t .«output_count») k) 1 0
+  part-length k = one-length (slot (t .«output_count») k) (getD (t .outputs) k zeroOutput)
+
+  pub here-count : (n : ℕ) {a b c d : ℕ} → n ≡ t .«output_count»
+      → a ≡ cond (slot n 0) 1 0
+      → b ≡ cond (slot n 1) 1 0
+      → c ≡ cond (slot n 2) 1 0
+      → d ≡ cond (slot n 3) 1 0
       → a + b + c + d ≡ length (outputsHere me t)
-  here-count ea eb ec ed =
-      rw (ea, eb, ec, ed)
+  here-count n e ea eb ec ed =
+      rw (ea, eb, ec, ed, e)
       (sym (ap length here-parts
       ∙ rw (
         length-append (part 0 ++ part 1 ++ part 2) (part 3),
         length-append (part 0 ++ part 1) (part 2),
         length-append (part 0) (part 1),
-        one-length (slot 0) (getD (t .outputs) 0 zeroOutput),
-        one-length (slot 1) (getD (t .outputs) 1 zeroOutput),
-        one-length (slot 2) (getD (t .outputs) 2 zeroOutput),
-        one-length (slot 3) (getD (t .outputs) 3 zeroOutput),
+        part-length 0,
+        part-length 1,
+        part-length 2,
+        part-length 3,
       ) refl))
 
 -- reserved: nothing without outputs here, nothing once decided, else the outputs here
@@ -104,14 +121,17 @@ module _ (me : ℕ) (k : Known) {n : ℕ} (en : n ≡ length (outputsHere me (k 
   module _ {h : Bool} (eh : h ≡ all (voted false (k .heard)) (shardsOf (k .transaction))) where
     pub reserves-done : h ≡ true → 0 ≡ reservedBy me k
     unfolding reservedBy decide
-    reserves-done y = rw (sym eh ∙ y) (decided (all (voted true (k .heard)) (shardsOf (k .transaction))) (length (outputsHere me (k .transaction))))
+    reserves-done y =
+        let agreed = all (voted true (k .heard)) (shardsOf (k .transaction)) in
+        rw (sym eh ∙ y) (decided agreed (length (outputsHere me (k .transaction))))
 
     pub reserves-open : h ≡ false → n ≡ reservedBy me k
     unfolding reservedBy decide
     reserves-open y = rw (sym eh ∙ y) en
 
 -- at most four outputs of each known transaction are here
-total-most : {A : Type 0} (f : A → ℕ) (m : ℕ) (d : A) (l : List A) → ((i : ℕ) → i < length l → f (getD l i d) ≤ m) → total f l ≤ m * length l
+total-most : {A : Type 0} (f : A → ℕ) (m : ℕ) (d : A) (l : List A)
+    → ((i : ℕ) → i < length l → f (getD l i d) ≤ m) → total f l ≤ m * length l
 total-most f m d [] h = omega arith
 total-most f m d (x ∷ l) h =
     let r = total-most f m d l (λ i k. h (suc i) (omega arith)) in
@@ -131,7 +151,8 @@ reserves-most me k long =
     let most = undecided-most (outcomeOf k) (length (keep (outputHere me) (usedOutputs (k .transaction)))) in
     omega (arith, here, used, most)
 
-pub reserved-most : (me : ℕ) (ws : List ℕ) → shardOf ws .known ≤ knownSlots → reserved me (ledgerOf ws .known) ≤ 4 * shardOf ws .known
+pub reserved-most : (me : ℕ) (ws : List ℕ) → shardOf ws .known ≤ knownSlots
+    → reserved me (ledgerOf ws .known) ≤ 4 * shardOf ws .known
 unfolding reserved
 reserved-most me ws h =
     let n = known-length ws h in

@@ -26,7 +26,8 @@ pub any-found : {A : Type 0} (f : A → Bool) (l : List A) → find f l < length
 any-found f [] h = absurd (omega arith)
 any-found f (x ∷ l) h = go (f x) h (any-found f l)
   where
-    go : (b : Bool) → cond b 0 (suc (find f l)) < suc (length l) → (find f l < length l → any f l ≡ true) → b || any f l ≡ true
+    go : (b : Bool) → cond b 0 (suc (find f l)) < suc (length l) → (find f l < length l → any f l ≡ true)
+        → b || any f l ≡ true
     go true k r = refl
     go false k r = r (omega arith)
 
@@ -38,7 +39,8 @@ none-found f l h = go (any f l) refl
     go false e = refl
 
 -- one that passes
-pub any-here : {A : Type 0} (f : A → Bool) (l : List A) (i : ℕ) (d : A) → i < length l → f (getD l i d) ≡ true → any f l ≡ true
+pub any-here : {A : Type 0} (f : A → Bool) (l : List A) (i : ℕ) (d : A) → i < length l → f (getD l i d) ≡ true
+    → any f l ≡ true
 any-here f [] i d h e = absurd (omega arith)
 any-here f (x ∷ l) zero d h e = rw e refl
 any-here f (x ∷ l) (suc i) d h e = go (f x) (any-here f l i d (omega arith) e)
@@ -51,7 +53,8 @@ any-here f (x ∷ l) (suc i) d h e = go (f x) (any-here f l i d (omega arith) e)
 abbrev pub AsksNumber : ℕ → (Known → Bool) → Type 0
 AsksNumber number f = (k : Known) → f k ≡ true → isNumbered number k ≡ true
 
-module _ (known : List Known) (one : OneEach known) (number : ℕ) {place : ℕ} (found : place ≡ find (isNumbered number) known) where
+module _ (known : List Known) (one : OneEach known) (number : ℕ) {place : ℕ}
+    (found : place ≡ find (isNumbered number) known) where
   -- where the number is not known, none passes
   pub none-passes : length known ≤ place → (f : Known → Bool) → AsksNumber number f → any f known ≡ false
   none-passes h f asks = go (any f known) refl
@@ -69,11 +72,15 @@ module _ (known : List Known) (one : OneEach known) (number : ℕ) {place : ℕ}
     there = getD known place nothingKnown
 
     numbered : isNumbered number there ≡ true
-    numbered = rw found (find-at (isNumbered number) known nothingKnown (any-found (isNumbered number) known (rw (← found) below)) .1)
+    numbered =
+        rw found
+        (find-at (isNumbered number) known nothingKnown (any-found (isNumbered number) known (rw (← found) below)) .1)
 
     -- it stands nowhere else
     only : (i : ℕ) → i < length known → isNumbered number (getD known i nothingKnown) ≡ true → i ≡ place
-    only i h e = one i place h below (eqb-true (numberAt known i) number e ∙ sym (eqb-true (numberAt known place) number numbered))
+    only i h e =
+        one i place h below
+        (eqb-true (numberAt known i) number e ∙ sym (eqb-true (numberAt known place) number numbered))
 
     pub passes-there : (f : Known → Bool) → AsksNumber number f → any f known ≡ f there
     passes-there f asks = go (any f known) refl (f there) refl
@@ -91,7 +98,8 @@ module _ (known : List Known) (one : OneEach known) (number : ℕ) {place : ℕ}
     pub found-there : (f : Known → Bool) → AsksNumber number f → f there ≡ true → find f known ≡ place
     found-there f asks g =
         let e = any-here f known place nothingKnown below g in
-        only (find f known) (find-below f known e) (asks (getD known (find f known) nothingKnown) (find-at f known nothingKnown e .1))
+        only (find f known) (find-below f known e)
+        (asks (getD known (find f known) nothingKnown) (find-at f known nothingKnown e .1))
 
     pub known-there : any (isNumbered number) known ≡ true
     known-there = any-found (isNumbered number) known (rw (← found) below)
@@ -123,7 +131,8 @@ asks-given : (sender verdict : ℕ) (t : Transaction) → AsksNumber (t .number)
 asks-given sender verdict t k e = asks-for t k (and-first (isFor t k) (eqb (heardFrom sender k) (verdict + 1)) e)
 
 -- has the shard given a vote
-module _ (ws : List ℕ) (most : shardOf ws .known ≤ knownSlots) (one : OneEach (ledgerOf ws .known)) (sender verdict : ℕ) (t : Transaction)
+module _ (ws : List ℕ) (most : shardOf ws .known ≤ knownSlots) (one : OneEach (ledgerOf ws .known))
+    (sender verdict : ℕ) (t : Transaction)
     {place : ℕ} (found : place ≡ find (isNumbered (t .number)) (ledgerOf ws .known)) where
   abbrev given : Known → Bool
   given = hasGiven sender verdict t
@@ -133,7 +142,8 @@ module _ (ws : List ℕ) (most : shardOf ws .known ≤ knownSlots) (one : OneEac
 
   pub given-none : shardOf ws .known ≤ place → false ≡ gave (ledgerOf ws) sender verdict t
   unfolding gave
-  given-none h = sym (none-passes (ledgerOf ws .known) one (t .number) found (omega (arith, known-length ws most)) given asks)
+  given-none h =
+      sym (none-passes (ledgerOf ws .known) one (t .number) found (omega (arith, known-length ws most)) given asks)
 
   module _ (below : place < shardOf ws .known) {said : ℕ} (es : said ≡ getD (slotKnown ws place .heard) sender 0) where
     there-is : gave (ledgerOf ws) sender verdict t ≡ given (slotKnown ws place)
@@ -142,7 +152,8 @@ module _ (ws : List ℕ) (most : shardOf ws .known ≤ knownSlots) (one : OneEac
         passes-there (ledgerOf ws .known) one (t .number) found (omega (arith, known-length ws most)) given asks
         ∙ ap given (sym (known-entry ws place below most nothingKnown))
 
-    pub given-if : {same : Bool} → said ≡ verdict + 1 → same ≡ isFor t (slotKnown ws place) → same ≡ gave (ledgerOf ws) sender verdict t
+    pub given-if : {same : Bool} → said ≡ verdict + 1 → same ≡ isFor t (slotKnown ws place)
+        → same ≡ gave (ledgerOf ws) sender verdict t
     given-if {same} e f = rw (there-is, ← es, eq-eqb said (verdict + 1) e, ← f) (sym (and-true same))
 
     pub given-other : (said ≡ verdict + 1 → ⊥) → false ≡ gave (ledgerOf ws) sender verdict t

@@ -1,5 +1,5 @@
-// Decision: when votes of all the transaction's shards are heard, commit if all are yes, else abort. Of a known transaction only who takes part and
-// what they said is read.
+// Decision: when votes of all the transaction's shards are heard, commit if all are yes, else abort. Of a known
+// transaction only who takes part and what they said is read.
 ghost use mathlib.Core.Path.{_≡_};
 ghost use mathlib.Core.Bool.{true, cond};
 ghost use Prim.Native.Nat.{_<_};
@@ -29,7 +29,8 @@ fn has_voted(s: &Words, k: usize, agreed: bool, shard: u8) -> bool
 fn input_voted(s: &Words, k: usize, agreed: bool, used: bool, i: usize) -> bool
     requires { ⌜ (k < knownSlots) × (i < 4) ⌝ }
     ensures { λ r. ⌜ r ≡ cond used
-        (inputVoted agreed (slotKnown (now (s .entry)) k .heard) (getD (slotKnown (now (s .entry)) k .transaction .inputs) i zeroInput)) true ⌝ }
+        (inputVoted agreed (slotKnown (now (s .entry)) k .heard)
+        (getD (slotKnown (now (s .entry)) k .transaction .inputs) i zeroInput)) true ⌝ }
 {
     if used {
         let shard = input_shard_at(s, k, i);
@@ -42,7 +43,8 @@ fn input_voted(s: &Words, k: usize, agreed: bool, used: bool, i: usize) -> bool
 fn output_voted(s: &Words, k: usize, agreed: bool, used: bool, i: usize) -> bool
     requires { ⌜ (k < knownSlots) × (i < 4) ⌝ }
     ensures { λ r. ⌜ r ≡ cond used
-        (outputVoted agreed (slotKnown (now (s .entry)) k .heard) (getD (slotKnown (now (s .entry)) k .transaction .outputs) i zeroOutput)) true ⌝ }
+        (outputVoted agreed (slotKnown (now (s .entry)) k .heard)
+        (getD (slotKnown (now (s .entry)) k .transaction .outputs) i zeroOutput)) true ⌝ }
 {
     if used {
         let shard = output_shard_at(s, k, i);
@@ -79,7 +81,8 @@ fn outputs_voted(s: &Words, k: usize, agreed: bool) -> bool
 // All its shards are heard, or all have said yes.
 pub(crate) fn all_voted(s: &Words, k: usize, agreed: bool) -> bool
     requires { ⌜ k < knownSlots ⌝ }
-    ensures { λ r. ⌜ r ≡ all (voted agreed (slotKnown (now (s .entry)) k .heard)) (shardsOf (slotKnown (now (s .entry)) k .transaction)) ⌝ }
+    ensures { λ r. ⌜ r ≡ all (voted agreed (slotKnown (now (s .entry)) k .heard))
+        (shardsOf (slotKnown (now (s .entry)) k .transaction)) ⌝ }
 {
     inputs_voted(s, k, agreed) & outputs_voted(s, k, agreed)
 }

@@ -1,4 +1,5 @@
-// Known transactions: by number first, and by every field. A number is known for one transaction only, so that one search answers every question.
+// Known transactions: by number first, and by every field. A number is known for one transaction only, so that one
+// search answers every question.
 ghost use mathlib.Core.Path.{_≡_};
 ghost use Prim.Native.Nat.{_≤_, _<_};
 ghost use Rattle.model.specs.Lists.{find};
@@ -14,11 +15,12 @@ use layout::entries::transaction_at;
 use transaction::Transaction;
 use transaction::equality::same_transaction;
 
-// The place of the known transaction of that number; the count where it is not known. The number alone is handed over: a whole transaction
-// would be copied in every turn.
+// The place of the known transaction of that number; the count where it is not known. The number alone is handed over:
+// a whole transaction would be copied in every turn.
 pub fn place_of_number(s: &Words, number: u32) -> usize
     requires { ⌜ shardOf (now s) .known ≤ knownSlots ⌝ }
-    ensures { λ r. ⌜ (r ≡ find (isNumbered number) (ledgerOf (now (s .entry)) .known)) × (r ≤ shardOf (now (s .entry)) .known) ⌝ }
+    ensures { λ r. ⌜ (r ≡ find (isNumbered number) (ledgerOf (now (s .entry)) .known))
+        × (r ≤ shardOf (now (s .entry)) .known) ⌝ }
 {
     let n = known_count(s);
     let mut i = 0;

@@ -37,7 +37,8 @@ pub fn count_here(me: u8, t: Transaction) -> usize
 // The same of one output of the known transaction in a slot.
 fn one_at(s: &Words, k: usize, me: u8, used: bool, i: usize) -> usize
     requires { ⌜ (k < knownSlots) × (i < 4) ⌝ }
-    ensures { λ r. ⌜ (r ≡ cond (used && outputHere me (getD (slotKnown (now (s .entry)) k .transaction .outputs) i zeroOutput)) 1 0) × (r ≤ 1) ⌝ }
+    ensures { λ r. ⌜ (r ≡ cond (used && outputHere me (getD (slotKnown (now (s .entry)) k .transaction .outputs) i zeroOutput)) 1 0)
+        × (r ≤ 1) ⌝ }
 {
     let shard = output_shard_at(s, k, i);
     if used & (shard == me) { 1 } else { 0 }

@@ -13,13 +13,11 @@ outputs-voted-requires c κs = search needs
 
 returns : tie.Need-returns
 returns c =
-    let after-inputs-voted : tie.After-inputs-voted = search in
+    let voted : tie.After-inputs-voted = search in
     let entry : tie.Start = search in
     let args = entry .args in
-    let inputs-voted = after-inputs-voted .inputs-voted in
-    let outputs-voted = c .outputs-voted in
     let k = slotKnown (now (args .s)) (args .k) in
-    all-voted (args .agreed) (k .heard) (k .transaction) (inputs-voted .ensures) (outputs-voted .ensures)
+    all-voted (args .agreed) (k .heard) (k .transaction) (voted .inputs-voted .ensures) (c .outputs-voted .ensures)
 
 pub all-voted-spec : {M : Type 1} → statement M
 all-voted-spec = tie.close (tie.spec inputs-voted-requires outputs-voted-requires returns)

@@ -8,17 +8,13 @@ heard-at-requires c κs = search needs
 
 returns : tie.Need-returns
 returns c =
-    let after-heard-at : tie.After-heard-at = search in
-    let if1 = c .if1 in
-    let heard-at = after-heard-at .heard-at in
-    rw (if1 .taken, ← heard-at .ensures) refl
+    let heard : tie.After-heard-at = search in
+    rw (c .if1 .taken, ← heard .heard-at .ensures) refl
 
 returns-2 : tie.Need-returns-2
 returns-2 c =
-    let after-heard-at : tie.After-heard-at = search in
-    let if1 = c .if1 in
-    let heard-at = after-heard-at .heard-at in
-    rw (if1 .left, ← heard-at .ensures) refl
+    let heard : tie.After-heard-at = search in
+    rw (c .if1 .left, ← heard .heard-at .ensures) refl
 
 pub has-voted-spec : {M : Type 1} → statement M
 has-voted-spec = tie.close (tie.spec heard-at-requires returns returns-2)

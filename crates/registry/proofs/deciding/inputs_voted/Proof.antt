@@ -25,22 +25,23 @@ input-voted-requires-4 c κs = search needs
 
 returns : tie.Need-returns
 returns c =
-    let after-input-voted3 : tie.After-input-voted3 = search in
-    let after-input-voted2 : tie.After-input-voted2 = search in
-    let after-input-voted : tie.After-input-voted = search in
-    let after-input-count-at : tie.After-input-count-at = search in
+    let third : tie.After-input-voted3 = search in
+    let second : tie.After-input-voted2 = search in
+    let first : tie.After-input-voted = search in
+    let counted : tie.After-input-count-at = search in
     let entry : tie.Start = search in
     let args = entry .args in
-    let pre = entry .pre in
-    let input-count-at = after-input-count-at .input-count-at in
-    let input-voted = after-input-voted .input-voted in
-    let input-voted2 = after-input-voted2 .input-voted2 in
-    let input-voted3 = after-input-voted3 .input-voted3 in
-    let input-voted4 = c .input-voted4 in
-    let k = slotKnown (now (args .s)) (args .k) in
-    let long = four-inputs (now (args .s)) (args .k) pre in
-    let law = all-by zeroInput (k .transaction .inputs) long (inputVoted (args .agreed) (k .heard)) (input-count-at .result) in
-    rw (← input-count-at .ensures) (law (input-voted .ensures) (input-voted2 .ensures) (input-voted3 .ensures) (input-voted4 .ensures))
+    let ws = now (args .s) in
+    let known = slotKnown ws (args .k) in
+    let long = four-inputs ws (args .k) (entry .pre) in
+    let all =
+    all-by zeroInput (known .transaction .inputs) long (inputVoted (args .agreed) (known .heard))
+    (counted .input-count-at .result)
+    (first .input-voted .ensures)
+    (second .input-voted2 .ensures)
+    (third .input-voted3 .ensures)
+    (c .input-voted4 .ensures) in
+    rw (← counted .input-count-at .ensures) all
 
 pub inputs-voted-spec : {M : Type 1} → statement M
 inputs-voted-spec =

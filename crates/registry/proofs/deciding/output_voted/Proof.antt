@@ -1,5 +1,4 @@
 use mathlib.Core.Path.{ap, _∙_}
-use mathlib.Core.Bool.{Bool}
 use Rattle.layout.specs.Layout.{slotKnown}
 use Rattle.registry.specs.Voted.{voted}
 use denote.Ref.{now}
@@ -15,15 +14,12 @@ has-voted-requires c κs = search needs
 
 returns : tie.Need-returns
 returns c =
-    let after-output-shard-at : tie.After-output-shard-at = search in
-    let then1 : tie.Then1 = search in
+    let shard : tie.After-output-shard-at = search in
+    let yes : tie.Then1 = search in
     let entry : tie.Start = search in
     let args = entry .args in
-    let if1 = then1 .if1 in
-    let has-voted = c .has-voted in
-    let output-shard-at = after-output-shard-at .output-shard-at in
     let heard = slotKnown (now (args .s)) (args .k) .heard in
-    rw (if1 .taken) (has-voted .ensures ∙ ap (voted (args .agreed) heard) (output-shard-at .ensures))
+    rw (yes .if1 .taken) (c .has-voted .ensures ∙ ap (voted (args .agreed) heard) (shard .output-shard-at .ensures))
 
 returns-2 : tie.Need-returns-2
 returns-2 c = search needs

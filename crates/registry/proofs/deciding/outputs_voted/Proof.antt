@@ -25,22 +25,23 @@ output-voted-requires-4 c κs = search needs
 
 returns : tie.Need-returns
 returns c =
-    let after-output-voted3 : tie.After-output-voted3 = search in
-    let after-output-voted2 : tie.After-output-voted2 = search in
-    let after-output-voted : tie.After-output-voted = search in
-    let after-output-count-at : tie.After-output-count-at = search in
+    let third : tie.After-output-voted3 = search in
+    let second : tie.After-output-voted2 = search in
+    let first : tie.After-output-voted = search in
+    let counted : tie.After-output-count-at = search in
     let entry : tie.Start = search in
     let args = entry .args in
-    let pre = entry .pre in
-    let output-count-at = after-output-count-at .output-count-at in
-    let output-voted = after-output-voted .output-voted in
-    let output-voted2 = after-output-voted2 .output-voted2 in
-    let output-voted3 = after-output-voted3 .output-voted3 in
-    let output-voted4 = c .output-voted4 in
-    let k = slotKnown (now (args .s)) (args .k) in
-    let long = four-outputs (now (args .s)) (args .k) pre in
-    let law = all-by zeroOutput (k .transaction .outputs) long (outputVoted (args .agreed) (k .heard)) (output-count-at .result) in
-    rw (← output-count-at .ensures) (law (output-voted .ensures) (output-voted2 .ensures) (output-voted3 .ensures) (output-voted4 .ensures))
+    let ws = now (args .s) in
+    let known = slotKnown ws (args .k) in
+    let long = four-outputs ws (args .k) (entry .pre) in
+    let all =
+    all-by zeroOutput (known .transaction .outputs) long (outputVoted (args .agreed) (known .heard))
+    (counted .output-count-at .result)
+    (first .output-voted .ensures)
+    (second .output-voted2 .ensures)
+    (third .output-voted3 .ensures)
+    (c .output-voted4 .ensures) in
+    rw (← counted .output-count-at .ensures) all
 
 pub outputs-voted-spec : {M : Type 1} → statement M
 outputs-voted-spec =

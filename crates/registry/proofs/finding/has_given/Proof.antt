@@ -1,6 +1,5 @@
 use Rattle.registry.proofs.Finds.{given-none, given-if, given-other}
 use denote.Ref.{now}
-use native.Mathlib.Omega.{arith}
 use borrow.Author.Needs.{needs}
 use Rattle.registry.proofs.finding.has_given.Statement.{statement}
 use Rattle.registry.proofs.finding.has_given.Tie as tie
@@ -25,41 +24,32 @@ same-at-requires c κs = search needs
 
 returns : tie.Need-returns
 returns c =
-    let then2 : tie.Then2 = search in
-    let after-heard-at : tie.After-heard-at = search in
-    let after-place-of-number : tie.After-place-of-number = search in
+    let yes : tie.Then2 = search in
+    let heard : tie.After-heard-at = search in
+    let found : tie.After-place-of-number = search in
     let entry : tie.Start = search in
     let args = entry .args in
-    let pre = entry .pre in
-    let place-of-number = after-place-of-number .place-of-number in
-    let heard-at = after-heard-at .heard-at in
-    let if2 = then2 .if2 in
-    let same-at = c .same-at in
-    given-if (now (args .s)) (pre .0) (pre .1) (args .sender) (args .verdict) (args .t) (place-of-number .ensures .0)
-    (search needs) (heard-at .ensures) (if2 .taken) (same-at .ensures)
+    given-if (now (args .s)) (entry .pre .0) (entry .pre .1) (args .sender) (args .verdict) (args .t)
+    (found .place-of-number .ensures .0)
+    (search needs) (heard .heard-at .ensures) (yes .if2 .taken) (c .same-at .ensures)
 
 returns-2 : tie.Need-returns-2
 returns-2 c =
-    let after-heard-at : tie.After-heard-at = search in
-    let after-place-of-number : tie.After-place-of-number = search in
+    let heard : tie.After-heard-at = search in
+    let found : tie.After-place-of-number = search in
     let entry : tie.Start = search in
     let args = entry .args in
-    let pre = entry .pre in
-    let place-of-number = after-place-of-number .place-of-number in
-    let heard-at = after-heard-at .heard-at in
-    let if2 = c .if2 in
-    given-other (now (args .s)) (pre .0) (pre .1) (args .sender) (args .verdict) (args .t) (place-of-number .ensures .0)
-    (search needs) (heard-at .ensures) (if2 .left)
+    given-other (now (args .s)) (entry .pre .0) (entry .pre .1) (args .sender) (args .verdict) (args .t)
+    (found .place-of-number .ensures .0)
+    (search needs) (heard .heard-at .ensures) (c .if2 .left)
 
 returns-3 : tie.Need-returns-3
 returns-3 c =
-    let after-place-of-number : tie.After-place-of-number = search in
+    let found : tie.After-place-of-number = search in
     let entry : tie.Start = search in
     let args = entry .args in
-    let pre = entry .pre in
-    let place-of-number = after-place-of-number .place-of-number in
-    given-none (now (args .s)) (pre .0) (pre .1) (args .sender) (args .verdict) (args .t) (place-of-number .ensures .0)
-    (search needs)
+    given-none (now (args .s)) (entry .pre .0) (entry .pre .1) (args .sender) (args .verdict) (args .t)
+    (found .place-of-number .ensures .0) (search needs)
 
 pub has-given-spec : {M : Type 1} → statement M
 has-given-spec =

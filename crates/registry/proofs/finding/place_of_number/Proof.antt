@@ -12,7 +12,8 @@ use Rattle.registry.proofs.finding.place_of_number.Statement.{statement
 use Rattle.registry.proofs.finding.place_of_number.Tie as tie
 
 abbrev Inv-loop : tie.InvT-loop
-Inv-loop s number n i₀ i = (n ≡ word s knownPlace) × Finding (isNumbered number) (transactionsOf s) (word s knownPlace) i
+Inv-loop s number n i₀ i =
+    (n ≡ word s knownPlace) × Finding (isNumbered number) (transactionsOf s) (word s knownPlace) i
 
 abbrev μ-loop : tie.MeasureT-loop
 μ-loop s number n i₀ i = n - i
@@ -29,15 +30,12 @@ number-at-requires c κs = search needs
 returns : tie.Need-returns Inv-loop μ-loop
 unfolding view
 returns c =
-    let after-number-at : tie.After-number-at Inv-loop μ-loop = search in
-    let at-loop : tie.At-loop Inv-loop μ-loop = search in
+    let numbered : tie.After-number-at Inv-loop μ-loop = search in
+    let turn : tie.At-loop Inv-loop μ-loop = search in
     let entry : tie.Start Inv-loop μ-loop = search in
-    let number-at = after-number-at .number-at in
-    let if1 = c .if1 in
-    let loop = at-loop .loop in
-    let args = entry .args in
-    let hit = eq-eqb _ (args .number) (sym (number-at .ensures) ∙ if1 .taken) in
-    (sym (find-hit noKnown (loop .inv .1) (omega arith) (omega (arith, length-known (now (args .s)))) hit), omega arith)
+    let slots = length-known (now (entry .args .s)) in
+    let hit = eq-eqb _ (entry .args .number) (sym (numbered .number-at .ensures) ∙ c .if1 .taken) in
+    (sym (find-hit noKnown (turn .loop .inv .1) (omega arith) (omega (arith, slots)) hit), omega arith)
 
 add-i : tie.Need-add-i Inv-loop μ-loop
 add-i c = search needs
@@ -47,22 +45,18 @@ loop-less c = search needs
 
 loop-again : tie.Need-loop-again Inv-loop μ-loop
 loop-again c =
-    let after-number-at : tie.After-number-at Inv-loop μ-loop = search in
-    let at-loop : tie.At-loop Inv-loop μ-loop = search in
+    let numbered : tie.After-number-at Inv-loop μ-loop = search in
+    let turn : tie.At-loop Inv-loop μ-loop = search in
     let entry : tie.Start Inv-loop μ-loop = search in
-    let number-at = after-number-at .number-at in
-    let if1 = c .if1 in
-    let loop = at-loop .loop in
-    let args = entry .args in
-    let miss = ne-eqb _ (args .number) (λ e. if1 .left (number-at .ensures ∙ e)) in
-    (loop .inv .0, find-next noKnown (loop .inv .1) (omega arith) (omega (arith, length-known (now (args .s)))) miss)
+    let slots = length-known (now (entry .args .s)) in
+    let miss = ne-eqb _ (entry .args .number) (λ e. c .if1 .left (numbered .number-at .ensures ∙ e)) in
+    (turn .loop .inv .0, find-next noKnown (turn .loop .inv .1) (omega arith) (omega (arith, slots)) miss)
 
 returns-2 : tie.Need-returns-2 Inv-loop μ-loop
 unfolding view
 returns-2 c =
-    let at-loop : tie.At-loop Inv-loop μ-loop = search in
-    let loop = at-loop .loop in
-    (sym (find-end (loop .inv .1) (omega arith)), omega arith)
+    let turn : tie.At-loop Inv-loop μ-loop = search in
+    (sym (find-end (turn .loop .inv .1) (omega arith)), omega arith)
 
 pub place-of-number-spec : {M : Type 1} → statement M
 place-of-number-spec =

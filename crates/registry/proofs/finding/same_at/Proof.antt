@@ -13,12 +13,10 @@ same-transaction-requires c κs = search needs
 
 returns : tie.Need-returns
 returns c =
-    let after-transaction-at : tie.After-transaction-at = search in
+    let read : tie.After-transaction-at = search in
     let entry : tie.Start = search in
-    let same-transaction = c .same-transaction in
-    let args = entry .args in
-    let transaction-at = after-transaction-at .transaction-at in
-    same-transaction .ensures ∙ ap (λ (x : Transaction). sameTransaction x (args .t)) (transaction-at .ensures)
+    c .same-transaction .ensures
+    ∙ ap (λ (x : Transaction). sameTransaction x (entry .args .t)) (read .transaction-at .ensures)
 
 pub same-at-spec : {M : Type 1} → statement M
 same-at-spec = tie.close (tie.spec transaction-at-requires same-transaction-requires returns)

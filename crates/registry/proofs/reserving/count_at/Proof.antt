@@ -1,3 +1,4 @@
+use Prim.Native.Nat.{_+_, _≤_}
 use Rattle.layout.specs.Layout.{slotKnown}
 use Rattle.layout.proofs.Slots.{four-outputs}
 use Rattle.registry.proofs.Decisions.{here-count}
@@ -6,6 +7,18 @@ use denote.Ref.{now}
 use borrow.Author.Needs.{needs}
 use Rattle.registry.proofs.reserving.count_at.Statement.{statement}
 use Rattle.registry.proofs.reserving.count_at.Tie as tie
+
+-- At most one output for each slot.
+most : (c : tie.After-one-at4)
+    → let third : tie.After-one-at3 = search in
+    let second : tie.After-one-at2 = search in
+    let first : tie.After-one-at = search in
+    first .one-at .result + second .one-at2 .result + third .one-at3 .result + c .one-at4 .result ≤ 4
+most c =
+    let third : tie.After-one-at3 = search in
+    let second : tie.After-one-at2 = search in
+    let first : tie.After-one-at = search in
+    omega (arith, first .one-at .ensures .1, second .one-at2 .ensures .1, third .one-at3 .ensures .1, c .one-at4 .ensures .1)
 
 output-count-at-requires : tie.Need-output-count-at-requires
 output-count-at-requires c κs = search needs
@@ -23,59 +36,31 @@ one-at-requires-4 : tie.Need-one-at-requires-4
 one-at-requires-4 c κs = search needs
 
 add-result : tie.Need-add-result
-add-result c =
-    let after-one-at3 : tie.After-one-at3 = search in
-    let after-one-at2 : tie.After-one-at2 = search in
-    let after-one-at : tie.After-one-at = search in
-    let one-at = after-one-at .one-at in
-    let one-at2 = after-one-at2 .one-at2 in
-    let one-at3 = after-one-at3 .one-at3 in
-    let one-at4 = c .one-at4 in
-    omega (arith, one-at .ensures .1, one-at2 .ensures .1, one-at3 .ensures .1, one-at4 .ensures .1)
+add-result c = omega (arith, most (search))
 
 add-result-2 : tie.Need-add-result-2
-add-result-2 c =
-    let after-one-at3 : tie.After-one-at3 = search in
-    let after-one-at2 : tie.After-one-at2 = search in
-    let after-one-at : tie.After-one-at = search in
-    let one-at = after-one-at .one-at in
-    let one-at2 = after-one-at2 .one-at2 in
-    let one-at3 = after-one-at3 .one-at3 in
-    let one-at4 = c .one-at4 in
-    omega (arith, one-at .ensures .1, one-at2 .ensures .1, one-at3 .ensures .1, one-at4 .ensures .1)
+add-result-2 c = omega (arith, most (search))
 
 add-result-3 : tie.Need-add-result-3
-add-result-3 c =
-    let after-one-at3 : tie.After-one-at3 = search in
-    let after-one-at2 : tie.After-one-at2 = search in
-    let after-one-at : tie.After-one-at = search in
-    let one-at = after-one-at .one-at in
-    let one-at2 = after-one-at2 .one-at2 in
-    let one-at3 = after-one-at3 .one-at3 in
-    let one-at4 = c .one-at4 in
-    omega (arith, one-at .ensures .1, one-at2 .ensures .1, one-at3 .ensures .1, one-at4 .ensures .1)
+add-result-3 c = omega (arith, most (search))
 
 returns : tie.Need-returns
 returns c =
-    let after-one-at3 : tie.After-one-at3 = search in
-    let after-one-at2 : tie.After-one-at2 = search in
-    let after-one-at : tie.After-one-at = search in
-    let after-output-count-at : tie.After-output-count-at = search in
+    let third : tie.After-one-at3 = search in
+    let second : tie.After-one-at2 = search in
+    let first : tie.After-one-at = search in
+    let counted : tie.After-output-count-at = search in
     let entry : tie.Start = search in
     let args = entry .args in
-    let pre = entry .pre in
-    let output-count-at = after-output-count-at .output-count-at in
-    let one-at = after-one-at .one-at in
-    let one-at2 = after-one-at2 .one-at2 in
-    let one-at3 = after-one-at3 .one-at3 in
-    let one-at4 = c .one-at4 in
-    let t = slotKnown (now (args .s)) (args .k) .transaction in
-    let law = here-count (args .me) t (four-outputs (now (args .s)) (args .k) pre) in
-    let one = rw (output-count-at .ensures) at (one-at .ensures .0) in
-    let two = rw (output-count-at .ensures) at (one-at2 .ensures .0) in
-    let three = rw (output-count-at .ensures) at (one-at3 .ensures .0) in
-    let four = rw (output-count-at .ensures) at (one-at4 .ensures .0) in
-    (law one two three four, omega (arith, one-at .ensures .1, one-at2 .ensures .1, one-at3 .ensures .1, one-at4 .ensures .1))
+    let ws = now (args .s) in
+    let t = slotKnown ws (args .k) .transaction in
+    let count =
+    here-count (args .me) t (four-outputs ws (args .k) (entry .pre)) _ (counted .output-count-at .ensures)
+    (first .one-at .ensures .0)
+    (second .one-at2 .ensures .0)
+    (third .one-at3 .ensures .0)
+    (c .one-at4 .ensures .0) in
+    (count, most (search))
 
 pub count-at-spec : {M : Type 1} → statement M
 count-at-spec =

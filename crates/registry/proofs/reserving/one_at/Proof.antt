@@ -1,4 +1,4 @@
-use mathlib.Core.Path.{refl, _∙_}
+use mathlib.Core.Path.{refl}
 use native.Mathlib.Omega.{arith}
 use borrow.Author.Needs.{needs}
 use Rattle.registry.proofs.reserving.one_at.Statement.{statement}
@@ -9,17 +9,13 @@ output-shard-at-requires c κs = search needs
 
 returns : tie.Need-returns
 returns c =
-    let after-output-shard-at : tie.After-output-shard-at = search in
-    let output-shard-at = after-output-shard-at .output-shard-at in
-    let if1 = c .if1 in
-    (rw (← output-shard-at .ensures, if1 .taken) refl, omega arith)
+    let shard : tie.After-output-shard-at = search in
+    (rw (← shard .output-shard-at .ensures, c .if1 .taken) refl, omega arith)
 
 returns-2 : tie.Need-returns-2
 returns-2 c =
-    let after-output-shard-at : tie.After-output-shard-at = search in
-    let output-shard-at = after-output-shard-at .output-shard-at in
-    let if1 = c .if1 in
-    (rw (← output-shard-at .ensures, if1 .left) refl, omega arith)
+    let shard : tie.After-output-shard-at = search in
+    (rw (← shard .output-shard-at .ensures, c .if1 .left) refl, omega arith)
 
 pub one-at-spec : {M : Type 1} → statement M
 one-at-spec = tie.close (tie.spec output-shard-at-requires returns returns-2)

@@ -28,10 +28,8 @@ reserved-at-requires c κs = search needs
 
 add-sum : tie.Need-add-sum Inv-loop μ-loop
 add-sum c =
-    let at-loop : tie.At-loop Inv-loop μ-loop = search in
-    let reserved-at = c .reserved-at in
-    let loop = at-loop .loop in
-    omega (arith, reserved-at .ensures .1, loop .inv .1 .0)
+    let turn : tie.At-loop Inv-loop μ-loop = search in
+    omega (arith, c .reserved-at .ensures .1, turn .loop .inv .1 .0)
 
 add-i : tie.Need-add-i Inv-loop μ-loop
 add-i c = search needs
@@ -41,20 +39,18 @@ loop-less c = search needs
 
 loop-again : tie.Need-loop-again Inv-loop μ-loop
 loop-again c =
-    let at-loop : tie.At-loop Inv-loop μ-loop = search in
+    let turn : tie.At-loop Inv-loop μ-loop = search in
     let entry : tie.Start Inv-loop μ-loop = search in
-    let loop = at-loop .loop in
-    let args = entry .args in
-    let reserved-at = c .reserved-at in
-    let next = sum-next noKnown _ (loop .inv .1 .1) (omega arith) (omega (arith, length-known (now (args .s)))) (reserved-at .ensures .0) in
-    (loop .inv .0, (omega (arith, reserved-at .ensures .1, loop .inv .1 .0), next))
+    let inv = turn .loop .inv in
+    let slots = length-known (now (entry .args .s)) in
+    let next = sum-next noKnown _ (inv .1 .1) (omega arith) (omega (arith, slots)) (c .reserved-at .ensures .0) in
+    (inv .0, (omega (arith, c .reserved-at .ensures .1, inv .1 .0), next))
 
 returns : tie.Need-returns Inv-loop μ-loop
 unfolding view reserved
 returns c =
-    let at-loop : tie.At-loop Inv-loop μ-loop = search in
-    let loop = at-loop .loop in
-    (sym (sum-end (loop .inv .1 .1) (omega arith)), omega (arith, loop .inv .1 .0))
+    let turn : tie.At-loop Inv-loop μ-loop = search in
+    (sym (sum-end (turn .loop .inv .1 .1) (omega arith)), omega (arith, turn .loop .inv .1 .0))
 
 pub reserved-here-spec : {M : Type 1} → statement M
 reserved-here-spec =
