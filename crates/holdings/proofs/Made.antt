@@ -29,7 +29,8 @@ module _ {A : Type 0} (wanted : Bool) (l : List A) (n : ℕ) (x : A) where
 
 -- what one output slot makes stands in front of what the slots behind it make
 module _ (me number : ℕ) where
-  from-more : (index : ℕ) (y : Output) (ys : List Output) {made : List Token} → tokensFrom me number (suc index) ys ≡ made
+  from-more : (index : ℕ) (y : Output) (ys : List Output) {made : List Token}
+      → tokensFrom me number (suc index) ys ≡ made
       → tokensFrom me number index (y ∷ ys) ≡ oneIf (outputHere me y) (tokenOf number index y) ++ made
   from-more index y ys {made} e = rw e (go (outputHere me y))
     where

@@ -270,7 +270,8 @@ pub some-left : (ws : List ℕ) (m n : ℕ) → Left ws (m + n) → Left ws m
 some-left ws m n r = (r .0, omega (arith, r .1))
 
 -- those that are left behind tokens made
-pub still-left : (ws vs : List ℕ) (m : List Token) (n : ℕ) → Left ws (length m + n) → Changes (adding m) ws vs → Left vs n
+pub still-left : (ws vs : List ℕ) (m : List Token) (n : ℕ) → Left ws (length m + n) → Changes (adding m) ws vs
+    → Left vs n
 still-left ws vs m n r p =
     let more : shardOf vs .held ≡ shardOf ws .held + length m =
     holds-held vs p ∙ length-append (ledgerOf ws .tokens) m ∙ rw (held-length ws (r .0 .held)) refl in

@@ -11,7 +11,18 @@ use Rattle.model.specs.declared.Outcome.{Outcome}
 use Rattle.model.specs.Lists.{keep}
 use Rattle.model.specs.Steps.{outputHere, tokenOf, stays, settle}
 use Rattle.loops.specs.Lists.{oneIf}
-use Rattle.layout.specs.Layout.{shardWords, tokenSlots, knownSlots, tokensOf, Shard, shardOf, ledgerOf, slotKnown, withHeld, withTokens}
+use Rattle.layout.specs.Layout.{
+  shardWords,
+  tokenSlots,
+  knownSlots,
+  tokensOf,
+  Shard,
+  shardOf,
+  ledgerOf,
+  slotKnown,
+  withHeld,
+  withTokens,
+}
 use Rattle.holdings.specs.declared.Inputs.{Inputs}
 
 -- the first `count` inputs are the list

@@ -25,7 +25,8 @@ pub(crate) fn names_token(x: Input, token: Token) -> bool
     (token.creator == id.creator) & (token.index == id.index)
 }
 
-// It is that token with that owner and that amount, and it is pledged to no transaction. The name first: most tokens have another.
+// It is that token with that owner and that amount, and it is pledged to no transaction. The name first: most tokens
+// have another.
 fn is_free_for(x: Input, token: Token) -> bool
     ensures { λ r. ⌜ r ≡ freeFor x token ⌝ }
 {

@@ -1,4 +1,5 @@
-// Commit: the inputs here are destroyed, and the outputs here are made. The order of what stays is kept, and new tokens stand behind it.
+// Commit: the inputs here are destroyed, and the outputs here are made. The order of what stays is kept, and new tokens
+// stand behind it.
 ghost use mathlib.Core.Path.{_≡_};
 ghost use mathlib.Core.List.{[], _∷_};
 ghost use Prim.Native.Nat.{_+_, _≤_};

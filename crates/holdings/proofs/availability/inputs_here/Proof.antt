@@ -44,7 +44,8 @@ returns c =
     let entry : tie.Start = search in
     let t = entry .args .t in
     let kept =
-    keep-by zeroInput (t .inputs) (long-of t (entry .good .1 .0) .inputs) (inputHere (entry .args .me)) (t .«input_count»)
+    keep-by zeroInput (t .inputs) (long-of t (entry .good .1 .0) .inputs) (inputHere (entry .args .me))
+    (t .«input_count»)
     (none .no-inputs .ensures .0)
     (first .push-if .ensures .0)
     (second .push-if2 .ensures .0)

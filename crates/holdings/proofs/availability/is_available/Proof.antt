@@ -57,7 +57,8 @@ loop-again c =
     let turn : tie.At-loop Inv-loop μ-loop = search in
     let entry : tie.Start Inv-loop μ-loop = search in
     let slots = length-tokens (now (entry .args .s)) in
-    let next = seek-next noToken (turn .loop .inv .1) (omega arith) (omega (arith, slots)) (free (search) ∙ c .if1 .left) in
+    let next =
+    seek-next noToken (turn .loop .inv .1) (omega arith) (omega (arith, slots)) (free (search) ∙ c .if1 .left) in
     (turn .loop .inv .0, next)
 
 returns-2 : tie.Need-returns-2 Inv-loop μ-loop

@@ -24,7 +24,8 @@ returns c =
     let own : tie.After-own-number = search in
     let entry : tie.Start = search in
     let args = entry .args in
-    settled (args .place) (now (args .s)) (own .own-number .ensures) (read .transaction-at .ensures) (c .commit-here .ensures)
+    settled (args .place) (now (args .s)) (own .own-number .ensures) (read .transaction-at .ensures)
+    (c .commit-here .ensures)
 
 pub commit-at-spec : {M : Type 1} → statement M
 commit-at-spec =

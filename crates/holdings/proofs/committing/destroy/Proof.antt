@@ -49,7 +49,8 @@ returns c =
     let first : tie.After-destroy-if = search in
     let entry : tie.Start = search in
     let x = entry .args .inputs in
-    four-turns destroying-in-turn (x .list) (x .count) (inputs-long x (entry .good .1 .0)) (now (entry .args .s)) _ _ _ _
+    four-turns destroying-in-turn (x .list) (x .count) (inputs-long x (entry .good .1 .0)) (now (entry .args .s)) _
+    _ _ _
     (first .destroy-if .ensures)
     (second .destroy-if2 .ensures)
     (third .destroy-if3 .ensures)

@@ -73,7 +73,8 @@ loop-again-2 c =
     let entry : tie.Start Inv-loop μ-loop = search in
     let args = entry .args in
     let loop = turn .loop in
-    let same = pledged-not (args .x) (named .names-token .ensures) (read .token-at .ensures) (args .number) (c .if1 .left) in
+    let same =
+    pledged-not (args .x) (named .names-token .ensures) (read .token-at .ensures) (args .number) (c .if1 .left) in
     (loop .inv .0, (loop .inv .1 .0, place-stays noToken (loop .inv .1 .1) (search needs) same))
 
 returns : tie.Need-returns Inv-loop μ-loop
