@@ -3,21 +3,27 @@ use Prim.Native.Nat.{ℕ, _+_, _≤_, _<_}
 use native.Mathlib.Omega.{arith}
 use mathlib.Core.Path.{_≡_, refl, sym, ap, _∙_}
 use mathlib.Core.Bool.{Bool, true, false}
-use mathlib.Core.List.{List, [], _∷_, _++_}
-use borrow.Author.Tests.{eqb-true, eqb-false, leb-false}
-use lib.Dec.{eqb, leb}
+use mathlib.Core.List.{List, _++_}
+use borrow.Author.Tests.{eqb-true, eqb-false}
+use lib.Dec.{eqb}
 use lib.ListN.{length, drop, List·getD-append, length-append}
 use lib.Seq.{drop-append-le}
-use Rattle.transaction.specs.declared.Transaction.{Transaction}
-use Rattle.reader.specs.declared.Record.{Record}
-use Rattle.reader.specs.declared.Answer.{Answer}
 use Rattle.reader.specs.declared.Answer.the-variants.{Refused}
 use Rattle.reader.specs.declared.Reading.{Reading}
 use Rattle.reader.specs.Layout.{byteAt, wordAt, bodyLength, inputAt, outputAt, inputsAt, outputsAt, transactionAt}
 use Rattle.reader.specs.Reading.{kindOf, headCause, readCause, recordAt, transactionIn, takenOf, readingOf, restOf}
-use Rattle.reader.proofs.Cases.{head-unknown, head-whole, by-kinds, reading-none, taken-record, length-1, length-2, length-3, cause-1, cause-2, cause-3}
+use Rattle.reader.proofs.Cases.{
+  head-unknown,
+  head-whole,
+  by-kinds,
+  reading-none,
+  taken-record,
+  cause-1,
+  cause-2,
+  cause-3,
+}
 use Rattle.model.specs.Steps.{Ledger}
-use Rattle.listing.specs.Listing.{shownAs, stepOf}
+use Rattle.listing.specs.Listing.{stepOf}
 
 -- no kind's body is longer
 body-most : (k : ℕ) → bodyLength k ≤ 101
@@ -36,12 +42,19 @@ module _ (l x : List ℕ) (long : 102 ≤ length l) where
 
   word : (k : ℕ) → k + 4 ≤ 102 → wordAt (l ++ x) k ≡ wordAt l k
   unfolding wordAt
-  word k h = rw (byte k (omega arith), byte (k + 1) (omega arith), byte (k + 2) (omega arith), byte (k + 3) (omega arith)) refl
+  word k h =
+      rw (byte k (omega arith), byte (k + 1) (omega arith), byte (k + 2) (omega arith), byte (k + 3) (omega arith)) refl
 
   input : (k : ℕ) → k + 14 ≤ 102 → inputAt (l ++ x) k ≡ inputAt l k
   unfolding inputAt
   input k h =
-      rw (byte k (omega arith), word (k + 1) (omega arith), byte (k + 5) (omega arith), word (k + 6) (omega arith), word (k + 10) (omega arith)) refl
+      rw (
+        byte k (omega arith),
+        word (k + 1) (omega arith),
+        byte (k + 5) (omega arith),
+        word (k + 6) (omega arith),
+        word (k + 10) (omega arith),
+      ) refl
 
   output : (k : ℕ) → k + 9 ≤ 102 → outputAt (l ++ x) k ≡ outputAt l k
   unfolding outputAt
@@ -49,16 +62,26 @@ module _ (l x : List ℕ) (long : 102 ≤ length l) where
 
   inputs : (k : ℕ) → k + 56 ≤ 102 → inputsAt (l ++ x) k ≡ inputsAt l k
   unfolding inputsAt
-  inputs k h = rw (input k (omega arith), input (k + 14) (omega arith), input (k + 28) (omega arith), input (k + 42) (omega arith)) refl
+  inputs k h =
+      rw (input k (omega arith), input (k + 14) (omega arith), input (k + 28) (omega arith), input (k + 42) (omega arith))
+      refl
 
   outputs : (k : ℕ) → k + 36 ≤ 102 → outputsAt (l ++ x) k ≡ outputsAt l k
   unfolding outputsAt
-  outputs k h = rw (output k (omega arith), output (k + 9) (omega arith), output (k + 18) (omega arith), output (k + 27) (omega arith)) refl
+  outputs k h =
+      rw (output k (omega arith), output (k + 9) (omega arith), output (k + 18) (omega arith), output (k + 27) (omega arith))
+      refl
 
   transaction : (k : ℕ) → k + 98 ≤ 102 → transactionAt (l ++ x) k ≡ transactionAt l k
   unfolding transactionAt
   transaction k h =
-      rw (word k (omega arith), byte (k + 4) (omega arith), byte (k + 5) (omega arith), inputs (k + 6) (omega arith), outputs (k + 62) (omega arith)) refl
+      rw (
+        word k (omega arith),
+        byte (k + 4) (omega arith),
+        byte (k + 5) (omega arith),
+        inputs (k + 6) (omega arith),
+        outputs (k + 62) (omega arith),
+      ) refl
 
   longer : 102 ≤ length (l ++ x)
   longer = omega (arith, length-append l x)
@@ -76,13 +99,15 @@ module _ (l x : List ℕ) (long : 102 ≤ length l) where
           ∙ head-unknown l (λ q. omega arith) refl z
       go false e =
           let z : bodyLength (kindOf l) ≡ 0 → ⊥ = eqb-false (bodyLength (kindOf l)) 0 e in
-          sym (head-whole (l ++ x) (λ q. omega (arith, longer)) (ap bodyLength (sym kind)) z (omega (arith, longer, body-most (kindOf l))))
+          sym
+          (head-whole (l ++ x) (λ q. omega (arith, longer)) (ap bodyLength (sym kind)) z (omega (arith, longer, body-most (kindOf l))))
           ∙ head-whole l (λ q. omega arith) refl z (omega (arith, body-most (kindOf l)))
 
   fields-same : recordAt (l ++ x) ≡ recordAt l
   unfolding recordAt
   fields-same =
-      rw (kind, byte 1 (omega arith), byte 2 (omega arith), byte 3 (omega arith), word 3 (omega arith), word 7 (omega arith)) refl
+      rw (kind, byte 1 (omega arith), byte 2 (omega arith), byte 3 (omega arith), word 3 (omega arith), word 7 (omega arith))
+      refl
 
   transaction-same : transactionIn (l ++ x) ≡ transactionIn l
   unfolding transactionIn
@@ -105,7 +130,8 @@ module _ (l x : List ℕ) (long : 102 ≤ length l) where
 
   -- the reading, but for the bytes taken
   abbrev Same : Type 0
-  Same = (readingOf (l ++ x) .answer ≡ readingOf l .answer) × (readingOf (l ++ x) .transaction ≡ readingOf l .transaction)
+  Same =
+      (readingOf (l ++ x) .answer ≡ readingOf l .answer) × (readingOf (l ++ x) .transaction ≡ readingOf l .transaction)
 
   same-reading : Same
   unfolding readingOf
@@ -118,8 +144,10 @@ module _ (l x : List ℕ) (long : 102 ≤ length l) where
       go false e =
           let n : headCause l ≡ 0 → ⊥ = eqb-false (headCause l) 0 e in
           let m : headCause (l ++ x) ≡ 0 → ⊥ = λ q. n (sym head-same ∙ q) in (
-            sym (ap (λ (r : Reading). r .answer) (reading-none (l ++ x) m)) ∙ ap Refused head-same ∙ ap (λ (r : Reading). r .answer) (reading-none l n),
-            sym (ap (λ (r : Reading). r .transaction) (reading-none (l ++ x) m)) ∙ ap (λ (r : Reading). r .transaction) (reading-none l n),
+            sym (ap (λ (r : Reading). r .answer) (reading-none (l ++ x) m)) ∙ ap Refused head-same
+                ∙ ap (λ (r : Reading). r .answer) (reading-none l n),
+            sym (ap (λ (r : Reading). r .transaction) (reading-none (l ++ x) m))
+                ∙ ap (λ (r : Reading). r .transaction) (reading-none l n),
           )
 
   pub same-step : (shards : List Ledger) (step : ℕ) → stepOf shards step (l ++ x) ≡ stepOf shards step l

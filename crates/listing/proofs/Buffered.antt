@@ -1,13 +1,14 @@
--- THE WHOLE TEXT, BUFFER BY BUFFER. Whoever hands any input to `list_records` part after part, with a cluster that `new` left, each time from the
--- place where the last part ended, with 102 bytes wanted while more input stands behind the part, prints what it stored, and prints the TOTAL line at the end,
--- has printed `listingOf` of the input, however the input was cut into parts. This is what the program does between its system calls.
+-- THE WHOLE TEXT, BUFFER BY BUFFER. Whoever hands any input to `list_records` part after part, with a cluster that
+-- `new` left, each time from the place where the last part ended, with 102 bytes wanted while more input stands behind
+-- the part, prints what it stored, and prints the TOTAL line at the end, has printed `listingOf` of the input, however
+-- the input was cut into parts. This is what the program does between its system calls.
 --
 -- The contracts are read off the functions, as in Whole.antt.
-use Prim.Native.Nat.{ℕ, zero, suc, _+_, _-_, _≤_, _<_}
+use Prim.Native.Nat.{ℕ, zero, suc, _+_, _-_, _≤_}
 use native.Mathlib.Omega.{arith}
-use mathlib.Core.Path.{_≡_, refl, sym, ap, _∙_, subst}
+use mathlib.Core.Path.{_≡_, refl, sym, ap, _∙_}
 use mathlib.Core.Bool.{Bool, true, false, cond}
-use mathlib.Core.List.{List, [], _∷_, _++_, append-assoc, append-nil}
+use mathlib.Core.List.{List, [], _++_, append-assoc, append-nil}
 use mathlib.Core.Logic.{_⊎_, inl, inr}
 use borrow.Author.Tests.{eqb-true, eqb-false, leb-false}
 use lib.Dec.{eqb, leb}
@@ -38,9 +39,10 @@ use Rattle.listing.proofs.list_records.Reads as of-records
 abbrev pub Fits : ℕ → List ℕ → Type 0
 Fits wanted rest = (102 ≤ wanted) ⊎ (rest ≡ [])
 
--- `list_records`, handed references to a cluster, to a part and to a buffer, a step and the bytes wanted, may have returned r and left the cluster and the
--- buffer as they are after
-pub record Listed (c : Cluster) (step : ℕ) (part : List ℕ) (wanted : ℕ) (lent : List ℕ) (r : Progress) (c′ : Cluster) (after : List ℕ) : Type 0 where
+-- `list_records`, handed references to a cluster, to a part and to a buffer, a step and the bytes wanted, may have
+-- returned r and left the cluster and the buffer as they are after
+pub record Listed (c : Cluster) (step : ℕ) (part : List ℕ) (wanted : ℕ) (lent : List ℕ) (r : Progress)
+    (c′ : Cluster) (after : List ℕ) : Type 0 where
   pub lifetimes : Lfts 3
   pub shards : Place
   pub from : Place
@@ -83,10 +85,12 @@ stood shards step l e = go (eqb (headCause l) 0) refl
     go false n =
         let none = reading-none l (eqb-false (headCause l) 0 n) in
         let answer = sym (ap (λ (r : Reading). r .answer) none) in
-        let ends : leb (headCause l) 2 ≡ false = sym (ap (λ (a : _). shownAs shards step a (readingOf l .transaction) .ends) answer) ∙ e in
+        let ends : leb (headCause l) 2 ≡ false =
+        sym (ap (λ (a : _). shownAs shards step a (readingOf l .transaction) .ends) answer) ∙ e in
         absurd (omega (arith, head-most l, leb-false (headCause l) 2 ends))
 
-module _ (wanted : ℕ) (part rest : List ℕ) (fits : Fits wanted rest) (enough : wanted ≤ length part) (shards : List Ledger) (step : ℕ) where
+module _ (wanted : ℕ) (part rest : List ℕ) (fits : Fits wanted rest) (enough : wanted ≤ length part)
+    (shards : List Ledger) (step : ℕ) where
   step-there : stepOf shards step (part ++ rest) ≡ stepOf shards step part
   step-there = go fits
     where
@@ -99,12 +103,16 @@ module _ (wanted : ℕ) (part rest : List ℕ) (fits : Fits wanted rest) (enough
     where
       go : Fits wanted rest → restOf (part ++ rest) ≡ restOf part ++ rest
       go (inl h) = same-rest part rest (omega arith) (stood shards step part e)
-      go (inr n) = ap restOf (ap (λ (x : List ℕ). part ++ x) n ∙ append-nil part) ∙ sym (ap (λ (x : List ℕ). restOf part ++ x) n ∙ append-nil (restOf part))
+      go (inr n) =
+          ap restOf (ap (λ (x : List ℕ). part ++ x) n ∙ append-nil part)
+          ∙ sym (ap (λ (x : List ℕ). restOf part ++ x) n ∙ append-nil (restOf part))
 
 -- ---- the text from where a listing stands: what was printed, and what is still to be
 
 abbrev ahead : ℕ → Standing → List ℕ → List ℕ
-ahead enough p rest = p .text ++ cond (p .ends) (totalLine (totalHeld (p .shards))) (listingWithin enough (p .shards) (p .step) (p .bytes ++ rest))
+ahead enough p rest =
+    p .text
+    ++ cond (p .ends) (totalLine (totalHeld (p .shards))) (listingWithin enough (p .shards) (p .step) (p .bytes ++ rest))
 
 record Stands (text : List ℕ) (p : Standing) (rest : List ℕ) : Type 0 where
   pub enough : ℕ
@@ -112,7 +120,8 @@ record Stands (text : List ℕ) (p : Standing) (rest : List ℕ) : Type 0 where
   pub same : text ≡ ahead enough p rest
 
 module _ (wanted room : ℕ) (rest : List ℕ) (fits : Fits wanted rest) where
-  turn : (text : List ℕ) (p : Standing) → Goes (p .ends) (length (p .bytes)) wanted (room - length (p .text)) (p .step) → Stands text p rest
+  turn : (text : List ℕ) (p : Standing)
+      → Goes (p .ends) (length (p .bytes)) wanted (room - length (p .text)) (p .step) → Stands text p rest
       → Stands text (further p) rest
   unfolding further
   turn text p t s = go (s .enough) (s .turns (t .on)) (s .same) (stepOf (p .shards) (p .step) (p .bytes) .ends) refl
@@ -131,17 +140,20 @@ module _ (wanted room : ℕ) (rest : List ℕ) (fits : Fits wanted rest) where
         turns = λ z. clash eb z;
         same =
             e ∙ rw (t .on)
-            (ap (λ (y : List ℕ). p .text ++ y) (reading-ends enough (p .shards) (p .step) (p .bytes ++ rest) all (ap (λ (y : Shown). y .ends) there ∙ eb))
+            (ap (λ (y : List ℕ). p .text ++ y)
+            (reading-ends enough (p .shards) (p .step) (p .bytes ++ rest) all (ap (λ (y : Shown). y .ends) there ∙ eb))
             ∙ rw (there, eb) (sym (append-assoc (p .text) _ _)));
       }
       go (suc enough) h e false eb =
-          let r : restOf (p .bytes ++ rest) ≡ restOf (p .bytes) ++ rest = rest-there wanted (p .bytes) rest fits (t .many) (p .shards) (p .step) eb in
+          let r : restOf (p .bytes ++ rest) ≡ restOf (p .bytes) ++ rest =
+          rest-there wanted (p .bytes) rest fits (t .many) (p .shards) (p .step) eb in
           record {
             enough = enough;
             turns = λ z. rw (← r) (fewer (p .bytes ++ rest) enough all h);
             same =
                 e ∙ rw (t .on)
-                (ap (λ (y : List ℕ). p .text ++ y) (reading-on enough (p .shards) (p .step) (p .bytes ++ rest) all (ap (λ (y : Shown). y .ends) there ∙ eb))
+                (ap (λ (y : List ℕ). p .text ++ y)
+                (reading-on enough (p .shards) (p .step) (p .bytes ++ rest) all (ap (λ (y : Shown). y .ends) there ∙ eb))
                 ∙ rw (there, eb, r) (sym (append-assoc (p .text) _ _)));
           }
 
@@ -150,40 +162,55 @@ module _ (wanted room : ℕ) (rest : List ℕ) (fits : Fits wanted rest) where
   run zero text p s = s
   run (suc n) text p s = go (goesOn wanted room p) refl (λ q. run n text (further p) q)
     where
-      go : (b : Bool) → goesOn wanted room p ≡ b → (Stands text (further p) rest → Stands text (runWithin n wanted room (further p)) rest)
+      go : (b : Bool) → goesOn wanted room p ≡ b
+          → (Stands text (further p) rest → Stands text (runWithin n wanted room (further p)) rest)
           → Stands text (runWithin (suc n) wanted room p) rest
-      go true e h = rw e (h (turn text p (told (p .ends) (length (p .bytes)) wanted (room - length (p .text)) (p .step) e) s))
+      go true e h =
+          rw e (h (turn text p (told (p .ends) (length (p .bytes)) wanted (room - length (p .text)) (p .step) e) s))
       go false e h = rw e s
 
 -- ---- the theorem
 
 -- what is printed of a buffer is the text
 text-of : {c c′ : Cluster} {step : ℕ} {part : List ℕ} {wanted : ℕ} {lent : List ℕ} {r : Progress} {after : List ℕ}
-    → ListsAll c step part wanted lent r c′ after → take (r .used) after ≡ runOf (view c) step part wanted (length lent) .text
+    → ListsAll c step part wanted lent r c′ after
+    → take (r .used) after ≡ runOf (view c) step part wanted (length lent) .text
 text-of {c} {c′} {step} {part} {wanted} {lent} {r} {after} s =
-    ap (take (r .used)) (s .text) ∙ take-at (runOf (view c) step part wanted (length lent) .text) (drop (r .used) lent) (r .used) (sym (s .used))
+    ap (take (r .used)) (s .text)
+    ∙ take-at (runOf (view c) step part wanted (length lent) .text) (drop (r .used) lent) (r .used) (sym (s .used))
 
-printed-parts : (enough : ℕ) {c : Cluster} {step : ℕ} {left text : List ℕ} → length left ≤ enough → Sound c → PrintsParts c step left text
+printed-parts : (enough : ℕ) {c : Cluster} {step : ℕ} {left text : List ℕ} → length left ≤ enough → Sound c
+    → PrintsParts c step left text
     → text ≡ listingWithin enough (view c) step left
-printed-parts enough {c} {step} {left} h sound (finished e t) = shown (t .kept sound) ∙ sym (nothing-left enough (view c) step left e)
-printed-parts enough {c} {step} h sound (ended {wanted = wanted} {part = part} {rest = rest} {lent = lent} {r = r} fits s e t) =
+printed-parts enough {c} {step} {left} h sound (finished e t) =
+    shown (t .kept sound) ∙ sym (nothing-left enough (view c) step left e)
+printed-parts enough {c} {step} h sound
+    (ended {wanted = wanted} {part = part} {rest = rest} {lent = lent} {r = r} fits s e t) =
     let l = s .kept sound in
-    let q = run wanted (length lent) rest fits (length part) (listingWithin enough (view c) step (part ++ rest)) (start (view c) step part)
+    let text = listingWithin enough (view c) step (part ++ rest) in
+    let q =
+    run wanted (length lent) rest fits (length part) text (start (view c) step part)
     (record { enough = enough; turns = λ z. h; same = refl }) in
     joined (text-of l) (shown (t .kept (l .sound)) ∙ ap (λ (x : List Ledger). totalLine (totalHeld x)) (l .ledgers))
     ∙ sym (q .same ∙ rw (sym (l .ends) ∙ e) refl)
-printed-parts enough {c} {step} h sound (onward {wanted = wanted} {part = part} {rest = rest} {lent = lent} {r = r} fits s e p) =
+printed-parts enough {c} {step} h sound
+    (onward {wanted = wanted} {part = part} {rest = rest} {lent = lent} {r = r} fits s e p) =
     let l = s .kept sound in
-    let q = run wanted (length lent) rest fits (length part) (listingWithin enough (view c) step (part ++ rest)) (start (view c) step part)
+    let text = listingWithin enough (view c) step (part ++ rest) in
+    let q =
+    run wanted (length lent) rest fits (length part) text (start (view c) step part)
     (record { enough = enough; turns = λ z. h; same = refl }) in
     let p′ = runOf (view c) step part wanted (length lent) in
     joined {d = listingWithin (q .enough) (p′ .shards) (p′ .step) (p′ .bytes ++ rest)} (text-of l)
-    (printed-parts (q .enough) (rw (l .rest) (q .turns (sym (l .ends) ∙ e))) (l .sound) p ∙ rw (l .ledgers, l .number, l .rest) refl)
+    (printed-parts (q .enough) (rw (l .rest) (q .turns (sym (l .ends) ∙ e))) (l .sound) p
+    ∙ rw (l .ledgers, l .number, l .rest) refl)
     ∙ sym (q .same ∙ rw (sym (l .ends) ∙ e) refl)
 
 -- THEOREM
-pub whole-listing-by-parts : {c : Cluster} {input text : List ℕ} → Starts c → PrintsParts c 1 input text → text ≡ listingOf input
+pub whole-listing-by-parts : {c : Cluster} {input text : List ℕ} → Starts c → PrintsParts c 1 input text
+    → text ≡ listingOf input
 unfolding listingOf
 whole-listing-by-parts {c} {input} starts p =
     let fresh = started starts in
-    printed-parts (length input) (omega arith) (fresh .sound) p ∙ ap (λ (x : List Ledger). listingWithin (length input) x 1 input) (fresh .empty)
+    printed-parts (length input) (omega arith) (fresh .sound) p
+    ∙ ap (λ (x : List Ledger). listingWithin (length input) x 1 input) (fresh .empty)

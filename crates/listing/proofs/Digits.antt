@@ -21,7 +21,8 @@ some zero = omega arith
 some (suc k) = omega (arith, pow-suc 10 k, some k)
 
 -- k + 1 digits, the first of them not 0
-digits-decimal : (k enough n : ℕ) → n < 10 ^ suc k → (1 ≤ k → 10 ^ k ≤ n) → n < enough → digits 10 (suc k) n ≡ decimalWithin enough n
+digits-decimal : (k enough n : ℕ) → n < 10 ^ suc k → (1 ≤ k → 10 ^ k ≤ n) → n < enough
+    → digits 10 (suc k) n ≡ decimalWithin enough n
 unfolding decimalWithin
 digits-decimal k zero n below first h = absurd (omega arith)
 digits-decimal zero (suc enough) n below first h =
@@ -62,9 +63,11 @@ short-within k zero n below = omega arith
 short-within zero (suc enough) n below =
     let one : n < 10 = omega (arith, below) in
     rw (lt-ltb n 10 one) (omega arith)
-short-within (suc j) (suc enough) n below = go (ltb n 10) refl (short-within j enough (n / 10) (omega (arith, pow-suc 10 (suc j))))
+short-within (suc j) (suc enough) n below =
+    go (ltb n 10) refl (short-within j enough (n / 10) (omega (arith, pow-suc 10 (suc j))))
   where
-    go : (b : Bool) → ltb n 10 ≡ b → length (decimalWithin enough (n / 10)) ≤ suc j → length (decimalWithin (suc enough) n) ≤ suc (suc j)
+    go : (b : Bool) → ltb n 10 ≡ b → length (decimalWithin enough (n / 10)) ≤ suc j
+        → length (decimalWithin (suc enough) n) ≤ suc (suc j)
     go true e h = rw e (omega arith)
     go false e h = rw (e, length-append) (omega arith)
 

@@ -38,12 +38,14 @@ nothing-left (suc enough) shards step bytes e = rw (eq-eqb (length bytes) 0 e) r
 
 module _ (enough : ℕ) (shards : List Ledger) (step : ℕ) (bytes : List ℕ) (some : length bytes ≡ 0 → ⊥) where
   pub reading-ends : stepOf shards step bytes .ends ≡ true
-      → listingWithin (suc enough) shards step bytes ≡ stepOf shards step bytes .line ++ totalLine (totalHeld (stepOf shards step bytes .shards))
+      → listingWithin (suc enough) shards step bytes
+      ≡ stepOf shards step bytes .line ++ totalLine (totalHeld (stepOf shards step bytes .shards))
   unfolding listingWithin
   reading-ends e = rw (ne-eqb (length bytes) 0 some, e) refl
 
   pub reading-on : stepOf shards step bytes .ends ≡ false
       → listingWithin (suc enough) shards step bytes
-      ≡ stepOf shards step bytes .line ++ listingWithin enough (stepOf shards step bytes .shards) (step + 1) (restOf bytes)
+      ≡ stepOf shards step bytes .line
+      ++ listingWithin enough (stepOf shards step bytes .shards) (step + 1) (restOf bytes)
   unfolding listingWithin
   reading-on e = rw (ne-eqb (length bytes) 0 some, e) refl

@@ -13,7 +13,6 @@ use Rattle.reader.specs.Reading.{takenOf, restOf}
 use Rattle.model.proofs.Basics.{both}
 use Rattle.cluster.specs.View.{view, Sound}
 use Rattle.listing.specs.declared.Listed.{Listed}
-use Rattle.listing.specs.declared.Progress.{Progress}
 use Rattle.listing.specs.Parts.{Puts}
 use Rattle.listing.specs.Listing.{stepOf, Lists}
 use Rattle.listing.specs.Buffers.{Standing, further, going, goesOn, runWithin, runOf, ListsAll}
@@ -26,7 +25,8 @@ standing c step bytes text ends = record { shards = view c; step = step; bytes =
 
 -- running on from here gives the whole
 pub record Reached
-    (bytes lent : List ℕ) (wanted : ℕ) (whole : Standing) (c : List (List ℕ)) (out : List ℕ) (n at used : ℕ) (ends : Bool) : Type 0 where
+    (bytes lent : List ℕ) (wanted : ℕ) (whole : Standing) (c : List (List ℕ)) (out : List ℕ) (n at used : ℕ)
+    (ends : Bool) : Type 0 where
   pub text : List ℕ
   pub enough : ℕ
   pub runs : runWithin enough wanted (length lent) (standing c n (drop at bytes) text ends) ≡ whole
@@ -55,7 +55,8 @@ pub record Goes (ends : Bool) (left wanted room step : ℕ) : Type 0 where
   pub line : 64 ≤ room
   pub number : step < 18446744073709551615
 
-pub told : (ends : Bool) (left wanted room step : ℕ) → going ends left wanted room step ≡ true → Goes ends left wanted room step
+pub told : (ends : Bool) (left wanted room step : ℕ) → going ends left wanted room step ≡ true
+    → Goes ends left wanted room step
 told ends left wanted room step e =
     let a = both (not ends && ltb 0 left && leb wanted left && leb 64 room) (ltb step 18446744073709551615) e in
     let b = both (not ends && ltb 0 left && leb wanted left) (leb 64 room) (a .0) in
@@ -69,7 +70,8 @@ told ends left wanted room step e =
       number = ltb-true step 18446744073709551615 (a .1);
     }
 
-module _ {bytes lent : List ℕ} {wanted : ℕ} {whole : Standing} {c : List (List ℕ)} {out : List ℕ} {n at used : ℕ} {ends : Bool}
+module _ {bytes lent : List ℕ} {wanted : ℕ} {whole : Standing} {c : List (List ℕ)} {out : List ℕ} {n at used : ℕ}
+    {ends : Bool}
     (r : Reached bytes lent wanted whole c out n at used ends) where
   -- the bytes printed to are as many as were lent
   pub long : length out ≡ length lent
@@ -87,16 +89,20 @@ module _ {bytes lent : List ℕ} {wanted : ℕ} {whole : Standing} {c : List (Li
     tested = test ∙ rw (long, r .printed .behind, zero-add (length (r .text)), length-drop at bytes) refl
 
     -- after the last turn
-    stopped : (enough : ℕ) → goesOn wanted (length lent) here ≡ false → runWithin enough wanted (length lent) here ≡ here
+    stopped : (enough : ℕ) → goesOn wanted (length lent) here ≡ false
+        → runWithin enough wanted (length lent) here ≡ here
     unfolding runWithin
     stopped zero e = refl
     stopped (suc enough) e = rw e refl
 
-    pub reached-end : (before : List (List ℕ)) (step : ℕ) → whole ≡ runOf (view before) step bytes wanted (length lent) → b ≡ false
+    pub reached-end : (before : List (List ℕ)) (step : ℕ)
+        → whole ≡ runOf (view before) step bytes wanted (length lent) → b ≡ false
         → ListsAll before step bytes wanted lent (record { number = n; taken = at; used = used; ends = ends }) c out
     reached-end before step w e =
-        let is : here ≡ runOf (view before) step bytes wanted (length lent) = sym (stopped (r .enough) (sym tested ∙ e)) ∙ r .runs ∙ w in
-        let text : r .text ≡ runOf (view before) step bytes wanted (length lent) .text = ap (λ (p : Standing). p .text) is in
+        let is : here ≡ runOf (view before) step bytes wanted (length lent) =
+        sym (stopped (r .enough) (sym tested ∙ e)) ∙ r .runs ∙ w in
+        let text : r .text ≡ runOf (view before) step bytes wanted (length lent) .text =
+        ap (λ (p : Standing). p .text) is in
         let size : used ≡ length (r .text) = r .printed .behind ∙ zero-add (length (r .text)) in
         record {
           text =
@@ -117,7 +123,8 @@ module _ {bytes lent : List ℕ} {wanted : ℕ} {whole : Standing} {c : List (Li
       goes-told = told ends (length bytes - at) wanted (length out - used) n (sym test ∙ goes)
 
       -- the part from a place on, which is handed to the step, is all that is behind it
-      module _ {x : Listed} {c′ : List (List ℕ)} {out′ : List ℕ} (part : Lists c n (take (length bytes - at) (drop at bytes)) out used x c′ out′) where
+      module _ {x : Listed} {c′ : List (List ℕ)} {out′ : List ℕ}
+          (part : Lists c n (take (length bytes - at) (drop at bytes)) out used x c′ out′) where
         s : Lists c n (drop at bytes) out used x c′ out′
         s =
             subst (λ (l : List ℕ). Lists c n l out used x c′ out′)
@@ -129,7 +136,8 @@ module _ {bytes lent : List ℕ} {wanted : ℕ} {whole : Standing} {c : List (Li
         taken-part = omega (arith, s .part, length-drop at bytes, r .part)
 
         pub taken-one : at < at + x .taken
-        taken-one = omega (arith, s .taken, taken-some (drop at bytes) (λ z. absurd (omega (arith, z, length-drop at bytes, goes-told .some))))
+        taken-one =
+            omega (arith, s .taken, taken-some (drop at bytes) (λ z. absurd (omega (arith, z, length-drop at bytes, goes-told .some))))
 
         pub reached-next : Reached bytes lent wanted whole c′ out′ (n + 1) (at + x .taken) (x .at) (x .ends)
         unfolding restOf further runWithin

@@ -1,11 +1,10 @@
 -- One step: a record that was read, and one that was refused.
-use Prim.Native.Nat.{ℕ, _≤_}
+use Prim.Native.Nat.{ℕ}
 use native.Mathlib.Omega.{arith}
 use mathlib.Core.Path.{_≡_, refl, sym, ap, _∙_, subst}
-use mathlib.Core.Bool.{Bool, true, false}
+use mathlib.Core.Bool.{Bool, false}
 use mathlib.Core.List.{List, [], _∷_}
 use lib.Dec.{leb}
-use lib.ListN.{length}
 use Rattle.reader.specs.declared.Record.{Record}
 use Rattle.reader.specs.declared.Answer.the-variants.{Read, Refused}
 use Rattle.reader.specs.declared.Reading.{Reading}
@@ -33,7 +32,8 @@ module _ (before : List (List ℕ)) (step : ℕ) (l lent : List ℕ) (at : ℕ) 
   taken-of = ap (λ (x : Reading). x .taken) (reads .whole)
 
   -- refused by the reader
-  pub refused : {number cause behind : ℕ} {out : List ℕ} → Sound before → r .answer ≡ Refused number → cause ≡ numberOf (r .answer)
+  pub refused : {number cause behind : ℕ} {out : List ℕ} → Sound before → r .answer ≡ Refused number
+      → cause ≡ numberOf (r .answer)
       → Puts lent at (lineOf step (45 ∷ []) (answer.Refused cause)) 64 out behind
       → Lists before step l lent at (record { at = behind; taken = r .taken; ends = leb cause 2 }) before out
   unfolding stepOf shownAs
@@ -60,7 +60,8 @@ module _ (before : List (List ℕ)) (step : ℕ) (l lent : List ℕ) (at : ℕ) 
   unfolding stepOf shownAs
   carried {fields} {reply} {after} {hidden} {receiver} {behind} {out} e k h p s =
       let done = clusterStep house (view before) (callOf fields (r .transaction)) in
-      let is : stepOf (view before) step l ≡ shownCall step (receiverOf fields) done = rw (answer-of ∙ e, transaction-of) refl in
+      let is : stepOf (view before) step l ≡ shownCall step (receiverOf fields) done =
+      rw (answer-of ∙ e, transaction-of) refl in
       let line : lineOf step (placeWord hidden receiver) reply ≡ stepOf (view before) step l .line =
       rw (h, p, k .answered) (sym (ap (λ (x : Shown). x .line) is)) in
       record {

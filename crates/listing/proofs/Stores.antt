@@ -19,13 +19,16 @@ sets-append l i [] ys = rw add-zero
 sets-append l i (x ∷ xs) ys = rw (add-suc, ← suc-add) (sets-append _ _ xs ys)
 
 -- a text byte by byte
-pub text-next : (l : List ℕ) (at : ℕ) (text : List ℕ) (i : ℕ) {m : List ℕ} → i < length text → m ≡ sets l at (take i text)
+pub text-next : (l : List ℕ) (at : ℕ) (text : List ℕ) (i : ℕ) {m : List ℕ} → i < length text
+    → m ≡ sets l at (take i text)
     → set m (at + i) (getD text i 0) ≡ sets l at (take (i + 1) text)
 text-next l at text i {m} h e =
     ap (λ (z : List ℕ). set z (at + i) (getD text i 0)) e
-    ∙ sym (rw (add-one, take-suc text i 0 h, sets-append l at (take i text) (getD text i 0 ∷ []), length-take-le i text (omega arith)) refl)
+    ∙ sym
+    (rw (add-one, take-suc text i 0 h, sets-append l at (take i text) (getD text i 0 ∷ []), length-take-le i text (omega arith)) refl)
 
-pub text-end : (l : List ℕ) (at : ℕ) (text : List ℕ) {i : ℕ} {m : List ℕ} → i ≤ length text → length text ≤ i → m ≡ sets l at (take i text)
+pub text-end : (l : List ℕ) (at : ℕ) (text : List ℕ) {i : ℕ} {m : List ℕ} → i ≤ length text → length text ≤ i
+    → m ≡ sets l at (take i text)
     → Puts l at text (length text) m (at + i)
 text-end l at text {i} h k e = record {
   stored = e ∙ ap (sets l at) (take-all i text k);
@@ -60,7 +63,8 @@ module _ {b a : List ℕ} {at j : ℕ} {u : List ℕ} {p : ℕ} where
   pub wider : (q : ℕ) → Puts b at u p a j → p ≤ q → Puts b at u q a j
   wider q x h = bounded q x (omega (arith, x .within))
 
-  pub spelt : (n k : ℕ) → Puts b at u p a j → u ≡ digits 10 k n → Fewest 10 1 n k → p ≤ 20 → Puts b at (decimal n) 20 a j
+  pub spelt : (n k : ℕ) → Puts b at u p a j → u ≡ digits 10 k n → Fewest 10 1 n k → p ≤ 20
+      → Puts b at (decimal n) 20 a j
   spelt n k x e f h =
       let w : u ≡ decimal n = e ∙ spelled k n f in
       record {
@@ -70,7 +74,8 @@ module _ {b a : List ℕ} {at j : ℕ} {u : List ℕ} {p : ℕ} where
       }
 
 -- a number of 8 bits
-pub small : {b a : List ℕ} {at j : ℕ} (n : ℕ) {p : ℕ} → n < 256 → Puts b at (32 ∷ decimal n) p a j → Puts b at (32 ∷ decimal n) 4 a j
+pub small : {b a : List ℕ} {at j : ℕ} (n : ℕ) {p : ℕ} → n < 256 → Puts b at (32 ∷ decimal n) p a j
+    → Puts b at (32 ∷ decimal n) 4 a j
 small n h x = bounded 4 x (omega (arith, x .behind, short n h))
 
 -- as many bytes as before
@@ -78,7 +83,8 @@ pub same-room : {b m : List ℕ} {at i : ℕ} {u : List ℕ} {p : ℕ} → Puts 
 same-room {b} {m} {at} {i} {u} x = ap length (x .stored) ∙ length-sets b at u
 
 -- two words
-pub two : {b m a : List ℕ} {at i j : ℕ} (u v : List ℕ) {p q : ℕ} (most : ℕ) → p + q ≤ most → Puts b at (32 ∷ u) p m i → Puts m i (32 ∷ v) q a j
+pub two : {b m a : List ℕ} {at i j : ℕ} (u v : List ℕ) {p q : ℕ} (most : ℕ) → p + q ≤ most
+    → Puts b at (32 ∷ u) p m i → Puts m i (32 ∷ v) q a j
     → Puts b at (spaced (u ∷ v ∷ [])) most a j
 two u v most h x y = rw (append-nil (32 ∷ v)) (wider most (then x y) h)
 
@@ -104,7 +110,8 @@ unfolding totalLine
 total-run amount x y z = rw (append-nil (decimal amount)) (wider 64 (then (then x y) z) (omega arith))
 
 -- a line that was stored from the front, of the amount that was found
-pub total-shown : {l a : List ℕ} {j amount held : ℕ} → length l ≡ 64 → amount ≡ held → Puts l 0 (totalLine amount) 64 a j → Shows (totalLine held) l a j
+pub total-shown : {l a : List ℕ} {j amount held : ℕ} → length l ≡ 64 → amount ≡ held
+    → Puts l 0 (totalLine amount) 64 a j → Shows (totalLine held) l a j
 total-shown {l} {a} {j} {amount} long e x =
     subst (λ (n : ℕ). Shows (totalLine n) l a j) e (record {
       text = x .stored ∙ sets-eq (totalLine amount) l 0 (omega (arith, x .behind, x .within)) ∙ rw (zero-add) refl;

@@ -11,7 +11,8 @@ use Rattle.cluster.specs.View.{view, Sound}
 use Rattle.listing.specs.Listing.{stepOf}
 use Rattle.listing.specs.declared.Progress.{Progress}
 
--- where a listing stands: the ledgers, the number of the next step, the bytes left, the text so far, and whether reading has ended
+-- where a listing stands: the ledgers, the number of the next step, the bytes left, the text so far, and whether
+-- reading has ended
 pub record Standing : Type 0 where
   pub shards : List Ledger
   pub step : ℕ
@@ -30,9 +31,11 @@ further p =
       ends = stepOf (p .shards) (p .step) (p .bytes) .ends;
     }
 
--- reading has not ended, as many bytes as are wanted are left, and one at least, a line has room, and the step has a number of 64 bits
+-- reading has not ended, as many bytes as are wanted are left, and one at least, a line has room, and the step has a
+-- number of 64 bits
 abbrev pub going : Bool → ℕ → ℕ → ℕ → ℕ → Bool
-going ends left wanted room step = not ends && ltb 0 left && leb wanted left && leb 64 room && ltb step 18446744073709551615
+going ends left wanted room step =
+    not ends && ltb 0 left && leb wanted left && leb 64 room && ltb step 18446744073709551615
 
 abbrev pub goesOn : ℕ → ℕ → Standing → Bool
 goesOn wanted room p = going (p .ends) (length (p .bytes)) wanted (room - length (p .text)) (p .step)
@@ -48,9 +51,11 @@ start shards step bytes = record { shards = shards; step = step; bytes = bytes; 
 abbrev pub runOf : List Ledger → ℕ → List ℕ → ℕ → ℕ → Standing
 runOf shards step bytes wanted room = runWithin (length bytes) wanted room (start shards step bytes)
 
--- the text stands at the front of the lent bytes, those behind it are as they were, and everything else is where the listing then stands
+-- the text stands at the front of the lent bytes, those behind it are as they were, and everything else is where the
+-- listing then stands
 pub record ListsAll
-    (before : List (List ℕ)) (step : ℕ) (bytes : List ℕ) (wanted : ℕ) (lent : List ℕ) (r : Progress) (after : List (List ℕ)) (out : List ℕ) : Type 0 where
+    (before : List (List ℕ)) (step : ℕ) (bytes : List ℕ) (wanted : ℕ) (lent : List ℕ) (r : Progress)
+    (after : List (List ℕ)) (out : List ℕ) : Type 0 where
   pub text : out ≡ runOf (view before) step bytes wanted (length lent) .text ++ drop (r .used) lent
   pub used : r .used ≡ length (runOf (view before) step bytes wanted (length lent) .text)
   pub room : r .used ≤ length lent

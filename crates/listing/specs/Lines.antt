@@ -1,4 +1,5 @@
--- Document 01, 'The listing program': the bytes of a line. A line is its step, its shard (pantry) and its words, one space apart, ended by byte 10.
+-- Document 01, 'The listing program': the bytes of a line. A line is its step, its shard (pantry) and its words, one
+-- space apart, ended by byte 10.
 use Prim.Native.Nat.{ℕ, zero, suc, _+_, _/_, _%_}
 use mathlib.Core.Bool.{Bool, false, cond}
 use mathlib.Core.List.{List, [], _∷_, _++_}
@@ -7,7 +8,8 @@ use Rattle.model.specs.declared.Answer.{Answer}
 use Rattle.model.specs.declared.Answer.the-variants.{Refused, Minted, Registered, Heard, Again}
 use Rattle.model.specs.Answers.{answerWords}
 
--- a number in decimal without leading zeros; `enough` bounds the count of digits, and a number has no more digits than one more than itself
+-- a number in decimal without leading zeros; `enough` bounds the count of digits, and a number has no more digits than
+-- one more than itself
 unfoldable pub decimalWithin : ℕ → ℕ → List ℕ
 decimalWithin zero n = []
 decimalWithin (suc enough) n = cond (ltb n 10) ((48 + n) ∷ []) (decimalWithin enough (n / 10) ++ ((48 + n % 10) ∷ []))

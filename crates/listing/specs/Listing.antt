@@ -44,7 +44,8 @@ shownCall step receiver done = record { line = answerLine step receiver (done .1
 
 -- one that was refused costs its line, with "-"; after 1 or 2 nothing more is read
 unfoldable pub shownAs : List Ledger → ℕ → reader.Answer → Transaction → Shown
-shownAs shards step (reader-answer.Read fields) t = shownCall step (receiverOf fields) (clusterStep house shards (callOf fields t))
+shownAs shards step (reader-answer.Read fields) t =
+    shownCall step (receiverOf fields) (clusterStep house shards (callOf fields t))
 shownAs shards step (reader-answer.Refused number) t =
     record { line = lineOf step (45 ∷ []) (Refused number); shards = shards; ends = leb number 2 }
 
@@ -68,7 +69,8 @@ unfoldable pub listingOf : List ℕ → List ℕ
 listingOf bytes = listingWithin (length bytes) (emptyShards house) 1 bytes
 
 -- what a step promises: the line, the bytes taken, the ledgers afterwards and whether reading ends are the definition's
-pub record Lists (before : List (List ℕ)) (step : ℕ) (bytes lent : List ℕ) (at : ℕ) (r : Listed) (after : List (List ℕ)) (out : List ℕ) : Type 0 where
+pub record Lists (before : List (List ℕ)) (step : ℕ) (bytes lent : List ℕ) (at : ℕ) (r : Listed)
+    (after : List (List ℕ)) (out : List ℕ) : Type 0 where
   pub shows : Puts lent at (stepOf (view before) step bytes .line) 64 out (r .at)
   pub taken : r .taken ≡ takenOf bytes
   pub part : r .taken ≤ length bytes

@@ -1,5 +1,6 @@
--- Document 01, 'The listing program', beside 'Any list of calls': which calls the bytes hold, and the lines that the model's answers to them give.
--- The theorem `listing-plays` (proofs/Play.antt) says that the whole text is made of these.
+-- Document 01, 'The listing program', beside 'Any list of calls': which calls the bytes hold, and the lines that the
+-- model's answers to them give. The theorem `listing-plays` (proofs/Play.antt) says that the whole text is made of
+-- these.
 use Prim.Native.Nat.{ℕ, zero, suc, _+_}
 use mathlib.Core.Bool.{Bool, false, cond}
 use mathlib.Core.List.{List, [], _∷_, _++_}
@@ -34,7 +35,8 @@ endsReading (asked receiver call) = false
 unfoldable pub itemAt : List ℕ → Item
 itemAt bytes = itemOf (readingOf bytes .answer) (readingOf bytes .transaction)
 
--- the items of the bytes, each from the place where the one before it ended; each takes at least one byte, so that as many turns as bytes are enough
+-- the items of the bytes, each from the place where the one before it ended; each takes at least one byte, so that as
+-- many turns as bytes are enough
 unfoldable pub itemsWithin : ℕ → List ℕ → List Item
 itemsWithin zero bytes = []
 itemsWithin (suc enough) bytes =
@@ -51,9 +53,12 @@ callsOf [] = []
 callsOf (refusal number ∷ items) = callsOf items
 callsOf (asked receiver call ∷ items) = call ∷ callsOf items
 
--- A line for each item, from a step on: a refusal's with "-", and a call's with the next of the answers, of which there are as many as calls.
+-- A line for each item, from a step on: a refusal's with "-", and a call's with the next of the answers, of which there
+-- are as many as calls.
 abbrev pub linesOf : ℕ → List Item → List Answer → List ℕ
 linesOf step [] answers = []
-linesOf step (refusal number ∷ items) answers = lineOf step (45 ∷ []) (Refused number) ++ linesOf (step + 1) items answers
+linesOf step (refusal number ∷ items) answers =
+    lineOf step (45 ∷ []) (Refused number) ++ linesOf (step + 1) items answers
 linesOf step (asked receiver call ∷ items) [] = []
-linesOf step (asked receiver call ∷ items) (answer ∷ answers) = answerLine step receiver answer ++ linesOf (step + 1) items answers
+linesOf step (asked receiver call ∷ items) (answer ∷ answers) =
+    answerLine step receiver answer ++ linesOf (step + 1) items answers

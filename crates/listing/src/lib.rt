@@ -74,11 +74,12 @@ fn is_unplaced(answer: Answer) -> bool
     }
 }
 
-// The record at the front of the bytes: its call, made on the lent cluster, and its line, stored from a place on. Whoever calls it sees to the
-// room for a line, as `list_records` does.
+// The record at the front of the bytes: its call, made on the lent cluster, and its line, stored from a place on.
+// Whoever calls it sees to the room for a line, as `list_records` does.
 pub(crate) fn step(c: &mut Cluster, number: u64, bytes: &[u8], out: &mut [u8], at: usize) -> Listed
     requires { ⌜ Sound (now c) × (at + 64 ≤ length (now out)) ⌝ }
-    ensures { λ r. ⌜ Lists (now (c .entry)) number (now (bytes .entry)) (now (out .entry)) at r (now (c .exit)) (now (out .exit)) ⌝ }
+    ensures { λ r. ⌜ Lists (now (c .entry)) number (now (bytes .entry)) (now (out .entry)) at r
+        (now (c .exit)) (now (out .exit)) ⌝ }
 {
     let r = reader::read(bytes);
     let answer = r.answer;
@@ -109,14 +110,16 @@ pub(crate) fn step(c: &mut Cluster, number: u64, bytes: &[u8], out: &mut [u8], a
     }
 }
 
-// Reading has not ended, as many bytes as are wanted are left, and one at least, a line has room, and the step has a number of 64 bits.
+// Reading has not ended, as many bytes as are wanted are left, and one at least, a line has room, and the step has a
+// number of 64 bits.
 fn goes_on(ends: bool, left: usize, wanted: usize, room: usize, number: u64) -> bool
     ensures { λ r. ⌜ r ≡ going ends left wanted room number ⌝ }
 {
     !ends & (0 < left) & (wanted <= left) & (64 <= room) & (number < 18446744073709551615)
 }
 
-// Record after record from the front of the bytes, line behind line from the front of the lent bytes. Fewer bytes than are wanted may be a part of a record.
+// Record after record from the front of the bytes, line behind line from the front of the lent bytes. Fewer bytes than
+// are wanted may be a part of a record.
 pub fn list_records(
     c: &mut Cluster,
     number: u64,
@@ -125,7 +128,8 @@ pub fn list_records(
     out: &mut [u8],
 ) -> Progress
     requires { ⌜ Sound (now c) ⌝ }
-    ensures { λ r. ⌜ ListsAll (now (c .entry)) number (now (bytes .entry)) wanted (now (out .entry)) r (now (c .exit)) (now (out .exit)) ⌝ }
+    ensures { λ r. ⌜ ListsAll (now (c .entry)) number (now (bytes .entry)) wanted (now (out .entry)) r
+        (now (c .exit)) (now (out .exit)) ⌝ }
 {
     let mut n = number;
     let mut at: usize = 0;

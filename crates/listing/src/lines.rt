@@ -1,4 +1,5 @@
-// Whole lines, stored into lent bytes from a place on. Internal: a caller sees that 64 bytes have room there, which no line fills.
+// Whole lines, stored into lent bytes from a place on. Internal: a caller sees that 64 bytes have room there, which no
+// line fills.
 ghost use Prim.Native.Nat.{_+_, _≤_};
 ghost use lib.ListN.{length};
 ghost use Rattle.listing.specs.Lines.{placeWord, lineOf, totalLine};

@@ -20,9 +20,8 @@ enum-told-4 c = search needs
 
 returns : tie.Need-returns
 returns c =
-    let after-answer : tie.After-answer = search in
-    let answer = after-answer .answer in
-    rw (answer .given .1) refl
+    let answered : tie.After-answer = search in
+    rw (answered .answer .given .1) refl
 
 returns-2 : tie.Need-returns-2
 returns-2 c = search needs

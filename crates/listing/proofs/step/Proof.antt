@@ -1,4 +1,3 @@
-use denote.Ref.{now}
 use Rattle.listing.proofs.Steps.{refused, carried}
 use borrow.Author.Needs.{needs}
 use Rattle.listing.proofs.step.Statement.{statement}
@@ -24,19 +23,15 @@ same-length c = search needs
 
 returns : tie.Need-returns
 returns c =
-    let after-put-line : tie.After-put-line = search in
-    let after-cause-of : tie.After-cause-of = search in
-    let after-enum-told : tie.After-enum-told = search in
-    let after-read : tie.After-read = search in
+    let line : tie.After-put-line = search in
+    let found : tie.After-cause-of = search in
+    let told : tie.After-enum-told = search in
+    let read : tie.After-read = search in
     let entry : tie.Start = search in
-    let args = entry .args in
-    let read = after-read .read in
-    let pre = entry .pre in
-    let enum-told = after-enum-told .enum-told in
-    let cause-of = after-cause-of .cause-of in
-    let put-line = after-put-line .put-line in
-    refused (now (args .c)) (args .number) (now (args .bytes)) (now (args .out)) (args .at) (read .ensures) (pre .0) (enum-told .given .1)
-    (cause-of .ensures) (put-line .ensures)
+    refused _ _ _ _ _ (read .read .ensures) (entry .pre .0)
+    (told .enum-told .given .1)
+    (found .cause-of .ensures)
+    (line .put-line .ensures)
 
 call-requires : tie.Need-call-requires
 call-requires c κs = search needs
@@ -55,22 +50,18 @@ same-length-2 c = search needs
 
 returns-2 : tie.Need-returns-2
 returns-2 c =
-    let after-put-line2 : tie.After-put-line2 = search in
-    let after-receiver-of : tie.After-receiver-of = search in
-    let after-is-unplaced : tie.After-is-unplaced = search in
-    let after-call : tie.After-call = search in
-    let after-answer : tie.After-answer = search in
-    let after-read : tie.After-read = search in
-    let entry : tie.Start = search in
-    let args = entry .args in
-    let read = after-read .read in
-    let answer = after-answer .answer in
-    let call = after-call .call in
-    let is-unplaced = after-is-unplaced .is-unplaced in
-    let receiver-of = after-receiver-of .receiver-of in
-    let put-line2 = after-put-line2 .put-line2 in
-    carried (now (args .c)) (args .number) (now (args .bytes)) (now (args .out)) (args .at) (read .ensures) (answer .given .1) (call .ensures)
-    (is-unplaced .ensures) (receiver-of .ensures) (put-line2 .ensures)
+    let line : tie.After-put-line2 = search in
+    let receiver : tie.After-receiver-of = search in
+    let hidden : tie.After-is-unplaced = search in
+    let called : tie.After-call = search in
+    let answered : tie.After-answer = search in
+    let read : tie.After-read = search in
+    carried _ _ _ _ _ (read .read .ensures)
+    (answered .answer .given .1)
+    (called .call .ensures)
+    (hidden .is-unplaced .ensures)
+    (receiver .receiver-of .ensures)
+    (line .put-line2 .ensures)
 
 pub step-spec : {M : Type 1} → statement M
 step-spec =

@@ -11,10 +11,8 @@ put-total-requires c κs = search needs
 
 returns : tie.Need-returns
 returns c =
-    let after-total-amount : tie.After-total-amount = search in
-    let total-amount = after-total-amount .total-amount in
-    let put-total = c .put-total in
-    total-shown (search needs) (total-amount .ensures) (put-total .ensures)
+    let totalled : tie.After-total-amount = search in
+    total-shown (search needs) (totalled .total-amount .ensures) (c .put-total .ensures)
 
 pub total-spec : {M : Type 1} → statement M
 total-spec = tie.close (tie.spec total-amount-requires put-total-requires returns)

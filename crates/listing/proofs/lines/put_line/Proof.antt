@@ -23,13 +23,16 @@ same-length c = search needs
 
 returns : tie.Need-returns
 returns c =
-    let after-put-text : tie.After-put-text = search in
-    let third : tie.After-put-answer = search in
-    let second = third .before .before .before .before in
-    let first = second .before .before .before .before in
-    let args = first .before .before .before .args in
-    line-run (args .number) (args .hidden) (args .shard) (args .answer) (first .put-decimal .ensures) (second .put-place .ensures)
-    (third .put-answer .ensures) (after-put-text .put-text .ensures)
+    let ended : tie.After-put-text = search in
+    let answered : tie.After-put-answer = search in
+    let placed : tie.After-put-place = search in
+    let numbered : tie.After-put-decimal = search in
+    let entry : tie.Start = search in
+    line-run (entry .args .number) (entry .args .hidden) (entry .args .shard) (entry .args .answer)
+    (numbered .put-decimal .ensures)
+    (placed .put-place .ensures)
+    (answered .put-answer .ensures)
+    (ended .put-text .ensures)
 
 pub put-line-spec : {M : Type 1} → statement M
 put-line-spec =

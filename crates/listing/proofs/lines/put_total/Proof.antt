@@ -23,15 +23,10 @@ same-length c = search needs
 
 returns : tie.Need-returns
 returns c =
-    let after-put-text2 : tie.After-put-text2 = search in
-    let after-put-number : tie.After-put-number = search in
-    let after-put-text : tie.After-put-text = search in
-    let entry : tie.Start = search in
-    let args = entry .args in
-    let put-text = after-put-text .put-text in
-    let put-number = after-put-number .put-number in
-    let put-text2 = after-put-text2 .put-text2 in
-    total-run (args .amount) (put-text .ensures) (put-number .ensures) (put-text2 .ensures)
+    let ended : tie.After-put-text2 = search in
+    let amount : tie.After-put-number = search in
+    let named : tie.After-put-text = search in
+    total-run _ (named .put-text .ensures) (amount .put-number .ensures) (ended .put-text2 .ensures)
 
 pub put-total-spec : {M : Type 1} → statement M
 put-total-spec =

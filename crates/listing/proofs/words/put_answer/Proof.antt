@@ -63,63 +63,52 @@ same-length c = search needs
 
 returns : tie.Need-returns
 returns c =
-    let after-put-small : tie.After-put-small = search in
-    let after-put-word : tie.After-put-word = search in
-    let after-answer : tie.After-answer = search in
-    let answer = after-answer .answer in
-    let put-word = after-put-word .put-word in
-    let put-small = after-put-small .put-small in
-    rw (answer .given .1) (two _ _ 13 (omega arith) (put-word .ensures) (put-small .ensures))
+    let small : tie.After-put-small = search in
+    let word : tie.After-put-word = search in
+    let answered : tie.After-answer = search in
+    rw (answered .answer .given .1) (two _ _ 13 (omega arith) (word .put-word .ensures) (small .put-small .ensures))
 
 same-length-2 : tie.Need-same-length-2
 same-length-2 c = search needs
 
 returns-2 : tie.Need-returns-2
 returns-2 c =
-    let after-put-word2 : tie.After-put-word2 = search in
-    let after-enum-told : tie.After-enum-told = search in
-    let enum-told = after-enum-told .enum-told in
-    let put-word2 = after-put-word2 .put-word2 in
-    rw (enum-told .given .1) (wider 13 (put-word2 .ensures) (omega arith))
+    let word : tie.After-put-word2 = search in
+    let told : tie.After-enum-told = search in
+    rw (told .enum-told .given .1) (wider 13 (word .put-word2 .ensures) (omega arith))
 
 same-length-3 : tie.Need-same-length-3
 same-length-3 c = search needs
 
 returns-3 : tie.Need-returns-3
 returns-3 c =
-    let after-put-outcome : tie.After-put-outcome = search in
-    let after-put-verdict : tie.After-put-verdict = search in
-    let after-answer2 : tie.After-answer2 = search in
-    let answer2 = after-answer2 .answer2 in
-    let put-verdict = after-put-verdict .put-verdict in
-    let put-outcome = after-put-outcome .put-outcome in
-    rw (answer2 .given .1) (two _ _ 13 (omega arith) (put-verdict .ensures) (put-outcome .ensures))
+    let outcome : tie.After-put-outcome = search in
+    let verdict : tie.After-put-verdict = search in
+    let answered : tie.After-answer2 = search in
+    rw (answered .answer2 .given .1)
+    (two _ _ 13 (omega arith) (verdict .put-verdict .ensures) (outcome .put-outcome .ensures))
 
 same-length-4 : tie.Need-same-length-4
 same-length-4 c = search needs
 
 returns-4 : tie.Need-returns-4
 returns-4 c =
-    let after-put-outcome2 : tie.After-put-outcome2 = search in
-    let after-put-word3 : tie.After-put-word3 = search in
-    let after-answer3 : tie.After-answer3 = search in
-    let answer3 = after-answer3 .answer3 in
-    let put-word3 = after-put-word3 .put-word3 in
-    let put-outcome2 = after-put-outcome2 .put-outcome2 in
-    rw (answer3 .given .1) (two _ _ 13 (omega arith) (put-word3 .ensures) (put-outcome2 .ensures))
+    let outcome : tie.After-put-outcome2 = search in
+    let word : tie.After-put-word3 = search in
+    let answered : tie.After-answer3 = search in
+    rw (answered .answer3 .given .1)
+    (two _ _ 13 (omega arith) (word .put-word3 .ensures) (outcome .put-outcome2 .ensures))
 
 same-length-5 : tie.Need-same-length-5
 same-length-5 c = search needs
 
 returns-5 : tie.Need-returns-5
 returns-5 c =
-    let after-put-outcome3 : tie.After-put-outcome3 = search in
-    let after-put-word4 : tie.After-put-word4 = search in
-    let after-answer4 : tie.After-answer4 = search in
-    let answer4 = after-answer4 .answer4 in
-    let put-word4 = after-put-word4 .put-word4 in
-    let put-outcome3 = after-put-outcome3 .put-outcome3 in
-    rw (answer4 .given .1) (two _ _ 13 (omega arith) (put-word4 .ensures) (put-outcome3 .ensures))
+    let outcome : tie.After-put-outcome3 = search in
+    let word : tie.After-put-word4 = search in
+    let answered : tie.After-answer4 = search in
+    rw (answered .answer4 .given .1)
+    (two _ _ 13 (omega arith) (word .put-word4 .ensures) (outcome .put-outcome3 .ensures))
 
 pub put-answer-spec : {M : Type 1} → statement M
 put-answer-spec =

@@ -14,22 +14,18 @@ put-decimal-requires : tie.Need-put-decimal-requires
 put-decimal-requires c κs =
     let entry : tie.Start = search in
     let args = entry .args in
-    let pre = entry .pre in
-    space-room (now (args .line)) (args .at) 20 pre
+    space-room (now (args .line)) (args .at) 20 (entry .pre)
 
 same-length : tie.Need-same-length
 same-length c =
-    let after-put-decimal : tie.After-put-decimal = search in
+    let decimal : tie.After-put-decimal = search in
     let entry : tie.Start = search in
-    let args = entry .args in
-    let put-decimal = after-put-decimal .put-decimal in
-    same-room {b = now (args .line)} (behind-space (put-decimal .ensures))
+    same-room {b = now (entry .args .line)} (behind-space (decimal .put-decimal .ensures))
 
 returns : tie.Need-returns
 returns c =
-    let after-put-decimal : tie.After-put-decimal = search in
-    let put-decimal = after-put-decimal .put-decimal in
-    behind-space (put-decimal .ensures)
+    let decimal : tie.After-put-decimal = search in
+    behind-space (decimal .put-decimal .ensures)
 
 pub put-number-spec : {M : Type 1} → statement M
 put-number-spec =

@@ -36,33 +36,27 @@ same-length c = search needs
 
 returns : tie.Need-returns
 returns c =
-    let after-put-word : tie.After-put-word = search in
-    let after-enum-told : tie.After-enum-told = search in
-    let enum-told = after-enum-told .enum-told in
-    let put-word = after-put-word .put-word in
-    rw (enum-told .given .1) (wider 7 (put-word .ensures) (omega arith))
+    let word : tie.After-put-word = search in
+    let told : tie.After-enum-told = search in
+    rw (told .enum-told .given .1) (wider 7 (word .put-word .ensures) (omega arith))
 
 same-length-2 : tie.Need-same-length-2
 same-length-2 c = search needs
 
 returns-2 : tie.Need-returns-2
 returns-2 c =
-    let after-put-word2 : tie.After-put-word2 = search in
-    let after-enum-told2 : tie.After-enum-told2 = search in
-    let enum-told2 = after-enum-told2 .enum-told2 in
-    let put-word2 = after-put-word2 .put-word2 in
-    rw (enum-told2 .given .1) (wider 7 (put-word2 .ensures) (omega arith))
+    let word : tie.After-put-word2 = search in
+    let told : tie.After-enum-told2 = search in
+    rw (told .enum-told2 .given .1) (wider 7 (word .put-word2 .ensures) (omega arith))
 
 same-length-3 : tie.Need-same-length-3
 same-length-3 c = search needs
 
 returns-3 : tie.Need-returns-3
 returns-3 c =
-    let after-put-word3 : tie.After-put-word3 = search in
-    let after-enum-told3 : tie.After-enum-told3 = search in
-    let enum-told3 = after-enum-told3 .enum-told3 in
-    let put-word3 = after-put-word3 .put-word3 in
-    rw (enum-told3 .given .1) (wider 7 (put-word3 .ensures) (omega arith))
+    let word : tie.After-put-word3 = search in
+    let told : tie.After-enum-told3 = search in
+    rw (told .enum-told3 .given .1) (wider 7 (word .put-word3 .ensures) (omega arith))
 
 pub put-outcome-spec : {M : Type 1} → statement M
 put-outcome-spec =

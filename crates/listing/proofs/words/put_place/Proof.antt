@@ -15,11 +15,9 @@ same-length c = search needs
 
 returns : tie.Need-returns
 returns c =
-    let after-put-word : tie.After-put-word = search in
-    let then1 : tie.Then1 = search in
-    let if1 = then1 .if1 in
-    let put-word = after-put-word .put-word in
-    rw (if1 .taken) (wider 4 (put-word .ensures) (omega arith))
+    let word : tie.After-put-word = search in
+    let yes : tie.Then1 = search in
+    rw (yes .if1 .taken) (wider 4 (word .put-word .ensures) (omega arith))
 
 put-small-requires : tie.Need-put-small-requires
 put-small-requires c κs = search needs
@@ -29,11 +27,9 @@ same-length-2 c = search needs
 
 returns-2 : tie.Need-returns-2
 returns-2 c =
-    let after-put-small : tie.After-put-small = search in
-    let else1 : tie.Else1 = search in
-    let if1 = else1 .if1 in
-    let put-small = after-put-small .put-small in
-    rw (if1 .left) (put-small .ensures)
+    let small : tie.After-put-small = search in
+    let no : tie.Else1 = search in
+    rw (no .if1 .left) (small .put-small .ensures)
 
 pub put-place-spec : {M : Type 1} → statement M
 put-place-spec =

@@ -11,11 +11,9 @@ same-length c = search needs
 
 returns : tie.Need-returns
 returns c =
-    let after-put-number : tie.After-put-number = search in
+    let number : tie.After-put-number = search in
     let entry : tie.Start = search in
-    let args = entry .args in
-    let put-number = after-put-number .put-number in
-    small (args .n) (search needs) (put-number .ensures)
+    small (entry .args .n) (search needs) (number .put-number .ensures)
 
 pub put-small-spec : {M : Type 1} → statement M
 put-small-spec = tie.close (tie.spec put-number-requires same-length returns)

@@ -9,7 +9,8 @@ use Rattle.listing.proofs.words.put_text.Statement.{statement}
 use Rattle.listing.proofs.words.put_text.Tie as tie
 
 abbrev Inv-loop : tie.InvT-loop
-Inv-loop line₀ at text i₀ line i = (i ≤ length text) × (length line ≡ length line₀) × (line ≡ sets line₀ at (take i text))
+Inv-loop line₀ at text i₀ line i =
+    (i ≤ length text) × (length line ≡ length line₀) × (line ≡ sets line₀ at (take i text))
 
 abbrev μ-loop : tie.MeasureT-loop
 μ-loop line₀ at text i₀ line i = length text - i
@@ -34,11 +35,12 @@ loop-less c = search needs
 
 loop-again : tie.Need-loop-again Inv-loop μ-loop
 loop-again c =
-    let at-loop : tie.At-loop Inv-loop μ-loop = search in
+    let turn : tie.At-loop Inv-loop μ-loop = search in
     let entry : tie.Start Inv-loop μ-loop = search in
     let args = entry .args in
-    let loop = at-loop .loop in
-    (search needs, search needs, text-next (now (args .line)) (args .at) (now (args .text)) (loop .i) (search needs) (loop .inv .2))
+    let loop = turn .loop in
+    let next = text-next (now (args .line)) (args .at) (now (args .text)) (loop .i) (search needs) (loop .inv .2) in
+    (search needs, search needs, next)
 
 add-result : tie.Need-add-result Inv-loop μ-loop
 add-result c = search needs
@@ -48,11 +50,10 @@ same-length c = search needs
 
 returns : tie.Need-returns Inv-loop μ-loop
 returns c =
-    let at-loop : tie.At-loop Inv-loop μ-loop = search in
+    let turn : tie.At-loop Inv-loop μ-loop = search in
     let entry : tie.Start Inv-loop μ-loop = search in
     let args = entry .args in
-    let loop = at-loop .loop in
-    text-end (now (args .line)) (args .at) (now (args .text)) (loop .inv .0) (search needs) (loop .inv .2)
+    text-end (now (args .line)) (args .at) (now (args .text)) (turn .loop .inv .0) (search needs) (turn .loop .inv .2)
 
 pub put-text-spec : {M : Type 1} → statement M
 put-text-spec =

@@ -15,11 +15,9 @@ same-length c = search needs
 
 returns : tie.Need-returns
 returns c =
-    let after-put-word : tie.After-put-word = search in
-    let then1 : tie.Then1 = search in
-    let if1 = then1 .if1 in
-    let put-word = after-put-word .put-word in
-    rw (if1 .taken) (wider 4 (put-word .ensures) (omega arith))
+    let word : tie.After-put-word = search in
+    let yes : tie.Then1 = search in
+    rw (yes .if1 .taken) (wider 4 (word .put-word .ensures) (omega arith))
 
 slice-aggregate-put-word-2 : tie.Need-slice-aggregate-put-word-2
 slice-aggregate-put-word-2 c = search needs
@@ -32,11 +30,9 @@ same-length-2 c = search needs
 
 returns-2 : tie.Need-returns-2
 returns-2 c =
-    let after-put-word2 : tie.After-put-word2 = search in
-    let else1 : tie.Else1 = search in
-    let if1 = else1 .if1 in
-    let put-word2 = after-put-word2 .put-word2 in
-    rw (if1 .left) (wider 4 (put-word2 .ensures) (omega arith))
+    let word : tie.After-put-word2 = search in
+    let no : tie.Else1 = search in
+    rw (no .if1 .left) (wider 4 (word .put-word2 .ensures) (omega arith))
 
 pub put-verdict-spec : {M : Type 1} → statement M
 put-verdict-spec =

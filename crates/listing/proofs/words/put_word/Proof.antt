@@ -15,22 +15,18 @@ put-text-requires : tie.Need-put-text-requires
 put-text-requires c κs =
     let entry : tie.Start = search in
     let args = entry .args in
-    let pre = entry .pre in
-    space-room (now (args .line)) (args .at) (length (now (args .word))) pre
+    space-room (now (args .line)) (args .at) (length (now (args .word))) (entry .pre)
 
 same-length : tie.Need-same-length
 same-length c =
-    let after-put-text : tie.After-put-text = search in
+    let text : tie.After-put-text = search in
     let entry : tie.Start = search in
-    let args = entry .args in
-    let put-text = after-put-text .put-text in
-    same-room {b = now (args .line)} (behind-space (put-text .ensures))
+    same-room {b = now (entry .args .line)} (behind-space (text .put-text .ensures))
 
 returns : tie.Need-returns
 returns c =
-    let after-put-text : tie.After-put-text = search in
-    let put-text = after-put-text .put-text in
-    behind-space (put-text .ensures)
+    let text : tie.After-put-text = search in
+    behind-space (text .put-text .ensures)
 
 pub put-word-spec : {M : Type 1} → statement M
 put-word-spec =
