@@ -24,16 +24,19 @@ part-size (suc n) [] = omega arith
 part-size (suc n) (x ∷ l) = omega (arith, part-size n l)
 
 -- listed from a part of the one buffer into a part of the other
-pub of-buffers : {before after : List (List ℕ)} {step wanted : ℕ} {r : Progress} {l m : List ℕ} (a : ℕ) (xs ys : List ℕ) → a ≤ length xs → l ≡ m
+pub of-buffers : {before after : List (List ℕ)} {step wanted : ℕ} {r : Progress} {l m : List ℕ} (a : ℕ) (xs ys : List ℕ)
+    → a ≤ length xs → l ≡ m
     → ListsAll before step l wanted (take (length xs - a) (drop a xs)) r after ys
     → ListsAll before step m wanted (drop a xs) r after (drop a (putMid a (length xs - a) xs ys))
 of-buffers {before} {after} {step} {wanted} {r} {l} {m} a xs ys h e s =
     subst (λ (x : List ℕ). ListsAll before step m wanted (drop a xs) r after x) (sym (behind-put a xs ys h))
-    (subst (λ (x : List ℕ). ListsAll before step m wanted x r after ys) (take-all (length xs - a) (drop a xs) (omega (arith, length-drop a xs)))
+    (subst (λ (x : List ℕ). ListsAll before step m wanted x r after ys)
+    (take-all (length xs - a) (drop a xs) (omega (arith, length-drop a xs)))
     (subst (λ (x : List ℕ). ListsAll before step x wanted (take (length xs - a) (drop a xs)) r after ys) e s))
 
 -- so many bytes behind the waiting ones are within the buffer
-pub waiting : (used : ℕ) (lent : List ℕ) {n : ℕ} → n ≤ length (drop used lent) → used ≤ length lent → used + n ≤ length lent
+pub waiting : (used : ℕ) (lent : List ℕ) {n : ℕ} → n ≤ length (drop used lent) → used ≤ length lent
+    → used + n ≤ length lent
 waiting used lent h k = omega (arith, length-drop used lent)
 
 -- so many bytes of the unread ones are among them
@@ -41,6 +44,8 @@ pub unread : (at end : ℕ) (buf : List ℕ) {n : ℕ} → n ≤ length (take (e
 unread at end buf h k = omega (arith, part-size (end - at) (drop at buf))
 
 -- a line is stored into bytes that stay as many
-pub as-long : {line lent after : List ℕ} {size : ℕ} (n : ℕ) → length lent ≡ n → 64 ≤ n → Shows line lent after size → length after ≡ n
+pub as-long : {line lent after : List ℕ} {size : ℕ} (n : ℕ) → length lent ≡ n → 64 ≤ n → Shows line lent after size
+    → length after ≡ n
 as-long {line} {lent} n e h s =
-    omega (arith, s .size, s .within, ap length (s .text), length-append line (drop (length line) lent), length-drop (length line) lent)
+    let rest = drop (length line) lent in
+    omega (arith, s .size, s .within, ap length (s .text), length-append line rest, length-drop (length line) lent)

@@ -1,4 +1,5 @@
-// Lists a week of records from standard input: document 01, 'The listing program'. The library gives each line's bytes and the total.
+// Lists a week of records from standard input: document 01, 'The listing program'. The library gives each line's bytes
+// and the total.
 ghost use mathlib.Core.Path.{_≡_};
 ghost use Prim.Native.Nat.{_+_, _-_, _≤_, _<_};
 ghost use lib.ListN.{length, take, drop};
@@ -11,7 +12,8 @@ use libc::STDOUT_FILENO;
 use listing::Progress;
 use listing::list_records;
 
-// The unread bytes of the buffer. A record is 102 bytes long at most: so many are wanted before one is handed over, and none at the end of the input.
+// The unread bytes of the buffer. A record is 102 bytes long at most: so many are wanted before one is handed over, and
+// none at the end of the input.
 struct Unread {
     at: usize,
     end: usize,

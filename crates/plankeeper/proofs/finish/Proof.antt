@@ -1,9 +1,14 @@
-use mathlib.Core.Path.{refl, sym}
+use mathlib.Core.Path.{_≡_, refl, sym}
+use lib.ListN.{length}
 use native.Mathlib.Omega.{arith}
 use Rattle.plankeeper.proofs.Part.{as-long}
 use borrow.Author.Needs.{needs}
 use Rattle.plankeeper.proofs.finish.Statement.{statement}
 use Rattle.plankeeper.proofs.finish.Tie as tie
+
+-- The last line is stored into 64 bytes.
+long : (c : tie.After-total) → length (c .total .last .1 .0) ≡ 64
+long c = as-long 64 refl (search needs) (c .total .ensures)
 
 total-requires : tie.Need-total-requires
 total-requires c κs = search needs
@@ -12,16 +17,12 @@ print-requires : tie.Need-print-requires
 print-requires c κs = search needs
 
 slice-aggregate-print : tie.Need-slice-aggregate-print
-slice-aggregate-print c =
-    let after-total : tie.After-total = search in
-    let total = after-total .total in
-    sym (as-long 64 refl (search needs) (total .ensures))
+slice-aggregate-print c = sym (long (search))
 
 print-requires-2 : tie.Need-print-requires-2
 print-requires-2 c κs =
-    let after-total : tie.After-total = search in
-    let total = after-total .total in
-    omega (arith, as-long 64 refl (search needs) (total .ensures), total .ensures .within)
+    let totalled : tie.After-total = search in
+    omega (arith, long totalled, totalled .total .ensures .within)
 
 returns : tie.Need-returns
 returns c = search needs

@@ -24,13 +24,12 @@ same-length c = search needs
 
 returns : tie.Need-returns
 returns c =
-    let after-list-records : tie.After-list-records = search in
-    let after-between : tie.After-between = search in
+    let listed : tie.After-list-records = search in
+    let between : tie.After-between = search in
     let entry : tie.Start = search in
-    let args = entry .args in
-    let list-records = after-list-records .list-records in
-    let between = after-between .between in
-    of-buffers (args .used) (now (args .out)) (list-records .last .1 .1 .1 .1 .0) (search needs) (between .ensures) (list-records .ensures)
+    of-buffers (entry .args .used) (now (entry .args .out)) (listed .list-records .last .1 .1 .1 .1 .0) (search needs)
+    (between .between .ensures)
+    (listed .list-records .ensures)
 
 pub listed-spec : {M : Type 1} → statement M
 listed-spec =

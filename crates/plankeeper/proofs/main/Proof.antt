@@ -16,6 +16,23 @@ abbrev μ-loop : tie.MeasureT-loop
 μ-loop buf₀ out₀ c₀ number₀ used₀ well₀ at₀ end₀ wanted₀ turns₀ buf out c number used well at end wanted turns =
     turns
 
+-- The lines that wait are within the buffer, with those just listed.
+lines : (c : tie.After-listed Inv-loop μ-loop)
+    → let turn : tie.At-loop Inv-loop μ-loop = search in turn .loop .used + c .listed .result .used ≤ 65536
+lines c =
+    let turn : tie.At-loop Inv-loop μ-loop = search in
+    let loop = turn .loop in
+    let few : loop .used ≤ length (loop .out) = omega (arith, loop .inv .4, loop .inv .5) in
+    omega (arith, waiting (loop .used) (loop .out) (c .listed .ensures .room) few, loop .inv .5)
+
+-- The bytes just taken are among the unread ones.
+taken : (c : tie.After-listed Inv-loop μ-loop)
+    → let turn : tie.At-loop Inv-loop μ-loop = search in turn .loop .at + c .listed .result .taken ≤ turn .loop .end
+taken c =
+    let turn : tie.At-loop Inv-loop μ-loop = search in
+    let loop = turn .loop in
+    unread (loop .at) (loop .end) (loop .buf) (c .listed .ensures .part) (loop .inv .1)
+
 new-requires : tie.Need-new-requires Inv-loop μ-loop
 new-requires c κs = search needs
 
@@ -27,49 +44,35 @@ turns-after-requires c κs = search needs
 
 loop-holds : tie.Need-loop-holds Inv-loop μ-loop
 loop-holds c =
-    let after-new : tie.After-new Inv-loop μ-loop = search in
-    let new = after-new .new in
-    (new .ensures .sound, search needs, search needs, search needs, search needs, search needs)
+    let fresh : tie.After-new Inv-loop μ-loop = search in
+    (fresh .new .ensures .sound, search needs, search needs, search needs, search needs, search needs)
 
 slice-aggregate-listed : tie.Need-slice-aggregate-listed Inv-loop μ-loop
 slice-aggregate-listed c =
-    let at-loop : tie.At-loop Inv-loop μ-loop = search in
-    let loop = at-loop .loop in
-    sym (loop .inv .5)
+    let turn : tie.At-loop Inv-loop μ-loop = search in
+    sym (turn .loop .inv .5)
 
 listed-requires : tie.Need-listed-requires Inv-loop μ-loop
 listed-requires c κs =
-    let at-loop : tie.At-loop Inv-loop μ-loop = search in
-    let loop = at-loop .loop in
-    (loop .inv .0, search needs, search needs, omega (arith, loop .inv .4, loop .inv .5))
+    let turn : tie.At-loop Inv-loop μ-loop = search in
+    (turn .loop .inv .0, search needs, search needs, omega (arith, turn .loop .inv .4, turn .loop .inv .5))
 
 add-flushed : tie.Need-add-flushed Inv-loop μ-loop
 add-flushed c =
-    let after-listed : tie.After-listed Inv-loop μ-loop = search in
-    let at-loop : tie.At-loop Inv-loop μ-loop = search in
-    let loop = at-loop .loop in
-    let listed = after-listed .listed in
-    let few : loop .used ≤ length (loop .out) = omega (arith, loop .inv .4, loop .inv .5) in
-    let h : loop .used + listed .result .used ≤ 65536 = omega (arith, waiting (loop .used) (loop .out) (listed .ensures .room) few, loop .inv .5) in
+    let listed : tie.After-listed Inv-loop μ-loop = search in
+    let turn : tie.At-loop Inv-loop μ-loop = search in
+    let h : turn .loop .used + listed .listed .result .used ≤ 65536 = lines listed in
     search needs
 
 flushed-requires : tie.Need-flushed-requires Inv-loop μ-loop
-flushed-requires c κs =
-    let after-listed : tie.After-listed Inv-loop μ-loop = search in
-    let at-loop : tie.At-loop Inv-loop μ-loop = search in
-    let loop = at-loop .loop in
-    let listed = after-listed .listed in
-    let few : loop .used ≤ length (loop .out) = omega (arith, loop .inv .4, loop .inv .5) in
-    omega (arith, waiting (loop .used) (loop .out) (listed .ensures .room) few, loop .inv .5)
+flushed-requires c κs = lines (search)
 
 add-filled : tie.Need-add-filled Inv-loop μ-loop
 add-filled c =
-    let after-listed : tie.After-listed Inv-loop μ-loop = search in
-    let at-loop : tie.At-loop Inv-loop μ-loop = search in
-    let loop = at-loop .loop in
-    let listed = after-listed .listed in
-    let some = unread (loop .at) (loop .end) (loop .buf) (listed .ensures .part) (loop .inv .1) in
-    let h : loop .at + listed .result .taken ≤ 65536 = omega (arith, some, loop .inv .2) in
+    let listed : tie.After-listed Inv-loop μ-loop = search in
+    let turn : tie.At-loop Inv-loop μ-loop = search in
+    let loop = turn .loop in
+    let h : loop .at + listed .listed .result .taken ≤ 65536 = omega (arith, taken listed, loop .inv .2) in
     search needs
 
 wanted-after-requires : tie.Need-wanted-after-requires Inv-loop μ-loop
@@ -77,13 +80,9 @@ wanted-after-requires c κs = search needs
 
 filled-requires-2 : tie.Need-filled-requires-2 Inv-loop μ-loop
 filled-requires-2 c κs =
-    let after-listed : tie.After-listed Inv-loop μ-loop = search in
-    let at-loop : tie.At-loop Inv-loop μ-loop = search in
-    let loop = at-loop .loop in
-    let listed = after-listed .listed in
-    let wanted-after = c .wanted-after in
-    let some = unread (loop .at) (loop .end) (loop .buf) (listed .ensures .part) (loop .inv .1) in
-    omega (arith, some, loop .inv .2, loop .inv .3, wanted-after .ensures)
+    let turn : tie.At-loop Inv-loop μ-loop = search in
+    let loop = turn .loop in
+    omega (arith, taken (search), loop .inv .2, loop .inv .3, c .wanted-after .ensures)
 
 turns-after-requires-2 : tie.Need-turns-after-requires-2 Inv-loop μ-loop
 turns-after-requires-2 c κs = search needs
@@ -93,14 +92,13 @@ loop-less c = search needs
 
 loop-again : tie.Need-loop-again Inv-loop μ-loop
 loop-again c =
-    let sound = let after-listed : tie.After-listed Inv-loop μ-loop = search in after-listed .listed .ensures .sound in
+    let sound = let listed : tie.After-listed Inv-loop μ-loop = search in listed .listed .ensures .sound in
     (sound, search needs, search needs, search needs, search needs, search needs)
 
 finish-requires : tie.Need-finish-requires Inv-loop μ-loop
 finish-requires c κs =
-    let at-loop : tie.At-loop Inv-loop μ-loop = search in
-    let loop = at-loop .loop in
-    (loop .inv .0, omega (arith, loop .inv .4))
+    let turn : tie.At-loop Inv-loop μ-loop = search in
+    (turn .loop .inv .0, omega (arith, turn .loop .inv .4))
 
 returns : tie.Need-returns Inv-loop μ-loop
 returns c = search needs
