@@ -1,10 +1,12 @@
--- DEMAND 3 THROUGH THE LIBRARY'S DOOR. For every list of plankeeper_mint, _register, _deliver and _apply with any words and any bytes, refused ones
--- included, on memory that plankeeper_new made a cluster of, and the numbers and clusters that the contracts of these exported functions fix, call after
--- call: the numbers are the codes of the reference model's answers to the calls asked for, and every clause of demand 3 holds of the ledgers.
+-- DEMAND 3 THROUGH THE LIBRARY'S DOOR. For every list of plankeeper_mint, _register, _deliver and _apply with any words
+-- and any bytes, refused ones included, on memory that plankeeper_new made a cluster of, and the numbers and clusters
+-- that the contracts of these exported functions fix, call after call: the numbers are the codes of the reference
+-- model's answers to the calls asked for, and every clause of demand 3 holds of the ledgers.
 --
--- As in crates/cluster/proofs/Demand.antt a contract is read off the function itself (`Asked`, `Learnt`), so that one that said less would break this proof.
+-- As in crates/cluster/proofs/Demand.antt a contract is read off the function itself (`Asked`, `Learnt`), so that one
+-- that said less would break this proof.
 use Prim.Native.Nat.{ℕ}
-use mathlib.Core.Path.{_≡_, refl, sym, subst}
+use mathlib.Core.Path.{_≡_, refl, subst}
 use mathlib.Core.Logic.{_≢_}
 use mathlib.Core.List.{List, [], _∷_}
 use contract.Lifetimes.{Lfts}
@@ -17,7 +19,7 @@ use Rattle.model.specs.declared.Answer.the-variants.{Refused}
 use Rattle.model.specs.declared.Outcome.the-variants.{Wait}
 use Rattle.model.specs.Steps.{Ledger, house}
 use Rattle.model.specs.Shard.{Call}
-use Rattle.model.specs.Cluster.{emptyShards, ledgerAt, clusterStep}
+use Rattle.model.specs.Cluster.{ledgerAt, clusterStep}
 use Rattle.model.specs.Demand.{outcomeIn}
 use Rattle.model.proofs.Bridge as bridge
 use Rattle.model.proofs.Bridge.{reference, RunDemand, run-demand-3}
@@ -26,7 +28,21 @@ use Rattle.cluster.proofs.References.{Place, refers}
 use Rattle.cluster.proofs.Demand.{Cluster}
 use Rattle.engine.specs.Codes.{answerCode}
 use Rattle.engine.specs.Calls.{clusterCalled, appliedAs, applied, ClusterDoes}
-use Rattle.engine.specs.Asks.{Ask, mints, registers, delivers, applies, Meant, refusal, asked, recordMeans, means, meantBy, callsOf, codesOf}
+use Rattle.engine.specs.Asks.{
+  Ask,
+  mints,
+  registers,
+  delivers,
+  applies,
+  Meant,
+  refusal,
+  asked,
+  recordMeans,
+  means,
+  meantBy,
+  callsOf,
+  codesOf,
+}
 use Rattle.engine.proofs.clusters.plankeeper_new.Reads as of-new
 use Rattle.engine.proofs.clusters.plankeeper_mint.Reads as of-mint
 use Rattle.engine.proofs.clusters.plankeeper_register.Reads as of-register
@@ -44,13 +60,15 @@ pub record Lent : Type 0 where
 pub record Starts (c : Cluster) : Type 0 where
   pub at : Lent
   pub before : Cluster
-  pub kept : of-new.Asked (at .alone) (refers (at .to) before, tt) → of-new.Learnt (at .alone) (refers (at .to) before, tt) tt (refers (at .to) c, tt)
+  pub kept : of-new.Asked (at .alone) (refers (at .to) before, tt)
+      → of-new.Learnt (at .alone) (refers (at .to) before, tt) tt (refers (at .to) c, tt)
 
 -- the function, lent this cluster and handed these words or bytes, may have left that cluster and returned that number
 abbrev pub Leaves : Lent → Cluster → Ask → Cluster → ℕ → Type 0
 Leaves at c (mints p i o a) c′ code =
     of-mint.Asked (at .alone) (refers (at .to) c, (p, (i, (o, (a, tt)))))
-    → of-mint.Learnt (at .alone) (refers (at .to) c, (p, (i, (o, (a, tt))))) code (refers (at .to) c′, (p, (i, (o, (a, tt)))))
+    → of-mint.Learnt (at .alone) (refers (at .to) c, (p, (i, (o, (a, tt))))) code
+    (refers (at .to) c′, (p, (i, (o, (a, tt)))))
 Leaves at c (registers p w) c′ code =
     let words = refers (at .from) w in
     of-register.Asked (at .both) (refers (at .to) c, (p, (words, tt)))
@@ -58,7 +76,8 @@ Leaves at c (registers p w) c′ code =
 Leaves at c (delivers p q v w) c′ code =
     let words = refers (at .from) w in
     of-deliver.Asked (at .both) (refers (at .to) c, (p, (q, (v, (words, tt)))))
-    → of-deliver.Learnt (at .both) (refers (at .to) c, (p, (q, (v, (words, tt))))) code (refers (at .to) c′, (p, (q, (v, (words, tt)))))
+    → of-deliver.Learnt (at .both) (refers (at .to) c, (p, (q, (v, (words, tt))))) code
+    (refers (at .to) c′, (p, (q, (v, (words, tt)))))
 Leaves at c (applies l) c′ code =
     let bytes = refers (at .from) l in
     of-apply.Asked (at .both) (refers (at .to) c, (bytes, tt))
@@ -68,7 +87,8 @@ pub record Returns (c : Cluster) (ask : Ask) (c′ : Cluster) (code : ℕ) : Typ
   pub at : Lent
   pub kept : Leaves at c ask c′ code
 
--- A run: each function is lent the cluster that the one before it left. The functions and the numbers stand in order, the first one first.
+-- A run: each function is lent the cluster that the one before it left. The functions and the numbers stand in order,
+-- the first one first.
 pub data Run : Cluster → List Ask → List ℕ → Cluster → Type 0 where
   done : {c : Cluster} → Run c [] [] c
   then : {c c′ c″ : Cluster} {ask : Ask} {code : ℕ} {asks : List Ask} {codes : List ℕ}
@@ -85,13 +105,15 @@ unfolding appliedAs recordMeans
 record-step c (reader-answer.Read fields) t = refl
 record-step c (reader-answer.Refused number) t = refl
 
-promised : (at : Lent) (c c′ : Cluster) (ask : Ask) (code : ℕ) → Sound c → Leaves at c ask c′ code → ClusterDoes (stepOf c (means ask)) code c′
+promised : (at : Lent) (c c′ : Cluster) (ask : Ask) (code : ℕ) → Sound c → Leaves at c ask c′ code
+    → ClusterDoes (stepOf c (means ask)) code c′
 unfolding means applied
 promised at c c′ (mints p i o a) code sound x = x sound
 promised at c c′ (registers p w) code sound x = x sound
 promised at c c′ (delivers p q v w) code sound x = x sound
 promised at c c′ (applies l) code sound x =
-    subst (λ (y : List Ledger × Answer). ClusterDoes y code c′) (record-step c (readingOf l .answer) (readingOf l .transaction)) (x sound)
+    subst (λ (y : List Ledger × Answer). ClusterDoes y code c′)
+    (record-step c (readingOf l .answer) (readingOf l .transaction)) (x sound)
 
 -- ---- All of them: a run of the reference model's cluster goes beside
 
@@ -120,7 +142,8 @@ one c c₁ c′ (asked call) code rest codes does f = record {
   sound = f .sound;
 }
 
-pub follows : {c c′ : Cluster} {asks : List Ask} {codes : List ℕ} → Sound c → Run c asks codes c′ → Follows c (meantBy asks) codes c′
+pub follows : {c c′ : Cluster} {asks : List Ask} {codes : List ℕ} → Sound c → Run c asks codes c′
+    → Follows c (meantBy asks) codes c′
 follows sound done = record { replies = []; run = bridge.done; told = refl; sound = sound }
 follows {c = c} {c′ = c′} sound (then {c′ = c₁} {ask = ask} {code = code} {asks = asks} {codes = codes} x rest) =
     let does = promised (x .at) c c₁ ask code sound (x .kept) in
@@ -136,15 +159,19 @@ pub record PlannerDemand (asks : List Ask) (codes : List ℕ) (c : Cluster) : Ty
   pub demand : RunDemand (reference house) (callsOf (meantBy asks)) replies (view c)
   -- a decision stays, whatever functions are called further
   pub finality : {more : List Ask} {others : List ℕ} {c′ : Cluster} → Run c more others c′ → (p : ℕ) (t : Transaction)
-      → outcomeIn (ledgerAt house (view c) p) t ≢ Wait → outcomeIn (ledgerAt house (view c′) p) t ≡ outcomeIn (ledgerAt house (view c) p) t
+      → outcomeIn (ledgerAt house (view c) p) t ≢ Wait
+      → outcomeIn (ledgerAt house (view c′) p) t ≡ outcomeIn (ledgerAt house (view c) p) t
   -- and the memory can be handed to every further call and query
   pub sound : Sound c
 
-pub planner-demand-3 : {c₀ c : Cluster} {asks : List Ask} {codes : List ℕ} → Starts c₀ → Run c₀ asks codes c → PlannerDemand asks codes c
+pub planner-demand-3 : {c₀ c : Cluster} {asks : List Ask} {codes : List ℕ} → Starts c₀ → Run c₀ asks codes c
+    → PlannerDemand asks codes c
 planner-demand-3 {c = c} {asks = asks} starts run =
     let fresh : Fresh _ = starts .kept tt in
     let f = follows (fresh .sound) run in
-    let empty = subst (λ (l : List Ledger). ModelRun l (callsOf (meantBy asks)) (f .replies) (view c)) (fresh .empty) (f .run) in
+    let empty =
+    subst (λ (l : List Ledger). ModelRun l (callsOf (meantBy asks)) (f .replies) (view c)) (fresh .empty)
+    (f .run) in
     let demand = run-demand-3 (reference house) empty in
     record {
       replies = f .replies;

@@ -42,20 +42,27 @@ rest-length l e = omega (arith, ap length e, length-drop (takenOf l) l, taken-wi
 
 -- ---- Queries
 
-pub tells-token : {tokens : List Token} {place : ℕ} {held : HeldToken} {answer : ℕ} {after : List ℕ} → held ≡ tokenAt tokens place
+pub tells-token : {tokens : List Token} {place : ℕ} {held : HeldToken} {answer : ℕ} {after : List ℕ}
+    → held ≡ tokenAt tokens place
     → answer ≡ heldCode held → after ≡ tokenWords held → TellsToken tokens place answer after
 tells-token e ea ef = record { answered = ea ∙ ap heldCode e; filled = ef ∙ ap tokenWords e }
 
 pub tells-known : {known : List Known} {place : ℕ} {found : Known} {outcome : KnownOutcome} {answer : ℕ} {after : List ℕ}
-    → found ≡ knownAt known place → outcome ≡ outcomeAt known place → answer ≡ knownCode outcome → after ≡ knownWords found
+    → found ≡ knownAt known place → outcome ≡ outcomeAt known place → answer ≡ knownCode outcome
+    → after ≡ knownWords found
     → TellsKnown known place answer after
 tells-known e eo ea ef = record { answered = ea ∙ ap knownCode eo; filled = ef ∙ ap knownWords e }
 
 -- ---- Calls
 
 module _ {answer : Answer} {code : ℕ} (coded : code ≡ answerCode answer) where
-  pub cluster-does : {before after : List (List ℕ)} {call : Call} → cluster.Steps before call answer after → ClusterDoes (clusterCalled before call) code after
-  cluster-does steps = record { answered = coded ∙ ap answerCode (steps .answered); ledgers = steps .ledgers; sound = steps .sound }
+  pub cluster-does : {before after : List (List ℕ)} {call : Call} → cluster.Steps before call answer after
+      → ClusterDoes (clusterCalled before call) code after
+  cluster-does steps = record {
+    answered = coded ∙ ap answerCode (steps .answered);
+    ledgers = steps .ledgers;
+    sound = steps .sound;
+  }
 
   pub shard-does : {before after : List ℕ} {call : Call} → shard.Steps before call answer after
       → ShardDoes (shard.number before) (shardCalled before call) code after
@@ -73,10 +80,12 @@ module _ (c : List (List ℕ)) {bytes : List ℕ} {r : Reading} (reads : Reads b
   applied-is = sym (ap (λ (x : Reading). appliedAs c (x .answer) (x .transaction)) (reads .whole))
 
   pub does-read : {fields : Record} {code : ℕ} {after : List (List ℕ)} → r .answer ≡ Read fields
-      → ClusterDoes (clusterCalled c (callOf fields (r .transaction))) code after → ClusterDoes (applied c bytes) code after
+      → ClusterDoes (clusterCalled c (callOf fields (r .transaction))) code after
+      → ClusterDoes (applied c bytes) code after
   unfolding appliedAs
   does-read e does = rw (applied-is, e) does
 
-  pub does-refused : cluster.Sound c → {number code : ℕ} → r .answer ≡ Refused number → code ≡ number → ClusterDoes (applied c bytes) code c
+  pub does-refused : cluster.Sound c → {number code : ℕ} → r .answer ≡ Refused number → code ≡ number
+      → ClusterDoes (applied c bytes) code c
   unfolding appliedAs answerCode
   does-refused sound e coded = rw (applied-is, e) (record { answered = coded; ledgers = refl; sound = sound })

@@ -1,5 +1,6 @@
--- A list of calls on one cluster as a planner makes them, with any words and any bytes: which calls of the reference model they stand for, and the
--- numbers that answer them. The theorem `planner-demand-3` (proofs/Demand.antt) speaks of these.
+-- A list of calls on one cluster as a planner makes them, with any words and any bytes: which calls of the reference
+-- model they stand for, and the numbers that answer them. The theorem `planner-demand-3` (proofs/Demand.antt) speaks of
+-- these.
 use Prim.Native.Nat.{ℕ}
 use mathlib.Core.List.{List, [], _∷_}
 use Rattle.transaction.specs.declared.Transaction.{Transaction}
@@ -31,7 +32,8 @@ recordMeans (reader-answer.Refused number) t = refusal number
 unfoldable pub means : Ask → Meant
 means (mints receiver index owner amount) = asked (mint (byteOf receiver) (byteOf index) owner amount)
 means (registers receiver words) = asked (register (byteOf receiver) (transactionFrom words))
-means (delivers receiver sender verdict words) = asked (deliver (byteOf receiver) (byteOf sender) (byteOf verdict) (transactionFrom words))
+means (delivers receiver sender verdict words) =
+    asked (deliver (byteOf receiver) (byteOf sender) (byteOf verdict) (transactionFrom words))
 means (applies bytes) = recordMeans (readingOf bytes .answer) (readingOf bytes .transaction)
 
 -- all that is asked for, and the calls among it, in order
@@ -44,7 +46,8 @@ callsOf [] = []
 callsOf (refusal number ∷ rest) = callsOf rest
 callsOf (asked call ∷ rest) = call ∷ callsOf rest
 
--- the numbers returned: a refused record's own, and for a call the code of the next of the answers, of which there are as many as calls
+-- the numbers returned: a refused record's own, and for a call the code of the next of the answers, of which there are
+-- as many as calls
 abbrev pub codesOf : List Meant → List Answer → List ℕ
 codesOf [] answers = []
 codesOf (refusal number ∷ rest) answers = number ∷ codesOf rest answers

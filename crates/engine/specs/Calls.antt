@@ -34,7 +34,8 @@ appliedAs c (reader-answer.Refused number) t = (cluster.view c, Refused number)
 unfoldable pub applied : List (List ℕ) → List ℕ → List Ledger × Answer
 applied c bytes = appliedAs c (readingOf bytes .answer) (readingOf bytes .transaction)
 
--- ---- The promise: the answer is the number of the step's answer, the ledgers are the step's, and the memory can be handed to the next call
+-- ---- The promise: the answer is the number of the step's answer, the ledgers are the step's, and the memory can be
+-- handed to the next call
 
 pub record ClusterDoes (step : List Ledger × Answer) (answer : ℕ) (after : List (List ℕ)) : Type 0 where
   pub answered : answer ≡ answerCode (step .1)

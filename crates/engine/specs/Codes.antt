@@ -16,8 +16,8 @@ outcomeCode Wait = 0
 outcomeCode Commit = 1
 outcomeCode Abort = 2
 
--- A refusal's own number (all of document 01's are below 100); a genesis token given (an opening); a registration with the shard's own
--- verdict; a fresh vote; a repeat.
+-- A refusal's own number (all of document 01's are below 100); a genesis token given (an opening); a registration with
+-- the shard's own verdict; a fresh vote; a repeat.
 unfoldable pub answerCode : Answer → ℕ
 answerCode (Refused number) = number
 answerCode Minted = 100

@@ -1,4 +1,5 @@
--- What was read of a record, as 42 words: kind, receiver, sender, verdict, index, owner, amount, and the transaction's 35.
+-- What was read of a record, as 42 words: kind, receiver, sender, verdict, index, owner, amount, and the transaction's
+-- 35.
 use Prim.Native.Nat.{ℕ}
 use mathlib.Core.Path.{_≡_}
 use mathlib.Core.List.{List, [], _∷_, _++_}

@@ -1,4 +1,5 @@
--- What is told of a shard's ledger, in words: the token at a place of those held, the transaction at a place of those known.
+-- What is told of a shard's ledger, in words: the token at a place of those held, the transaction at a place of those
+-- known.
 use Prim.Native.Nat.{ℕ}
 use mathlib.Core.Path.{_≡_}
 use mathlib.Core.List.{List, [], _∷_, _++_}
@@ -13,7 +14,8 @@ use Rattle.shard.specs.Queries.{tokenAt, knownAt, outcomeAt}
 use Rattle.engine.specs.Words.{wordsOf}
 use Rattle.engine.specs.Codes.{outcomeCode}
 
--- a token is held: 1, and creator (making swap), index (position), owner (household), amount (portions) and pledge; none: 0, and zeros
+-- a token is held: 1, and creator (making swap), index (position), owner (household), amount (portions) and pledge;
+-- none: 0, and zeros
 unfoldable pub heldCode : HeldToken → ℕ
 heldCode (Held token) = 1
 heldCode NotHeld = 0

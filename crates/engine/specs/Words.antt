@@ -1,4 +1,5 @@
--- A transaction (swap) as 35 words, both ways: number, input count, output count, four inputs of five words, four outputs of three words.
+-- A transaction (swap) as 35 words, both ways: number, input count, output count, four inputs of five words, four
+-- outputs of three words.
 use Prim.Native.Nat.{ℕ, _+_, _*_}
 use mathlib.Core.Bool.{cond}
 use mathlib.Core.List.{List, [], _∷_, _++_}
@@ -33,7 +34,8 @@ wordAt words k = getD words k 0
 abbrev pub byteAt : List ℕ → ℕ → ℕ
 byteAt words k = byteOf (wordAt words k)
 
--- an input from a place on: shard (pantry), creator (making swap), index (position), owner (household), amount (portions)
+-- an input from a place on: shard (pantry), creator (making swap), index (position), owner (household), amount
+-- (portions)
 unfoldable pub inputAt : List ℕ → ℕ → Input
 inputAt words at =
     record {

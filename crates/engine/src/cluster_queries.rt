@@ -1,4 +1,5 @@
-// What can be asked of a cluster: exported functions. Nothing is changed but the words lent for the answer. A shard above 7 is an empty one.
+// What can be asked of a cluster: exported functions. Nothing is changed but the words lent for the answer. A shard
+// above 7 is an empty one.
 ghost use mathlib.Core.Path.{_≡_};
 ghost use lib.ListN.{length};
 ghost use Rattle.model.specs.Steps.{house};
@@ -51,7 +52,8 @@ pub extern "C" fn plankeeper_known_count(c: &Cluster, shard: u32) -> usize
     queries::known_count(c, narrow(shard))
 }
 
-// The transaction at a place of those that it knows: its outcome there, its words and the verdicts heard; or 3 and zeros.
+// The transaction at a place of those that it knows: its outcome there, its words and the verdicts heard; or 3 and
+// zeros.
 #[no_mangle]
 pub extern "C" fn plankeeper_known_at(
     c: &Cluster,

@@ -1,4 +1,5 @@
-// What was read of a record, as 42 words: kind, receiver, sender, verdict, index, owner, amount, and the transaction's 35.
+// What was read of a record, as 42 words: kind, receiver, sender, verdict, index, owner, amount, and the transaction's
+// 35.
 ghost use mathlib.Core.Path.{_≡_};
 ghost use mathlib.Core.List.{_++_};
 ghost use Rattle.reader.specs.Reading.{numberOf};

@@ -40,7 +40,8 @@ pub extern "C" fn plankeeper_shard_known_count(s: &Words) -> usize
     queries::known_count(s)
 }
 
-// The transaction at a place of those that it knows: its outcome here, its words and the verdicts heard; or 3 and zeros.
+// The transaction at a place of those that it knows: its outcome here, its words and the verdicts heard; or 3 and
+// zeros.
 #[no_mangle]
 pub extern "C" fn plankeeper_shard_known_at(s: &Words, place: usize, known: &mut [u32; 43]) -> u32
     requires { ⌜ Sound (now s) ⌝ }

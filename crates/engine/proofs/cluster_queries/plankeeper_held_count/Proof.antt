@@ -10,9 +10,8 @@ held-count-requires c κs = search needs
 
 returns : tie.Need-returns
 returns c =
-    let after-narrow : tie.After-narrow = search in
-    let narrow = after-narrow .narrow in
-    rw (← narrow .ensures) (c .held-count .ensures)
+    let narrowed : tie.After-narrow = search in
+    rw (← narrowed .narrow .ensures) (c .held-count .ensures)
 
 pub plankeeper-held-count-spec : {M : Type 1} → statement M
 plankeeper-held-count-spec = tie.close (tie.spec narrow-requires held-count-requires returns)

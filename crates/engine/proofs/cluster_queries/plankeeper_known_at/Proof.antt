@@ -20,15 +20,16 @@ known-code-requires c κs = search needs
 
 returns : tie.Need-returns
 returns c =
-    let after-outcome-at : tie.After-outcome-at = search in
-    let after-known-words : tie.After-known-words = search in
-    let after-known-at : tie.After-known-at = search in
-    let after-narrow : tie.After-narrow = search in
-    let narrow = after-narrow .narrow in
-    let known-at = after-known-at .known-at in
-    let outcome-at = after-outcome-at .outcome-at in
-    let known-words = after-known-words .known-words in
-    rw (← narrow .ensures) (tells-known (known-at .ensures) (outcome-at .ensures) (c .known-code .ensures) (known-words .ensures))
+    let outcome : tie.After-outcome-at = search in
+    let words : tie.After-known-words = search in
+    let known : tie.After-known-at = search in
+    let narrowed : tie.After-narrow = search in
+    rw (← narrowed .narrow .ensures)
+    (tells-known
+    (known .known-at .ensures)
+    (outcome .outcome-at .ensures)
+    (c .known-code .ensures)
+    (words .known-words .ensures))
 
 pub plankeeper-known-at-spec : {M : Type 1} → statement M
 plankeeper-known-at-spec =

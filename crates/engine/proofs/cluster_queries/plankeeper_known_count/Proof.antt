@@ -10,9 +10,8 @@ known-count-requires c κs = search needs
 
 returns : tie.Need-returns
 returns c =
-    let after-narrow : tie.After-narrow = search in
-    let narrow = after-narrow .narrow in
-    rw (← narrow .ensures) (c .known-count .ensures)
+    let narrowed : tie.After-narrow = search in
+    rw (← narrowed .narrow .ensures) (c .known-count .ensures)
 
 pub plankeeper-known-count-spec : {M : Type 1} → statement M
 plankeeper-known-count-spec = tie.close (tie.spec narrow-requires known-count-requires returns)

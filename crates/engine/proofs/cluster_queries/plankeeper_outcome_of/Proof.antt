@@ -15,11 +15,9 @@ known-code-requires c κs = search needs
 
 returns : tie.Need-returns
 returns c =
-    let after-outcome-of : tie.After-outcome-of = search in
-    let after-narrow : tie.After-narrow = search in
-    let narrow = after-narrow .narrow in
-    let outcome-of = after-outcome-of .outcome-of in
-    rw (← narrow .ensures) (c .known-code .ensures ∙ ap knownCode (outcome-of .ensures))
+    let outcome : tie.After-outcome-of = search in
+    let narrowed : tie.After-narrow = search in
+    rw (← narrowed .narrow .ensures) (c .known-code .ensures ∙ ap knownCode (outcome .outcome-of .ensures))
 
 pub plankeeper-outcome-of-spec : {M : Type 1} → statement M
 plankeeper-outcome-of-spec =

@@ -17,13 +17,11 @@ held-code-requires c κs = search needs
 
 returns : tie.Need-returns
 returns c =
-    let after-token-words : tie.After-token-words = search in
-    let after-token-at : tie.After-token-at = search in
-    let after-narrow : tie.After-narrow = search in
-    let narrow = after-narrow .narrow in
-    let token-at = after-token-at .token-at in
-    let token-words = after-token-words .token-words in
-    rw (← narrow .ensures) (tells-token (token-at .ensures) (c .held-code .ensures) (token-words .ensures))
+    let words : tie.After-token-words = search in
+    let read : tie.After-token-at = search in
+    let narrowed : tie.After-narrow = search in
+    rw (← narrowed .narrow .ensures)
+    (tells-token (read .token-at .ensures) (c .held-code .ensures) (words .token-words .ensures))
 
 pub plankeeper-token-at-spec : {M : Type 1} → statement M
 plankeeper-token-at-spec =

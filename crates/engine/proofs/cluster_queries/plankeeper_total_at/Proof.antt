@@ -10,9 +10,8 @@ amount-at-requires c κs = search needs
 
 returns : tie.Need-returns
 returns c =
-    let after-narrow : tie.After-narrow = search in
-    let narrow = after-narrow .narrow in
-    rw (← narrow .ensures) (c .amount-at .ensures)
+    let narrowed : tie.After-narrow = search in
+    rw (← narrowed .narrow .ensures) (c .amount-at .ensures)
 
 pub plankeeper-total-at-spec : {M : Type 1} → statement M
 plankeeper-total-at-spec = tie.close (tie.spec narrow-requires amount-at-requires returns)

@@ -24,28 +24,21 @@ wide-requires c κs = search needs
 
 returns : tie.Need-returns
 returns c =
-    let after-call : tie.After-call = search in
-    let after-answer : tie.After-answer = search in
-    let after-read : tie.After-read = search in
+    let called : tie.After-call = search in
+    let answered : tie.After-answer = search in
+    let read : tie.After-read = search in
     let entry : tie.Start = search in
-    let args = entry .args in
-    let read = after-read .read in
-    let answer = after-answer .answer in
-    let answer-code = c .answer-code in
-    let call = after-call .call in
-    does-read (now (args .c)) (read .ensures) (answer .given .1) (cluster-does (answer-code .ensures) (call .ensures))
+    let does = cluster-does (c .answer-code .ensures) (called .call .ensures) in
+    does-read (now (entry .args .c)) (read .read .ensures) (answered .answer .given .1) does
 
 returns-2 : tie.Need-returns-2
 returns-2 c =
-    let after-answer2 : tie.After-answer2 = search in
-    let after-read : tie.After-read = search in
+    let answered : tie.After-answer2 = search in
+    let read : tie.After-read = search in
     let entry : tie.Start = search in
-    let args = entry .args in
-    let read = after-read .read in
-    let pre = entry .pre in
-    let answer2 = after-answer2 .answer2 in
-    let wide = c .wide in
-    does-refused (now (args .c)) (read .ensures) pre (answer2 .given .1) (wide .ensures .0)
+    does-refused (now (entry .args .c)) (read .read .ensures) (entry .pre)
+    (answered .answer2 .given .1)
+    (c .wide .ensures .0)
 
 pub plankeeper-apply-spec : {M : Type 1} → statement M
 plankeeper-apply-spec =

@@ -23,19 +23,13 @@ answer-code-requires c κs = search needs
 
 returns : tie.Need-returns
 returns c =
-    let after-deliver-vote : tie.After-deliver-vote = search in
-    let after-transaction-from : tie.After-transaction-from = search in
-    let after-narrow3 : tie.After-narrow3 = search in
-    let after-narrow2 : tie.After-narrow2 = search in
-    let after-narrow : tie.After-narrow = search in
-    let narrow = after-narrow .narrow in
-    let narrow2 = after-narrow2 .narrow2 in
-    let narrow3 = after-narrow3 .narrow3 in
-    let transaction-from = after-transaction-from .transaction-from in
-    let answer-code = c .answer-code in
-    let deliver-vote = after-deliver-vote .deliver-vote in
-    rw (← narrow .ensures, ← narrow2 .ensures, ← narrow3 .ensures, ← transaction-from .ensures)
-    (cluster-does (answer-code .ensures) (deliver-vote .ensures))
+    let done : tie.After-deliver-vote = search in
+    let made : tie.After-transaction-from = search in
+    let third : tie.After-narrow3 = search in
+    let second : tie.After-narrow2 = search in
+    let first : tie.After-narrow = search in
+    rw (← first .narrow .ensures, ← second .narrow2 .ensures, ← third .narrow3 .ensures, ← made .transaction-from .ensures)
+    (cluster-does (c .answer-code .ensures) (done .deliver-vote .ensures))
 
 pub plankeeper-deliver-spec : {M : Type 1} → statement M
 plankeeper-deliver-spec =

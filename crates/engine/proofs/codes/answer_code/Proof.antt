@@ -41,8 +41,8 @@ add-result-2 c = search needs
 returns : tie.Need-returns
 unfolding answerCode
 returns c =
-    let after-answer : tie.After-answer = search in
-    rw (after-answer .answer .given .1) (c .wide .ensures .0)
+    let answered : tie.After-answer = search in
+    rw (answered .answer .given .1) (c .wide .ensures .0)
 
 returns-2 : tie.Need-returns-2
 unfolding answerCode
@@ -51,20 +51,20 @@ returns-2 c = rw (c .enum-told .given .1) refl
 returns-3 : tie.Need-returns-3
 unfolding answerCode
 returns-3 c =
-    let after-answer2 : tie.After-answer2 = search in
-    rw (after-answer2 .answer2 .given .1) (c .registered-code .ensures)
+    let answered : tie.After-answer2 = search in
+    rw (answered .answer2 .given .1) (c .registered-code .ensures)
 
 returns-4 : tie.Need-returns-4
 unfolding answerCode
 returns-4 c =
-    let after-answer3 : tie.After-answer3 = search in
-    rw (after-answer3 .answer3 .given .1) (ap (λ (n : ℕ). 300 + n) (c .outcome-code .ensures .0))
+    let answered : tie.After-answer3 = search in
+    rw (answered .answer3 .given .1) (ap (λ (n : ℕ). 300 + n) (c .outcome-code .ensures .0))
 
 returns-5 : tie.Need-returns-5
 unfolding answerCode
 returns-5 c =
-    let after-answer4 : tie.After-answer4 = search in
-    rw (after-answer4 .answer4 .given .1) (ap (λ (n : ℕ). 400 + n) (c .outcome-code2 .ensures .0))
+    let answered : tie.After-answer4 = search in
+    rw (answered .answer4 .given .1) (ap (λ (n : ℕ). 400 + n) (c .outcome-code2 .ensures .0))
 
 pub answer-code-spec : {M : Type 1} → statement M
 answer-code-spec =

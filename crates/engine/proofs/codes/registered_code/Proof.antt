@@ -14,13 +14,13 @@ add-result-2 c = search needs
 
 returns : tie.Need-returns
 returns c =
-    let after-outcome-code : tie.After-outcome-code = search in
-    rw (c .if1 .taken) (omega (arith, after-outcome-code .outcome-code .ensures .0))
+    let code : tie.After-outcome-code = search in
+    rw (c .if1 .taken) (omega (arith, code .outcome-code .ensures .0))
 
 returns-2 : tie.Need-returns-2
 returns-2 c =
-    let after-outcome-code : tie.After-outcome-code = search in
-    rw (c .if1 .left) (omega (arith, after-outcome-code .outcome-code .ensures .0))
+    let code : tie.After-outcome-code = search in
+    rw (c .if1 .left) (omega (arith, code .outcome-code .ensures .0))
 
 pub registered-code-spec : {M : Type 1} → statement M
 registered-code-spec =

@@ -16,8 +16,8 @@ enum-told c = search needs
 returns : tie.Need-returns
 unfolding answerWords
 returns c =
-    let after-answer : tie.After-answer = search in
-    rw (after-answer .answer .given .1) (c .record-words .ensures)
+    let answered : tie.After-answer = search in
+    rw (answered .answer .given .1) (c .record-words .ensures)
 
 returns-2 : tie.Need-returns-2
 unfolding answerWords

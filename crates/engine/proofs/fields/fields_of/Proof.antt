@@ -15,9 +15,9 @@ joined-requires c κs = search needs
 returns : tie.Need-returns
 unfolding readingWords
 returns c =
-    let after-words-of : tie.After-words-of = search in
-    let after-answer-words : tie.After-answer-words = search in
-    rw (← after-answer-words .answer-words .ensures, ← after-words-of .words-of .ensures) (c .joined .ensures)
+    let words : tie.After-words-of = search in
+    let answered : tie.After-answer-words = search in
+    rw (← answered .answer-words .ensures, ← words .words-of .ensures) (c .joined .ensures)
 
 pub fields-of-spec : {M : Type 1} → statement M
 fields-of-spec =

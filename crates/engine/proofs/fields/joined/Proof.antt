@@ -33,8 +33,8 @@ loop-less c = search needs
 
 loop-again : tie.Need-loop-again Inv-loop μ-loop
 loop-again c =
-    let turn : tie.In-loop Inv-loop μ-loop = search in
-    from-first _ _ 7 35 _ _ (turn .before .loop .inv) (c .if1 .taken)
+    let turn : tie.At-loop Inv-loop μ-loop = search in
+    from-first _ _ 7 35 _ _ (turn .loop .inv) (c .if1 .taken)
 
 mul-all-3 : tie.Need-mul-all-3 Inv-loop μ-loop
 mul-all-3 c = search needs
@@ -53,13 +53,14 @@ loop-less-2 c = search needs
 
 loop-again-2 : tie.Need-loop-again-2 Inv-loop μ-loop
 loop-again-2 c =
-    let turn : tie.In-loop Inv-loop μ-loop = search in
-    from-second _ _ 7 35 _ _ (turn .before .loop .inv) (c .if1 .left) (turn .loop-test .taken)
+    let inside : tie.In-loop Inv-loop μ-loop = search in
+    let turn : tie.At-loop Inv-loop μ-loop = search in
+    from-second _ _ 7 35 _ _ (turn .loop .inv) (c .if1 .left) (inside .loop-test .taken)
 
 returns : tie.Need-returns Inv-loop μ-loop
 returns c =
-    let at-loop : tie.At-loop Inv-loop μ-loop = search in
-    joins _ _ 7 35 _ _ (at-loop .loop .inv) (c .loop-test .left)
+    let turn : tie.At-loop Inv-loop μ-loop = search in
+    joins _ _ 7 35 _ _ (turn .loop .inv) (c .loop-test .left)
 
 pub joined-spec : {M : Type 1} → statement M
 joined-spec =

@@ -33,22 +33,23 @@ wide-requires-6 c κs = search needs
 returns : tie.Need-returns
 unfolding recordWords
 returns c =
-    let after-fields : tie.After-fields = search in
-    rw (after-fields .fields .given .1, c .wide .ensures .0)
+    let fields : tie.After-fields = search in
+    rw (fields .fields .given .1, c .wide .ensures .0)
 
 returns-2 : tie.Need-returns-2
 unfolding recordWords
 returns-2 c =
-    let after-wide3 : tie.After-wide3 = search in
-    let sent : tie.After-wide2 = search in
-    rw (sent .before .before .fields2 .given .1, sent .wide2 .ensures .0, after-wide3 .wide3 .ensures .0, c .wide4 .ensures .0)
+    let third : tie.After-wide3 = search in
+    let second : tie.After-wide2 = search in
+    let fields : tie.After-fields2 = search in
+    rw (fields .fields2 .given .1, second .wide2 .ensures .0, third .wide3 .ensures .0, c .wide4 .ensures .0)
 
 returns-3 : tie.Need-returns-3
 unfolding recordWords
 returns-3 c =
-    let after-wide5 : tie.After-wide5 = search in
-    let after-fields3 : tie.After-fields3 = search in
-    rw (after-fields3 .fields3 .given .1, after-wide5 .wide5 .ensures .0, c .wide6 .ensures .0)
+    let wide : tie.After-wide5 = search in
+    let fields : tie.After-fields3 = search in
+    rw (fields .fields3 .given .1, wide .wide5 .ensures .0, c .wide6 .ensures .0)
 
 pub record-words-spec : {M : Type 1} → statement M
 record-words-spec =

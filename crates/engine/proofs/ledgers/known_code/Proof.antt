@@ -16,9 +16,8 @@ enum-told c = search needs
 returns : tie.Need-returns
 unfolding knownCode
 returns c =
-    let after-outcome : tie.After-outcome = search in
-    let outcome = after-outcome .outcome in
-    rw (outcome .given .1) (c .outcome-code .ensures .0)
+    let found : tie.After-outcome = search in
+    rw (found .outcome .given .1) (c .outcome-code .ensures .0)
 
 returns-2 : tie.Need-returns-2
 unfolding knownCode

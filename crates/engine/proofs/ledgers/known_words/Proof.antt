@@ -12,9 +12,8 @@ with-heard-requires c κs = search needs
 returns : tie.Need-returns
 unfolding knownWords
 returns c =
-    let after-words-of : tie.After-words-of = search in
-    let words-of = after-words-of .words-of in
-    rw (← words-of .ensures) (c .with-heard .ensures)
+    let words : tie.After-words-of = search in
+    rw (← words .words-of .ensures) (c .with-heard .ensures)
 
 pub known-words-spec : {M : Type 1} → statement M
 known-words-spec = tie.close (tie.spec words-of-requires with-heard-requires returns)

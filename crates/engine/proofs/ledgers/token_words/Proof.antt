@@ -16,9 +16,8 @@ enum-told c = search needs
 returns : tie.Need-returns
 unfolding tokenWords
 returns c =
-    let after-token : tie.After-token = search in
-    let token = after-token .token in
-    rw (token .given .1, c .wide .ensures .0) refl
+    let token : tie.After-token = search in
+    rw (token .token .given .1, c .wide .ensures .0) refl
 
 returns-2 : tie.Need-returns-2
 unfolding tokenWords

@@ -34,9 +34,8 @@ loop-less c = search needs
 
 loop-again : tie.Need-loop-again Inv-loop μ-loop
 loop-again c =
-    let at-loop : tie.At-loop Inv-loop μ-loop = search in
-    let loop = at-loop .loop in
-    from-first _ _ 35 8 _ _ (loop .inv) (c .if1 .taken)
+    let turn : tie.At-loop Inv-loop μ-loop = search in
+    from-first _ _ 35 8 _ _ (turn .loop .inv) (c .if1 .taken)
 
 array-read-wide : tie.Need-array-read-wide Inv-loop μ-loop
 array-read-wide c = search needs
@@ -55,19 +54,15 @@ loop-less-2 c = search needs
 
 loop-again-2 : tie.Need-loop-again-2 Inv-loop μ-loop
 loop-again-2 c =
-    let else1 : tie.Else1 Inv-loop μ-loop = search in
-    let in-loop : tie.In-loop Inv-loop μ-loop = search in
-    let at-loop : tie.At-loop Inv-loop μ-loop = search in
-    let loop = at-loop .loop in
-    let if1 = else1 .if1 in
-    let loop-test = in-loop .loop-test in
-    rw (c .wide .ensures .0) (from-second _ _ 35 8 _ _ (loop .inv) (if1 .left) (loop-test .taken))
+    let no : tie.Else1 Inv-loop μ-loop = search in
+    let inside : tie.In-loop Inv-loop μ-loop = search in
+    let turn : tie.At-loop Inv-loop μ-loop = search in
+    rw (c .wide .ensures .0) (from-second _ _ 35 8 _ _ (turn .loop .inv) (no .if1 .left) (inside .loop-test .taken))
 
 returns : tie.Need-returns Inv-loop μ-loop
 returns c =
-    let at-loop : tie.At-loop Inv-loop μ-loop = search in
-    let loop = at-loop .loop in
-    joins _ _ 35 8 _ _ (loop .inv) (c .loop-test .left)
+    let turn : tie.At-loop Inv-loop μ-loop = search in
+    joins _ _ 35 8 _ _ (turn .loop .inv) (c .loop-test .left)
 
 pub with-heard-spec : {M : Type 1} → statement M
 with-heard-spec =

@@ -22,14 +22,14 @@ cast-result c = search needs
 returns : tie.Need-returns
 unfolding codeOf
 returns c =
-    let after-answer : tie.After-answer = search in
-    rw (after-answer .answer .given .1) refl
+    let answered : tie.After-answer = search in
+    rw (answered .answer .given .1) refl
 
 returns-2 : tie.Need-returns-2
 unfolding codeOf
 returns-2 c =
-    let after-answer2 : tie.After-answer2 = search in
-    rw (after-answer2 .answer2 .given .1, c .wide .ensures .0) refl
+    let answered : tie.After-answer2 = search in
+    rw (answered .answer2 .given .1, c .wide .ensures .0) refl
 
 pub code-spec : {M : Type 1} → statement M
 code-spec =

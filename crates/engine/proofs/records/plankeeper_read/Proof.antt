@@ -14,9 +14,9 @@ number-of-requires c κs = search needs
 
 returns : tie.Need-returns
 returns c =
-    let after-fields-of : tie.After-fields-of = search in
-    let after-read : tie.After-read = search in
-    fills (after-read .read .ensures) (c .number-of .ensures) (after-fields-of .fields-of .ensures)
+    let fields : tie.After-fields-of = search in
+    let read : tie.After-read = search in
+    fills (read .read .ensures) (c .number-of .ensures) (fields .fields-of .ensures)
 
 pub plankeeper-read-spec : {M : Type 1} → statement M
 plankeeper-read-spec =

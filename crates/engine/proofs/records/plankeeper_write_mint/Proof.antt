@@ -21,8 +21,10 @@ same-length c = search needs
 returns : tie.Need-returns
 returns c =
     let wrote : tie.After-write-mint = search in
-    let narrowed = wrote .before .before in
-    rw (← narrowed .before .narrow .ensures, ← narrowed .narrow2 .ensures) (encodes (wrote .write-mint .ensures) (c .code .ensures))
+    let second : tie.After-narrow2 = search in
+    let first : tie.After-narrow = search in
+    rw (← first .narrow .ensures, ← second .narrow2 .ensures)
+    (encodes (wrote .write-mint .ensures) (c .code .ensures))
 
 pub plankeeper-write-mint-spec : {M : Type 1} → statement M
 plankeeper-write-mint-spec =

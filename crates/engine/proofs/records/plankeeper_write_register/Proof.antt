@@ -21,8 +21,10 @@ same-length c = search needs
 returns : tie.Need-returns
 returns c =
     let wrote : tie.After-write-register = search in
-    let told = wrote .before .before in
-    rw (← told .before .narrow .ensures, ← told .transaction-from .ensures) (encodes (wrote .write-register .ensures) (c .code .ensures))
+    let made : tie.After-transaction-from = search in
+    let narrowed : tie.After-narrow = search in
+    rw (← narrowed .narrow .ensures, ← made .transaction-from .ensures)
+    (encodes (wrote .write-register .ensures) (c .code .ensures))
 
 pub plankeeper-write-register-spec : {M : Type 1} → statement M
 plankeeper-write-register-spec =

@@ -27,9 +27,11 @@ same-length c = search needs
 returns : tie.Need-returns
 returns c =
     let wrote : tie.After-write-vote = search in
-    let told = wrote .before .before in
-    let said = told .before in
-    rw (← said .before .before .narrow .ensures, ← said .before .narrow2 .ensures, ← said .narrow3 .ensures, ← told .transaction-from .ensures)
+    let made : tie.After-transaction-from = search in
+    let third : tie.After-narrow3 = search in
+    let second : tie.After-narrow2 = search in
+    let first : tie.After-narrow = search in
+    rw (← first .narrow .ensures, ← second .narrow2 .ensures, ← third .narrow3 .ensures, ← made .transaction-from .ensures)
     (encodes (wrote .write-vote .ensures) (c .code .ensures))
 
 pub plankeeper-write-vote-spec : {M : Type 1} → statement M

@@ -17,13 +17,14 @@ known-code-requires c κs = search needs
 
 returns : tie.Need-returns
 returns c =
-    let after-outcome-at : tie.After-outcome-at = search in
-    let after-known-words : tie.After-known-words = search in
-    let after-known-at : tie.After-known-at = search in
-    let known-at = after-known-at .known-at in
-    let outcome-at = after-outcome-at .outcome-at in
-    let known-words = after-known-words .known-words in
-    tells-known (known-at .ensures) (outcome-at .ensures) (c .known-code .ensures) (known-words .ensures)
+    let outcome : tie.After-outcome-at = search in
+    let words : tie.After-known-words = search in
+    let known : tie.After-known-at = search in
+    tells-known
+    (known .known-at .ensures)
+    (outcome .outcome-at .ensures)
+    (c .known-code .ensures)
+    (words .known-words .ensures)
 
 pub plankeeper-shard-known-at-spec : {M : Type 1} → statement M
 plankeeper-shard-known-at-spec =

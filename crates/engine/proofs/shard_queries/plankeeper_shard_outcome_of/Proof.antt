@@ -12,9 +12,8 @@ known-code-requires c κs = search needs
 
 returns : tie.Need-returns
 returns c =
-    let after-outcome-of : tie.After-outcome-of = search in
-    let outcome-of = after-outcome-of .outcome-of in
-    c .known-code .ensures ∙ ap knownCode (outcome-of .ensures)
+    let outcome : tie.After-outcome-of = search in
+    c .known-code .ensures ∙ ap knownCode (outcome .outcome-of .ensures)
 
 pub plankeeper-shard-outcome-of-spec : {M : Type 1} → statement M
 plankeeper-shard-outcome-of-spec =

@@ -14,11 +14,9 @@ held-code-requires c κs = search needs
 
 returns : tie.Need-returns
 returns c =
-    let after-token-words : tie.After-token-words = search in
-    let after-token-at : tie.After-token-at = search in
-    let token-at = after-token-at .token-at in
-    let token-words = after-token-words .token-words in
-    tells-token (token-at .ensures) (c .held-code .ensures) (token-words .ensures)
+    let words : tie.After-token-words = search in
+    let read : tie.After-token-at = search in
+    tells-token (read .token-at .ensures) (c .held-code .ensures) (words .token-words .ensures)
 
 pub plankeeper-shard-token-at-spec : {M : Type 1} → statement M
 plankeeper-shard-token-at-spec =

@@ -60,8 +60,9 @@ element-copy-out-t30 c = search needs
 returns : tie.Need-returns
 unfolding inputAt
 returns c =
-    let read : tie.After-narrow2 = search in
-    rw (read .before .before .before .narrow .ensures, read .narrow2 .ensures)
+    let second : tie.After-narrow2 = search in
+    let first : tie.After-narrow = search in
+    rw (first .narrow .ensures, second .narrow2 .ensures)
 
 pub input-from-spec : {M : Type 1} → statement M
 input-from-spec =

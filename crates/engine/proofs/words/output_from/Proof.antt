@@ -39,8 +39,8 @@ element-copy-out-t18 c = search needs
 returns : tie.Need-returns
 unfolding outputAt
 returns c =
-    let after-narrow : tie.After-narrow = search in
-    rw (after-narrow .narrow .ensures)
+    let narrowed : tie.After-narrow = search in
+    rw (narrowed .narrow .ensures)
 
 pub output-from-spec : {M : Type 1} → statement M
 output-from-spec =

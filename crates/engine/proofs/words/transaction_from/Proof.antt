@@ -46,20 +46,24 @@ returns : tie.Need-returns
 unfolding transactionFrom
 returns c =
     let count : tie.After-narrow = search in
-    let out4 = count .before .before .before in
-    let out2 = out4 .before .before in
-    let in4 = out2 .before .before in
-    let in2 = in4 .before .before in
+    let out4 : tie.After-output-from4 = search in
+    let out3 : tie.After-output-from3 = search in
+    let out2 : tie.After-output-from2 = search in
+    let out1 : tie.After-output-from = search in
+    let in4 : tie.After-input-from4 = search in
+    let in3 : tie.After-input-from3 = search in
+    let in2 : tie.After-input-from2 = search in
+    let in1 : tie.After-input-from = search in
     rw (
       c .narrow2 .ensures,
       count .narrow .ensures,
-      in2 .before .input-from .ensures,
+      in1 .input-from .ensures,
       in2 .input-from2 .ensures,
-      in4 .before .input-from3 .ensures,
+      in3 .input-from3 .ensures,
       in4 .input-from4 .ensures,
-      out2 .before .output-from .ensures,
+      out1 .output-from .ensures,
       out2 .output-from2 .ensures,
-      out4 .before .output-from3 .ensures,
+      out3 .output-from3 .ensures,
       out4 .output-from4 .ensures,
     )
 
