@@ -22,9 +22,11 @@ unfolding readingOf
 taken-of l = refl
 
 -- the record at a place ends within the bytes
-pub within : (l : List ℕ) (at : ℕ) {r : Reading} → at ≤ length l → Reads (take (length l - at) (drop at l)) r → at + r .taken ≤ length l
+pub within : (l : List ℕ) (at : ℕ) {r : Reading} → at ≤ length l → Reads (take (length l - at) (drop at l)) r
+    → at + r .taken ≤ length l
 within l at {r} h reads =
-    let e : r .taken ≡ takenOf (drop at l) = ap (λ (x : Reading). x .taken) (reads .whole ∙ ap readingOf (tail l at)) ∙ taken-of (drop at l) in
+    let e : r .taken ≡ takenOf (drop at l) =
+    ap (λ (x : Reading). x .taken) (reads .whole ∙ ap readingOf (tail l at)) ∙ taken-of (drop at l) in
     omega (arith, taken-within (drop at l), length-drop at l)
 
 -- the place behind what is taken, or the front, is where the next record is read
@@ -40,9 +42,11 @@ next-bytes l at h = go (eqb (at + takenOf (drop at l)) (length l)) refl
     size = ap length rest ∙ length-drop (at + takenOf (drop at l)) l
 
     go : (b : Bool) → eqb (at + takenOf (drop at l)) (length l) ≡ b
-        → drop (cond (eqb (at + takenOf (drop at l)) (length l)) 0 (at + takenOf (drop at l))) l ≡ nextBytes l (drop at l)
+        → drop (cond (eqb (at + takenOf (drop at l)) (length l)) 0 (at + takenOf (drop at l))) l
+        ≡ nextBytes l (drop at l)
     go true e =
-        let z : length (drop (takenOf (drop at l)) (drop at l)) ≡ 0 = omega (arith, size, eqb-true (at + takenOf (drop at l)) (length l) e) in
+        let z : length (drop (takenOf (drop at l)) (drop at l)) ≡ 0 =
+        omega (arith, size, eqb-true (at + takenOf (drop at l)) (length l) e) in
         rw (e, z) refl
     go false e =
         let n : (length (drop (takenOf (drop at l)) (drop at l)) ≡ 0 → ⊥)
@@ -76,8 +80,10 @@ next-within place size h e = rw e (go (eqb place size))
     go true = omega arith
     go false = h
 
-pub turn : (l : List ℕ) (records sum at left : ℕ) {r : Reading} {worth more next : ℕ} → Left l records sum at left → 0 < left
-    → Reads (take (length l - at) (drop at l)) r → worth ≡ worthOf (r .answer) (r .transaction) → more ≡ (sum + worth) % 2 ^ 64
+pub turn : (l : List ℕ) (records sum at left : ℕ) {r : Reading} {worth more next : ℕ} → Left l records sum at left
+    → 0 < left
+    → Reads (take (length l - at) (drop at l)) r → worth ≡ worthOf (r .answer) (r .transaction)
+    → more ≡ (sum + worth) % 2 ^ 64
     → next ≡ cond (eqb (at + r .taken) (length l)) 0 (at + r .taken)
     → Left l records more next (left - 1)
 turn l records sum at left {r} {worth} {more} {next} inv h reads ew em en =
@@ -95,6 +101,7 @@ turn l records sum at left {r} {worth} {more} {next} inv h reads ew em en =
       whole = omega (arith, es, inv .whole);
     }
 
-pub done : (l : List ℕ) (records sum at left : ℕ) → Left l records sum at left → left ≤ 0 → sum ≡ sumOf l l records % 2 ^ 64
+pub done : (l : List ℕ) (records sum at left : ℕ) → Left l records sum at left → left ≤ 0
+    → sum ≡ sumOf l l records % 2 ^ 64
 done l records sum at left inv h =
     omega (arith, inv .whole, inv .low, none-left l (drop at l) left h)

@@ -1,4 +1,5 @@
--- The sum over many records that are read one behind the other: what a benchmark compares, so that the reading cannot be left out.
+-- The sum over many records that are read one behind the other: what a benchmark compares, so that the reading cannot
+-- be left out.
 use Prim.Native.Nat.{ℕ, zero, suc, _+_}
 use mathlib.Core.Bool.{cond}
 use mathlib.Core.List.{List}
@@ -34,4 +35,5 @@ nextBytes whole left = cond (eqb (length (restOf left)) 0) whole (restOf left)
 -- the sum over so many records, from those that are left on
 unfoldable pub sumOf : List ℕ → List ℕ → ℕ → ℕ
 sumOf whole left zero = 0
-sumOf whole left (suc n) = worthOf (readingOf left .answer) (readingOf left .transaction) + sumOf whole (nextBytes whole left) n
+sumOf whole left (suc n) =
+    worthOf (readingOf left .answer) (readingOf left .transaction) + sumOf whole (nextBytes whole left) n

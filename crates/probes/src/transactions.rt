@@ -14,7 +14,8 @@ fn yes_or_no(answer: bool) -> u32
     if answer { 1 } else { 0 }
 }
 
-// The first of 3, 4, 5 that fits, where a shard has so many genesis indices (document 01: opening positions); 0 for none.
+// The first of 3, 4, 5 that fits, where a shard has so many genesis indices (document 01: opening positions); 0 for
+// none.
 #[no_mangle]
 pub extern "C" fn probe_cause(genesis: u32, transaction: &[u32; 35]) -> u32
     ensures { λ r. ⌜ r ≡ causeOf (byteOf genesis) (transactionFrom (now (transaction .entry))) ⌝ }

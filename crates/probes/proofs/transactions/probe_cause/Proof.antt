@@ -17,9 +17,10 @@ wide-requires c κs = search needs
 
 returns : tie.Need-returns
 returns c =
-    let after-cause : tie.After-cause = search in
-    let told : tie.After-transaction-from = search in
-    rw (← told .before .narrow .ensures, ← told .transaction-from .ensures) (c .wide .ensures .0 ∙ after-cause .cause .ensures)
+    let found : tie.After-cause = search in
+    let made : tie.After-transaction-from = search in
+    let narrowed : tie.After-narrow = search in
+    rw (← narrowed .narrow .ensures, ← made .transaction-from .ensures) (c .wide .ensures .0 ∙ found .cause .ensures)
 
 pub probe-cause-spec : {M : Type 1} → statement M
 probe-cause-spec =

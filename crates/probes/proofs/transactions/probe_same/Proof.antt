@@ -18,10 +18,11 @@ yes-or-no-requires c κs = search needs
 
 returns : tie.Need-returns
 returns c =
-    let after-same-transaction : tie.After-same-transaction = search in
-    let told : tie.After-transaction-from2 = search in
-    rw (← told .before .transaction-from .ensures, ← told .transaction-from2 .ensures)
-    (c .yes-or-no .ensures ∙ ap yes (after-same-transaction .same-transaction .ensures))
+    let tested : tie.After-same-transaction = search in
+    let second : tie.After-transaction-from2 = search in
+    let first : tie.After-transaction-from = search in
+    rw (← first .transaction-from .ensures, ← second .transaction-from2 .ensures)
+    (c .yes-or-no .ensures ∙ ap yes (tested .same-transaction .ensures))
 
 pub probe-same-spec : {M : Type 1} → statement M
 probe-same-spec =

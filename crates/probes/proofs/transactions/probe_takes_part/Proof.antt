@@ -18,9 +18,11 @@ yes-or-no-requires c κs = search needs
 
 returns : tie.Need-returns
 returns c =
-    let after-takes-part : tie.After-takes-part = search in
-    let told : tie.After-transaction-from = search in
-    rw (← told .before .narrow .ensures, ← told .transaction-from .ensures) (c .yes-or-no .ensures ∙ ap yes (after-takes-part .takes-part .ensures))
+    let tested : tie.After-takes-part = search in
+    let made : tie.After-transaction-from = search in
+    let narrowed : tie.After-narrow = search in
+    rw (← narrowed .narrow .ensures, ← made .transaction-from .ensures)
+    (c .yes-or-no .ensures ∙ ap yes (tested .takes-part .ensures))
 
 pub probe-takes-part-spec : {M : Type 1} → statement M
 probe-takes-part-spec =

@@ -37,8 +37,9 @@ wrapping-add-u64-requires c κs = search needs
 next-place-requires : tie.Need-next-place-requires Inv-loop μ-loop
 next-place-requires c κs =
     let read : tie.After-read Inv-loop μ-loop = search in
-    let turned = read .before .before .before in
-    within (now (turned .before .before .args .bytes)) (turned .loop .at) (turned .loop .inv .place) (read .read .ensures)
+    let turn : tie.At-loop Inv-loop μ-loop = search in
+    let entry : tie.Start Inv-loop μ-loop = search in
+    within (now (entry .args .bytes)) (turn .loop .at) (turn .loop .inv .place) (read .read .ensures)
 
 sub-left : tie.Need-sub-left Inv-loop μ-loop
 sub-left c = search needs
@@ -48,21 +49,27 @@ loop-less c = search needs
 
 loop-again : tie.Need-loop-again Inv-loop μ-loop
 loop-again c =
-    let after-wrapping-add-u64 : tie.After-wrapping-add-u64 Inv-loop μ-loop = search in
-    let after-worth : tie.After-worth Inv-loop μ-loop = search in
+    let added : tie.After-wrapping-add-u64 Inv-loop μ-loop = search in
+    let worth : tie.After-worth Inv-loop μ-loop = search in
     let read : tie.After-read Inv-loop μ-loop = search in
-    let test = read .before .before in
-    let turned = test .before in
-    let entry = turned .before .before in
-    turn (now (entry .args .bytes)) (entry .args .records) (turned .loop .sum) (turned .loop .at) (turned .loop .left) (turned .loop .inv)
-    (test .loop-test .taken) (read .read .ensures) (after-worth .worth .ensures) (after-wrapping-add-u64 .wrapping-add-u64 .ensures)
+    let inside : tie.In-loop Inv-loop μ-loop = search in
+    let at-turn : tie.At-loop Inv-loop μ-loop = search in
+    let entry : tie.Start Inv-loop μ-loop = search in
+    let loop = at-turn .loop in
+    turn (now (entry .args .bytes)) (entry .args .records) (loop .sum) (loop .at) (loop .left) (loop .inv)
+    (inside .loop-test .taken)
+    (read .read .ensures)
+    (worth .worth .ensures)
+    (added .wrapping-add-u64 .ensures)
     (c .next-place .ensures)
 
 returns : tie.Need-returns Inv-loop μ-loop
 returns c =
     let end : tie.At-loop Inv-loop μ-loop = search in
-    let entry = end .before .before in
-    done (now (entry .args .bytes)) (entry .args .records) (end .loop .sum) (end .loop .at) (end .loop .left) (end .loop .inv) (c .loop-test .left)
+    let entry : tie.Start Inv-loop μ-loop = search in
+    let loop = end .loop in
+    done (now (entry .args .bytes)) (entry .args .records) (loop .sum) (loop .at) (loop .left) (loop .inv)
+    (c .loop-test .left)
 
 pub probe-read-votes-spec : {M : Type 1} → statement M
 probe-read-votes-spec =

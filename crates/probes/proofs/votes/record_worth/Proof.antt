@@ -48,14 +48,16 @@ long-requires-3 c κs = search needs
 returns : tie.Need-returns
 unfolding recordWorth
 returns c =
-    let after-long : tie.After-long = search in
+    let sized : tie.After-long = search in
     let said : tie.After-wide3 = search in
-    let heard = said .before .before in
+    let sent : tie.After-wide2 = search in
+    let received : tie.After-wide = search in
+    let fields : tie.After-fields = search in
     rw (
-      heard .before .before .fields .given .1,
-      after-long .long .ensures .0,
-      heard .wide .ensures .0,
-      said .before .wide2 .ensures .0,
+      fields .fields .given .1,
+      sized .long .ensures .0,
+      received .wide .ensures .0,
+      sent .wide2 .ensures .0,
       said .wide3 .ensures .0,
       c .transaction-worth .ensures .0,
     )
@@ -63,15 +65,15 @@ returns c =
 returns-2 : tie.Need-returns-2
 unfolding recordWorth
 returns-2 c =
-    let after-wide4 : tie.After-wide4 = search in
-    let after-fields2 : tie.After-fields2 = search in
-    rw (after-fields2 .fields2 .given .1, c .long2 .ensures .0) (after-wide4 .wide4 .ensures .0)
+    let wide : tie.After-wide4 = search in
+    let fields : tie.After-fields2 = search in
+    rw (fields .fields2 .given .1, c .long2 .ensures .0) (wide .wide4 .ensures .0)
 
 returns-3 : tie.Need-returns-3
 unfolding recordWorth
 returns-3 c =
-    let after-fields3 : tie.After-fields3 = search in
-    rw (after-fields3 .fields3 .given .1) (c .long3 .ensures .0)
+    let fields : tie.After-fields3 = search in
+    rw (fields .fields3 .given .1) (c .long3 .ensures .0)
 
 pub record-worth-spec : {M : Type 1} → statement M
 record-worth-spec =

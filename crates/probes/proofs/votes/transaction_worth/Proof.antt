@@ -28,9 +28,9 @@ add-result-2 c = search needs
 returns : tie.Need-returns
 unfolding transactionWorth
 returns c =
-    let after-long2 : tie.After-long2 = search in
-    let after-long : tie.After-long = search in
-    (rw (after-long .long .ensures .0, after-long2 .long2 .ensures .0, c .long3 .ensures .0), omega arith)
+    let second : tie.After-long2 = search in
+    let first : tie.After-long = search in
+    (rw (first .long .ensures .0, second .long2 .ensures .0, c .long3 .ensures .0), omega arith)
 
 pub transaction-worth-spec : {M : Type 1} → statement M
 transaction-worth-spec =

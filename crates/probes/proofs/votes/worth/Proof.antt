@@ -24,15 +24,15 @@ long-requires c κs = search needs
 returns : tie.Need-returns
 unfolding worthOf
 returns c =
-    let after-answer : tie.After-answer = search in
-    rw (after-answer .answer .given .1) (c .record-worth .ensures)
+    let answered : tie.After-answer = search in
+    rw (answered .answer .given .1) (c .record-worth .ensures)
 
 returns-2 : tie.Need-returns-2
 unfolding worthOf
 returns-2 c =
-    let after-wide : tie.After-wide = search in
-    let after-answer2 : tie.After-answer2 = search in
-    rw (after-answer2 .answer2 .given .1, c .long .ensures .0, after-wide .wide .ensures .0)
+    let wide : tie.After-wide = search in
+    let answered : tie.After-answer2 = search in
+    rw (answered .answer2 .given .1, c .long .ensures .0, wide .wide .ensures .0)
 
 pub worth-spec : {M : Type 1} → statement M
 worth-spec =
