@@ -10,7 +10,7 @@ use Rattle.model.specs.Steps.{house, emptyLedger}
 use Rattle.model.specs.Cluster.{ledgerAt}
 use Rattle.shard.specs.View as shard
 use Rattle.cluster.specs.View.{view, shardAt, Sound}
-use Rattle.cluster.specs.Queries.{heldIn, totalHeld}
+use Rattle.model.specs.Totals.{heldIn, totalHeld}
 use Rattle.cluster.proofs.Shards.{ledger-of}
 
 total-map : {A B : Type 0} (f : B → ℕ) (g : A → B) (x : List A) → total f (map g x) ≡ total (λ (a : A). f (g a)) x

@@ -5,7 +5,7 @@ ghost use Rattle.model.specs.Steps.{house};
 ghost use Rattle.model.specs.Cluster.{ledgerAt};
 ghost use Rattle.shard.specs.Queries.{tokenAt, knownAt, outcomeAt, outcomeOfNumber};
 ghost use Rattle.cluster.specs.View.{view, Sound};
-ghost use Rattle.cluster.specs.Queries.{heldIn, totalHeld};
+ghost use Rattle.model.specs.Totals.{heldIn, totalHeld};
 use crate::Cluster;
 use model::Known;
 use shard::queries;

@@ -11,7 +11,7 @@ use lib.Seq.{drop-at}
 use Rattle.transaction.specs.declared.Transaction.{Transaction}
 use Rattle.transaction.specs.Lists.{firstOf}
 use Rattle.transaction.specs.Tokens.{zeroInput, zeroOutput, blankTransaction}
-use Rattle.transaction.specs.Checks.{house, registerChecks, voteChecks, mintChecks}
+use Rattle.transaction.specs.Checks.{houseGenesis, registerChecks, voteChecks, mintChecks}
 use Rattle.transaction.proofs.Slots.{four}
 use Rattle.transaction.proofs.Long.{Long}
 use Rattle.reader.specs.declared.Record.{Record}
@@ -108,13 +108,13 @@ module _ (r : ℕ) (t : Transaction) (l : List ℕ) where
       rw (taken-1 (registerBytes r t ++ l) register-whole refl)
       (drop-at (registerBytes r t) l 100 (length-register r t))
 
-  pub register-back : Long t → firstOf (registerChecks house r t) ≡ 0
+  pub register-back : Long t → firstOf (registerChecks houseGenesis r t) ≡ 0
       → readingOf (registerBytes r t ++ l) ≡ record { answer = Read (Register r); transaction = t; taken = 100 }
   unfolding registerBytes
   register-back long pass =
       let whole = registerBytes r t ++ l in
       let fields : transactionAt whole 2 ≡ t = behind-2 1 r (transactionBytes t ++ l) ∙ transaction-back t l long in
-      let checked = ap (λ (x : Transaction). firstOf (registerChecks house r x)) fields in
+      let checked = ap (λ (x : Transaction). firstOf (registerChecks houseGenesis r x)) fields in
       sym
       (reading-good whole register-whole
       (sym pass ∙ sym checked ∙ sym (cause-1 whole register-whole refl))
@@ -137,13 +137,13 @@ module _ (r s v : ℕ) (t : Transaction) (l : List ℕ) where
       rw (taken-2 (voteBytes r s v t ++ l) vote-whole refl)
       (drop-at (voteBytes r s v t) l 102 (length-vote r s v t))
 
-  pub vote-back : Long t → firstOf (voteChecks house r s v t) ≡ 0
+  pub vote-back : Long t → firstOf (voteChecks houseGenesis r s v t) ≡ 0
       → readingOf (voteBytes r s v t ++ l) ≡ record { answer = Read (Vote r s v); transaction = t; taken = 102 }
   unfolding voteBytes
   vote-back long pass =
       let whole = voteBytes r s v t ++ l in
       let fields : transactionAt whole 4 ≡ t = behind-4 2 r s v (transactionBytes t ++ l) ∙ transaction-back t l long in
-      let checked = ap (λ (x : Transaction). firstOf (voteChecks house r s v x)) fields in
+      let checked = ap (λ (x : Transaction). firstOf (voteChecks houseGenesis r s v x)) fields in
       sym
       (reading-good whole vote-whole
       (sym pass ∙ sym checked ∙ sym (cause-2 whole vote-whole refl))
@@ -171,14 +171,14 @@ module _ (r i o a : ℕ) (l : List ℕ) where
   unfolding wordAt wordOf mintBytes
   amount-back = word-back a
 
-  pub mint-back : firstOf (mintChecks house r i o a) ≡ 0
+  pub mint-back : firstOf (mintChecks houseGenesis r i o a) ≡ 0
       → readingOf (mintBytes r i o a ++ l)
       ≡ record { answer = Read (Mint r i o a); transaction = blankTransaction; taken = 11 }
   unfolding wordOf mintBytes
   mint-back pass =
       let whole = mintBytes r i o a ++ l in
-      let checked = ap (λ (x : ℕ). firstOf (mintChecks house r i x (wordAt whole 7))) owner-back
-      ∙ ap (λ (x : ℕ). firstOf (mintChecks house r i o x)) amount-back in
+      let checked = ap (λ (x : ℕ). firstOf (mintChecks houseGenesis r i x (wordAt whole 7))) owner-back
+      ∙ ap (λ (x : ℕ). firstOf (mintChecks houseGenesis r i o x)) amount-back in
       let fields = ap (λ (x : ℕ). Mint r i x (wordAt whole 7)) owner-back ∙ ap (λ (x : ℕ). Mint r i o x) amount-back in
       sym
       (reading-good whole mint-whole
@@ -206,15 +206,15 @@ pub written-reads-back : (fields : Record) (t : Transaction) (before : List ℕ)
 written-reads-back (Register r) t before long =
     by-cause (registerCause r t (length before)) (registerBytes r t) before
     (λ z.
-    let pass = fields-pass (registerChecks house r t) 100 (length before) (unfold registerCause in z) in
+    let pass = fields-pass (registerChecks houseGenesis r t) 100 (length before) (unfold registerCause in z) in
     rw (length-register r t) (register-back r t (drop 100 before) long pass))
 written-reads-back (Vote r s v) t before long =
     by-cause (voteCause r s v t (length before)) (voteBytes r s v t) before
     (λ z.
-    let pass = fields-pass (voteChecks house r s v t) 102 (length before) (unfold voteCause in z) in
+    let pass = fields-pass (voteChecks houseGenesis r s v t) 102 (length before) (unfold voteCause in z) in
     rw (length-vote r s v t) (vote-back r s v t (drop 102 before) long pass))
 written-reads-back (Mint r i o a) t before long =
     by-cause (mintCause r i o a (length before)) (mintBytes r i o a) before
     (λ z.
-    let pass = fields-pass (mintChecks house r i o a) 11 (length before) (unfold mintCause in z) in
+    let pass = fields-pass (mintChecks houseGenesis r i o a) 11 (length before) (unfold mintCause in z) in
     rw (length-mint r i o a) (mint-back r i o a (drop 11 before) pass))

@@ -9,7 +9,7 @@ use lib.Dec.{eqb, ltb}
 use lib.ListN.{length, getD, take, drop}
 use lib.Seq.{take-add, drop-drop, drop-cons}
 use Rattle.transaction.specs.Lists.{firstOf}
-use Rattle.transaction.specs.Checks.{house, registerChecks, voteChecks, mintChecks}
+use Rattle.transaction.specs.Checks.{houseGenesis, registerChecks, voteChecks, mintChecks}
 use Rattle.reader.specs.declared.Record.{Record}
 use Rattle.reader.specs.declared.Answer.the-variants.{Read, Refused}
 use Rattle.reader.specs.declared.Reading.{Reading}
@@ -189,15 +189,15 @@ module _ (l : List ℕ) (pass : readCause l ≡ 0) (room : ℕ) where
       by-kinds l h (recordCause (recordAt l) (transactionIn l) room ≡ firstOf enough)
       (λ k.
       rw (record-1 l h k, transaction-1 l h k, taken-1 l h k)
-      (first-behind (registerChecks house (byteAt l 1) (transactionAt l 2)) ((ltb room 100, 15) ∷ []) refl
+      (first-behind (registerChecks houseGenesis (byteAt l 1) (transactionAt l 2)) ((ltb room 100, 15) ∷ []) refl
       (sym (cause-1 l h k) ∙ pass)))
       (λ k.
       rw (record-2 l h k, transaction-2 l h k, taken-2 l h k)
-      (first-behind (voteChecks house (byteAt l 1) (byteAt l 2) (byteAt l 3) (transactionAt l 4))
+      (first-behind (voteChecks houseGenesis (byteAt l 1) (byteAt l 2) (byteAt l 3) (transactionAt l 4))
       ((ltb room 102, 15) ∷ []) refl (sym (cause-2 l h k) ∙ pass)))
       (λ k.
       rw (record-3 l h k, taken-3 l h k)
-      (first-behind (mintChecks house (byteAt l 1) (byteAt l 2) (wordAt l 3) (wordAt l 7)) ((ltb room 11, 15) ∷ [])
+      (first-behind (mintChecks houseGenesis (byteAt l 1) (byteAt l 2) (wordAt l 3) (wordAt l 7)) ((ltb room 11, 15) ∷ [])
       refl (sym (cause-3 l h k) ∙ pass)))
 
 -- The reader's two answers: a record, of which the checks pass, or a refusal with the number of the check.

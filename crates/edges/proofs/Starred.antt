@@ -70,7 +70,8 @@ use Rattle.model.specs.Shard.{
 }
 use Rattle.model.specs.Cluster.{gave, notGiven, atShard, clusterStep}
 use Rattle.model.specs.Model.{logAfter, mintedAfter, step, after, answers, play, playAnswers}
-use Rattle.edges.specs.Table.{totalHeld, idsHeld, readings, WholeRegistration, StarredTable}
+use Rattle.model.specs.Totals.{totalAmount, heldIn, totalHeld}
+use Rattle.edges.specs.Table.{idsHeld, readings, WholeRegistration, StarredTable}
 
 -- any 99 bytes of kind 1
 short : (bytes : List ℕ) → kindOf bytes ≡ 1 → length bytes ≡ 99 → readingOf bytes ≡ refusal 2 99
@@ -96,7 +97,7 @@ unfolding
     reservedBy reserved mintRefusals registerRefusals deliverForm deliverRefusals hear shardStep
     gave notGiven atShard clusterStep
     logAfter mintedAfter step after answers play playAnswers
-    totalHeld idsHeld readings
+    totalAmount heldIn totalHeld idsHeld readings
 starred = record {
   empty-input = (refl, refl, refl, refl, refl);
   length-of-kind-1 = (short, whole, refl, refl, refl, refl);

@@ -12,7 +12,7 @@ use Rattle.transaction.specs.declared.TokenId.{TokenId}
 use Rattle.transaction.specs.declared.Input.{Input}
 use Rattle.transaction.specs.declared.Output.{Output}
 use Rattle.transaction.specs.declared.Transaction.{Transaction}
-use Rattle.transaction.specs.Lists.{total, repeats, firstOf}
+use Rattle.transaction.specs.Lists.{repeats, firstOf}
 use Rattle.transaction.specs.Tokens.{zeroInput, zeroOutput, blankTransaction, sameToken}
 use Rattle.transaction.specs.Checks.{balanced, registerChecks}
 use Rattle.reader.specs.declared.Record.{Record}
@@ -30,21 +30,10 @@ use Rattle.model.specs.Answers.{carriedOut}
 use Rattle.model.specs.Steps.{Ledger, house}
 use Rattle.model.specs.Shard.{Call, mint, register, deliver}
 use Rattle.model.specs.Cluster.{emptyShards, ledgerAt}
+use Rattle.model.specs.Totals.{totalHeld}
 use Rattle.model.specs.Model.{play, playAnswers}
 
 -- ---- What is held
-
--- a token's amount (portions)
-abbrev pub tokenAmount : Token → ℕ
-tokenAmount held = held .amount
-
--- the amount held at a shard (pantry)
-abbrev pub ledgerAmount : Ledger → ℕ
-ledgerAmount ledger = total tokenAmount (ledger .tokens)
-
--- the amount held at all shards, which the listing's last line tells: the sum over the tokens held
-unfoldable pub totalHeld : List Ledger → ℕ
-totalHeld shards = total ledgerAmount shards
 
 -- a token's id (name) at a shard
 abbrev pub idAt : ℕ → Token → TokenId

@@ -6,7 +6,7 @@ ghost use Rattle.model.specs.Steps.{house};
 ghost use Rattle.model.specs.Cluster.{ledgerAt};
 ghost use Rattle.shard.specs.Queries.{outcomeOfNumber};
 ghost use Rattle.cluster.specs.View.{view, Sound};
-ghost use Rattle.cluster.specs.Queries.{heldIn, totalHeld};
+ghost use Rattle.model.specs.Totals.{heldIn, totalHeld};
 ghost use Rattle.engine.specs.Words.{byteOf};
 ghost use Rattle.engine.specs.Queries.{knownCode, TellsToken, TellsKnown};
 use crate::ledgers::held_code;

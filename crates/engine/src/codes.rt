@@ -23,7 +23,7 @@ fn registered_code(verdict: bool, o: Outcome) -> u32
     if verdict { 210 + n } else { 200 + n }
 }
 
-pub fn answer_code(answer: Answer) -> u32
+pub(crate) fn answer_code(answer: Answer) -> u32
     ensures { λ r. ⌜ r ≡ answerCode answer ⌝ }
 {
     match answer {

@@ -40,7 +40,7 @@ fn answer_words(answer: Answer) -> [u32; 7]
 }
 
 // The refusal's number; 0 where a record was read.
-pub fn number_of(answer: Answer) -> u32
+pub(crate) fn number_of(answer: Answer) -> u32
     ensures { λ r. ⌜ r ≡ numberOf answer ⌝ }
 {
     match answer {
@@ -67,7 +67,7 @@ fn joined(head: [u32; 7], words: [u32; 35]) -> [u32; 42]
     all
 }
 
-pub fn fields_of(reading: Reading) -> [u32; 42]
+pub(crate) fn fields_of(reading: Reading) -> [u32; 42]
     ensures { λ r. ⌜ r ≡ readingWords reading ⌝ }
 {
     let answer = reading.answer;

@@ -37,10 +37,10 @@
 // Refusals have the numbers of document 01's table. That document calls a shard a pantry, a cluster a round, a transaction a swap,
 // an owner a household, an amount portions, a genesis token an opening, and a token's creator and index its making swap and its position.
 
-pub mod words; // a transaction as 35 words, both ways
-pub mod codes; // an answer as a number
-pub mod fields; // what was read of a record, as 42 words
-pub mod ledgers; // a held token as 5 words, a known transaction as 43
+pub mod words; // a transaction as 35 words, both ways; internal, and public only because the crate `probes` uses it
+mod codes; // an answer as a number
+mod fields; // what was read of a record, as 42 words
+mod ledgers; // a held token as 5 words, a known transaction as 43
 pub mod records; // records read and written: plankeeper_read, _taken, _write_register, _write_vote, _write_mint
 pub mod clusters; // a cluster: plankeeper_words, _new, _apply, _mint, _register, _deliver
 pub mod cluster_queries; // plankeeper_held_count, _token_at, _known_count, _known_at, _outcome_of, _total_at, _total

@@ -2,7 +2,8 @@
 ghost use mathlib.Core.Path.{_≡_};
 ghost use lib.ListN.{length};
 ghost use Rattle.shard.specs.View.{view, Sound};
-ghost use Rattle.shard.specs.Queries.{outcomeOfNumber, totalAmount};
+ghost use Rattle.model.specs.Totals.{totalAmount};
+ghost use Rattle.shard.specs.Queries.{outcomeOfNumber};
 ghost use Rattle.engine.specs.Queries.{knownCode, TellsToken, TellsKnown};
 use crate::ledgers::held_code;
 use crate::ledgers::known_code;

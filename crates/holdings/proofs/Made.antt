@@ -11,7 +11,7 @@ use lib.Seq.{take-nil}
 use Rattle.transaction.specs.declared.Output.{Output}
 use Rattle.transaction.specs.declared.Transaction.{Transaction}
 use Rattle.transaction.specs.Tokens.{zeroOutput}
-use Rattle.transaction.proofs.Slots.{four}
+use Rattle.transaction.proofs.Slots.{above, four}
 use Rattle.model.specs.declared.Token.{Token}
 use Rattle.model.specs.Steps.{outputHere, tokenOf, tokensFrom, madeHere}
 use Rattle.loops.specs.Lists.{oneIf}
@@ -37,9 +37,6 @@ module _ (me number : ℕ) where
       go : (b : Bool) → cond b (tokenOf number index y ∷ made) made ≡ oneIf b (tokenOf number index y) ++ made
       go true = refl
       go false = refl
-
-  above : (n k : ℕ) → k < 4 → ltb k (suc (suc (suc (suc n)))) ≡ true
-  above n k h = lt-ltb k (suc (suc (suc (suc n)))) (omega arith)
 
   made-of : (a b c e : Output) (n : ℕ)
       → let made : ℕ → Output → List Token = λ k. madeFrom me number (ltb k n) k in

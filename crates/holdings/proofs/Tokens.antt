@@ -11,6 +11,7 @@ use Rattle.transaction.specs.declared.Input.{Input}
 use Rattle.transaction.specs.declared.Transaction.{Transaction}
 use Rattle.transaction.specs.Lists.{any}
 use Rattle.transaction.specs.Tokens.{zeroInput}
+use Rattle.transaction.proofs.Slots.{any-append}
 use Rattle.model.specs.declared.Token.{Token}
 use Rattle.model.specs.declared.Outcome.the-variants.{Commit}
 use Rattle.model.specs.Lists.{keep}
@@ -151,14 +152,6 @@ pack-next f l n ws vs w i s h e ey b =
 
 -- ---- Input after input
 
-any-more : {A : Type 0} (f : A → Bool) (a b : List A) → any f (a ++ b) ≡ any f a || any f b
-any-more f [] b = refl
-any-more f (x ∷ a) b = go (f x) (any-more f a b)
-  where
-    go : (c : Bool) → any f (a ++ b) ≡ any f a || any f b → c || any f (a ++ b) ≡ c || any f a || any f b
-    go true e = refl
-    go false e = e
-
 -- a change by inputs that goes input by input
 pub record InTurn (f : List Input → List Token → List Token) : Type 0 where
   pub none : (l : List Token) → f [] l ≡ l
@@ -178,7 +171,7 @@ pledges-in-turn number = record {
     nobody (x ∷ l) = ap (λ (m : List Token). x ∷ m) (nobody l)
 
     token : (a b : List Input) (x : Token) → pledgeIf number (a ++ b) x ≡ pledgeIf number b (pledgeIf number a x)
-    token a b x = rw (any-more (namedBy x) a b) (go (any (namedBy x) a))
+    token a b x = rw (any-append (namedBy x) a b) (go (any (namedBy x) a))
       where
         same : (c : Bool) → pledgedTo number x ≡ cond c (pledgedTo number x) (pledgedTo number x)
         same true = refl
@@ -206,7 +199,7 @@ destroying-in-turn = record { none = nobody; more = each; short = λ a l. keep-l
 
     each : (a b : List Input) (l : List Token) → keep (stays (a ++ b)) l ≡ keep (stays b) (keep (stays a) l)
     each a b [] = refl
-    each a b (x ∷ l) = rw (any-more (namedBy x) a b) (go (any (namedBy x) a) (each a b l))
+    each a b (x ∷ l) = rw (any-append (namedBy x) a b) (go (any (namedBy x) a) (each a b l))
       where
         go : (c : Bool) → keep (stays (a ++ b)) l ≡ keep (stays b) (keep (stays a) l)
             → cond (not (c || any (namedBy x) b)) (x ∷ keep (stays (a ++ b)) l) (keep (stays (a ++ b)) l)

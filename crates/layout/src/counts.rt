@@ -14,7 +14,7 @@ use crate::SHARD_WORDS;
 use crate::Words;
 
 // A word of a byte.
-pub fn byte(w: u32) -> u8
+pub(crate) fn byte(w: u32) -> u8
     ensures { λ r. ⌜ r ≡ w % 256 ⌝ }
 {
     (w % 256) as u8

@@ -22,7 +22,7 @@ use Rattle.reader.proofs.Cases.{reading-none}
 use Rattle.model.specs.Steps.{Ledger}
 use Rattle.model.proofs.Basics.{clash}
 use Rattle.cluster.specs.View.{view, Sound}
-use Rattle.cluster.specs.Queries.{totalHeld}
+use Rattle.model.specs.Totals.{totalHeld}
 use Rattle.cluster.proofs.Demand.{Cluster, Starts, started}
 use Rattle.cluster.proofs.References.{Place, refers}
 use Rattle.listing.specs.declared.Progress.{Progress}

@@ -10,7 +10,7 @@ use lib.ListN.{length, drop, length-drop}
 use Rattle.reader.specs.Reading.{headCause, takenOf, restOf}
 use Rattle.reader.proofs.Cases.{taken-all, taken-record}
 use Rattle.model.specs.Steps.{Ledger}
-use Rattle.cluster.specs.Queries.{totalHeld}
+use Rattle.model.specs.Totals.{totalHeld}
 use Rattle.listing.specs.Lines.{totalLine}
 use Rattle.listing.specs.Listing.{stepOf, listingWithin}
 

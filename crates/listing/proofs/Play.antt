@@ -16,7 +16,7 @@ use Rattle.model.specs.Steps.{house}
 use Rattle.model.specs.Shard.{Call}
 use Rattle.model.specs.Model as model
 use Rattle.model.specs.Model.{Model, emptyModel, play, playAnswers}
-use Rattle.cluster.specs.Queries.{totalHeld}
+use Rattle.model.specs.Totals.{totalHeld}
 use Rattle.calls.specs.Calls.{callOf}
 use Rattle.listing.specs.Lines.{lineOf, totalLine}
 use Rattle.listing.specs.Listing.{receiverOf, answerLine, shownAs, stepOf, listingWithin, listingOf}

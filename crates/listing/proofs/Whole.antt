@@ -17,7 +17,7 @@ use contract.Lifetimes.{Lfts}
 use Rattle.reader.specs.Reading.{restOf}
 use Rattle.model.specs.Steps.{Ledger}
 use Rattle.cluster.specs.View.{view, Sound}
-use Rattle.cluster.specs.Queries.{totalHeld}
+use Rattle.model.specs.Totals.{totalHeld}
 use Rattle.cluster.proofs.Demand.{Cluster, Starts, started}
 use Rattle.cluster.proofs.References.{Place, refers}
 use Rattle.listing.specs.declared.Listed.{Listed}

@@ -17,7 +17,7 @@ use Rattle.model.specs.Steps.{Ledger, house}
 use Rattle.model.specs.Cluster.{emptyShards, clusterStep}
 use Rattle.calls.specs.Calls.{callOf}
 use Rattle.cluster.specs.View.{view, Sound}
-use Rattle.cluster.specs.Queries.{totalHeld}
+use Rattle.model.specs.Totals.{totalHeld}
 use Rattle.listing.specs.declared.Listed.{Listed}
 use Rattle.listing.specs.Lines.{unplaced, placeWord, lineOf, totalLine}
 use Rattle.listing.specs.Parts.{Puts}

@@ -4,7 +4,7 @@ ghost use Prim.Native.Nat.{_+_, _≤_};
 ghost use lib.ListN.{length};
 ghost use Rattle.reader.specs.Reading.{numberOf};
 ghost use Rattle.cluster.specs.View.{view, Sound};
-ghost use Rattle.cluster.specs.Queries.{totalHeld};
+ghost use Rattle.model.specs.Totals.{totalHeld};
 ghost use Rattle.listing.specs.Lines.{unplaced, totalLine};
 ghost use Rattle.listing.specs.Parts.{Shows};
 ghost use Rattle.listing.specs.Listing.{receiverOf, Lists};

@@ -4,13 +4,14 @@ use mathlib.Core.Path.{_≡_, refl, sym, ap, _∙_}
 use mathlib.Core.Bool.{Bool, true, false, cond, _&&_, and-assoc, and-true}
 use mathlib.Core.List.{List, [], _∷_, _++_, append-assoc, append-nil}
 use native.Mathlib.Omega.{arith}
-use borrow.Author.Tests.{lt-ltb, ne-eqb}
+use borrow.Author.Tests.{ne-eqb}
 use lib.Dec.{eqb, ltb, eqb·suc-suc}
 use lib.ListN.{length, getD, take, drop}
 use lib.Seq.{take-nil}
 use Rattle.transaction.specs.Lists.{all}
-use Rattle.transaction.proofs.Slots.{four, slots-by}
+use Rattle.transaction.proofs.Slots.{above, four, slots-by}
 use Rattle.model.specs.Lists.{keep}
+use Rattle.model.proofs.Capacity.{keep-length}
 use Rattle.loops.specs.Lists.{oneIf}
 
 keep-one : {A : Type 0} (f : A → Bool) (a : A) (l : List A) → keep f (a ∷ l) ≡ oneIf (f a) a ++ keep f l
@@ -19,9 +20,6 @@ keep-one f a l = go (f a)
     go : (b : Bool) → cond b (a ∷ keep f l) (keep f l) ≡ oneIf b a ++ keep f l
     go true = refl
     go false = refl
-
-above : (n k : ℕ) → k < 4 → ltb k (suc (suc (suc (suc n)))) ≡ true
-above n k h = lt-ltb k (suc (suc (suc (suc n)))) (omega arith)
 
 pub nest : {A : Type 0} (p q r s : List A) → p ++ (q ++ (r ++ (s ++ []))) ≡ p ++ q ++ r ++ s
 nest p q r s = simp (append-nil, append-assoc)
@@ -84,14 +82,6 @@ module _ {A : Type 0} (d : A) (x : List A) (long : length x ≡ 4) where
       always (a ∷ l) = always l
 
 -- as many pass as there are: each passes
-keep-within : {A : Type 0} (f : A → Bool) (l : List A) → length (keep f l) ≤ length l
-keep-within f [] = omega arith
-keep-within f (a ∷ l) = go (f a) (keep-within f l)
-  where
-    go : (b : Bool) → length (keep f l) ≤ length l → length (cond b (a ∷ keep f l) (keep f l)) ≤ suc (length l)
-    go true h = omega arith
-    go false h = omega arith
-
 pub all-kept : {A : Type 0} (f : A → Bool) (l : List A) → eqb (length (keep f l)) (length l) ≡ all f l
 all-kept f [] = refl
 all-kept f (a ∷ l) = go (f a) (all-kept f l)
@@ -99,8 +89,4 @@ all-kept f (a ∷ l) = go (f a) (all-kept f l)
     go : (b : Bool) → eqb (length (keep f l)) (length l) ≡ all f l
         → eqb (length (cond b (a ∷ keep f l) (keep f l))) (suc (length l)) ≡ b && all f l
     go true h = eqb·suc-suc (length (keep f l)) (length l) ∙ h
-    go false h = ne-eqb (length (keep f l)) (suc (length l)) (λ e. omega (arith, keep-within f l))
-
-pub all-append : {A : Type 0} (f : A → Bool) (x y : List A) → all f (x ++ y) ≡ all f x && all f y
-all-append f [] y = refl
-all-append f (a ∷ x) y = ap (λ (b : Bool). f a && b) (all-append f x y) ∙ sym (and-assoc (f a) (all f x) (all f y))
+    go false h = ne-eqb (length (keep f l)) (suc (length l)) (λ e. omega (arith, keep-length f l))

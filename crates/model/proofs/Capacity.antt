@@ -12,6 +12,7 @@ use Rattle.transaction.specs.declared.Transaction.{Transaction}
 use Rattle.transaction.specs.Lists.{any, total}
 use Rattle.transaction.specs.Tokens.{usedOutputs, shardsOf}
 use Rattle.transaction.specs.Checks.{fieldsFit, namedTwice, balanced, causeOf}
+use Rattle.transaction.proofs.Slots.{total-append}
 use Rattle.model.specs.declared.Token.{Token}
 use Rattle.model.specs.declared.Known.{Known}
 use Rattle.model.specs.declared.Outcome.{Outcome}
@@ -92,11 +93,6 @@ keep-count f (x ∷ l) = go (f x) (keep-count f l)
     go : (b : Bool) → length (keep f l) ≡ total (λ x. cond (f x) 1 0) l → length (cond b (x ∷ keep f l) (keep f l)) ≡ cond b 1 0 + total (λ x. cond (f x) 1 0) l
     go true h = omega arith
     go false h = omega arith
-
--- the sum over two lists
-pub total-append : {A : Type 0} (f : A → ℕ) (a b : List A) → total f (a ++ b) ≡ total f a + total f b
-total-append f [] b = omega arith
-total-append f (x ∷ a) b = let h = total-append f a b in omega arith
 
 -- a sum after one element was replaced
 pub total-set : {A : Type 0} (f : A → ℕ) (l : List A) (i : ℕ) (a d : A) → i < length l → total f (set l i a) + f (getD l i d) ≡ total f l + f a

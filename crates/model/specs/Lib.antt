@@ -8,5 +8,6 @@ pub mod Steps
 pub mod Shard
 pub mod Fit
 pub mod Cluster
+pub mod Totals
 pub mod Model
 pub mod Demand

@@ -11,7 +11,7 @@ use lib.ListN.{length}
 use Rattle.transaction.specs.declared.Transaction.{Transaction}
 use Rattle.transaction.specs.Lists.{firstOf}
 use Rattle.transaction.specs.Tokens.{blankTransaction}
-use Rattle.transaction.specs.Checks.{house, shardFits, checks, causeOf, registerChecks, voteChecks, mintChecks}
+use Rattle.transaction.specs.Checks.{houseGenesis, shardFits, checks, causeOf, registerChecks, voteChecks, mintChecks}
 use Rattle.reader.specs.declared.Record.{Record}
 use Rattle.reader.specs.declared.Record.the-variants.{Register, Vote, Mint}
 use Rattle.reader.specs.declared.Answer.the-variants.{Read}
@@ -160,7 +160,7 @@ by-kinds l h P one two three = go (eqb (kindOf l) 1) (eqb (kindOf l) 2) refl ref
     go false false e f = three (third-kind (kindOf l) (eqb-false (kindOf l) 1 e) (eqb-false (kindOf l) 2 f) (known l h))
 
 module _ (l : List ℕ) (h : headCause l ≡ 0) (k : kindOf l ≡ 1) where
-  pub cause-1 : readCause l ≡ firstOf (registerChecks house (byteAt l 1) (transactionAt l 2))
+  pub cause-1 : readCause l ≡ firstOf (registerChecks houseGenesis (byteAt l 1) (transactionAt l 2))
   cause-1 = cause-of-body l h ∙ rw k refl
 
   pub record-1 : recordAt l ≡ Register (byteAt l 1)
@@ -178,7 +178,7 @@ module _ (l : List ℕ) (h : headCause l ≡ 0) (k : kindOf l ≡ 1) where
   long-1 = omega (arith, whole l h, length-1 (kindOf l) k)
 
 module _ (l : List ℕ) (h : headCause l ≡ 0) (k : kindOf l ≡ 2) where
-  pub cause-2 : readCause l ≡ firstOf (voteChecks house (byteAt l 1) (byteAt l 2) (byteAt l 3) (transactionAt l 4))
+  pub cause-2 : readCause l ≡ firstOf (voteChecks houseGenesis (byteAt l 1) (byteAt l 2) (byteAt l 3) (transactionAt l 4))
   cause-2 = cause-of-body l h ∙ rw k refl
 
   pub record-2 : recordAt l ≡ Vote (byteAt l 1) (byteAt l 2) (byteAt l 3)
@@ -196,7 +196,7 @@ module _ (l : List ℕ) (h : headCause l ≡ 0) (k : kindOf l ≡ 2) where
   long-2 = omega (arith, whole l h, length-2 (kindOf l) k)
 
 module _ (l : List ℕ) (h : headCause l ≡ 0) (k : kindOf l ≡ 3) where
-  pub cause-3 : readCause l ≡ firstOf (mintChecks house (byteAt l 1) (byteAt l 2) (wordAt l 3) (wordAt l 7))
+  pub cause-3 : readCause l ≡ firstOf (mintChecks houseGenesis (byteAt l 1) (byteAt l 2) (wordAt l 3) (wordAt l 7))
   cause-3 = cause-of-body l h ∙ rw k refl
 
   pub record-3 : recordAt l ≡ Mint (byteAt l 1) (byteAt l 2) (wordAt l 3) (wordAt l 7)
@@ -249,26 +249,26 @@ module _ (l : List ℕ) (h : headCause l ≡ 0) (k : (kindOf l ≡ 1) ⊎ (kindO
       (λ e. rw (length-2 (kindOf l) e) (sym (transaction-2 l h e)))
       k
 
-  cause-behind : readCause l ≡ cond (front l) (causeOf house (transactionIn l)) 3
+  cause-behind : readCause l ≡ cond (front l) (causeOf houseGenesis (transactionIn l)) 3
   unfolding causeOf
   cause-behind =
       ⊎-elim
       (λ e.
       rw (cause-1 l h e, transaction-1 l h e, e)
-      (one-row (shardFits (byteAt l 1)) (firstOf (checks house (transactionAt l 2)))))
+      (one-row (shardFits (byteAt l 1)) (firstOf (checks houseGenesis (transactionAt l 2)))))
       (λ e.
       rw (cause-2 l h e, transaction-2 l h e, e)
       (three-rows (shardFits (byteAt l 1)) (shardFits (byteAt l 2)) (leb (byteAt l 3) 1)
-      (firstOf (checks house (transactionAt l 4)))))
+      (firstOf (checks houseGenesis (transactionAt l 4)))))
       k
 
   module _ {fit : Bool} (e : fit ≡ front l) where
     pub front-fails : fit ≡ false → 3 ≡ readCause l
     front-fails n = sym (cause-behind ∙ rw (sym e ∙ n) refl)
 
-    pub front-passes : fit ≡ true → {found : ℕ} {t : Transaction} → t ≡ transactionIn l → found ≡ causeOf house t
+    pub front-passes : fit ≡ true → {found : ℕ} {t : Transaction} → t ≡ transactionIn l → found ≡ causeOf houseGenesis t
         → found ≡ readCause l
-    front-passes y et ef = ef ∙ ap (causeOf house) et ∙ sym (cause-behind ∙ rw (sym e ∙ y) refl)
+    front-passes y et ef = ef ∙ ap (causeOf houseGenesis) et ∙ sym (cause-behind ∙ rw (sym e ∙ y) refl)
 
 -- a whole reading keeps the reader's promise
 number-of : (n : ℕ) (fields : Record) → numberOf (answerOf n fields) ≡ n

@@ -8,7 +8,7 @@ use lib.ListN.{length, drop}
 use Rattle.transaction.specs.declared.Transaction.{Transaction}
 use Rattle.transaction.specs.Lists.{firstOf}
 use Rattle.transaction.specs.Tokens.{blankTransaction}
-use Rattle.transaction.specs.Checks.{house, registerChecks, voteChecks, mintChecks}
+use Rattle.transaction.specs.Checks.{houseGenesis, registerChecks, voteChecks, mintChecks}
 use Rattle.reader.specs.declared.Record.{Record}
 use Rattle.reader.specs.declared.Record.the-variants.{Register, Vote, Mint}
 use Rattle.reader.specs.declared.Answer.{Answer}
@@ -35,9 +35,9 @@ headChecks l =
 abbrev pub bodyChecks : List ℕ → List (Bool × ℕ)
 bodyChecks l =
     byKind (kindOf l)
-    (registerChecks house (byteAt l 1) (transactionAt l 2))
-    (voteChecks house (byteAt l 1) (byteAt l 2) (byteAt l 3) (transactionAt l 4))
-    (mintChecks house (byteAt l 1) (byteAt l 2) (wordAt l 3) (wordAt l 7))
+    (registerChecks houseGenesis (byteAt l 1) (transactionAt l 2))
+    (voteChecks houseGenesis (byteAt l 1) (byteAt l 2) (byteAt l 3) (transactionAt l 4))
+    (mintChecks houseGenesis (byteAt l 1) (byteAt l 2) (wordAt l 3) (wordAt l 7))
 
 -- the order: 2 for no bytes, then 1, 2, 3, 4, 5; 0 where a record is read
 unfoldable pub headCause : List ℕ → ℕ

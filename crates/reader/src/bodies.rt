@@ -3,7 +3,7 @@ ghost use mathlib.Core.Path.{_≡_};
 ghost use mathlib.Core.Bool.{cond, _&&_};
 ghost use mathlib.Core.Logic.{_⊎_};
 ghost use lib.Dec.{eqb, leb};
-ghost use Rattle.transaction.specs.Checks.{house, shardFits, causeOf};
+ghost use Rattle.transaction.specs.Checks.{houseGenesis, shardFits, causeOf};
 ghost use Rattle.reader.specs.Layout.{byteAt};
 ghost use Rattle.reader.specs.Reading.{kindOf, headCause, recordAt, readingOf, refusal};
 use crate::Answer;
@@ -20,7 +20,7 @@ use transaction::fields::shard_fits;
 use transaction::fields::two_inputs_fit;
 
 // A refusal, with the bytes that the record takes.
-pub fn refused(cause: u8, taken: usize) -> Reading
+pub(crate) fn refused(cause: u8, taken: usize) -> Reading
     ensures { λ r. ⌜ r ≡ refusal cause taken ⌝ }
 {
     Reading {
@@ -31,7 +31,7 @@ pub fn refused(cause: u8, taken: usize) -> Reading
 }
 
 // The fields in front of the transaction, of kind 1 or 2.
-pub fn front_fields(bytes: &[u8]) -> Record
+pub(crate) fn front_fields(bytes: &[u8]) -> Record
     requires { ⌜ (headCause (now bytes) ≡ 0) × ((kindOf (now bytes) ≡ 1) ⊎ (kindOf (now bytes) ≡ 2)) ⌝ }
     ensures { λ r. ⌜ r ≡ recordAt (now (bytes .entry)) ⌝ }
 {
@@ -49,7 +49,7 @@ pub fn front_fields(bytes: &[u8]) -> Record
 }
 
 // Check 3 of these fields.
-pub fn front_fits(bytes: &[u8]) -> bool
+pub(crate) fn front_fits(bytes: &[u8]) -> bool
     requires { ⌜ (headCause (now bytes) ≡ 0) × ((kindOf (now bytes) ≡ 1) ⊎ (kindOf (now bytes) ≡ 2)) ⌝ }
     ensures { λ r. ⌜ r ≡ cond (eqb (kindOf (now (bytes .entry))) 1)
         (shardFits (byteAt (now (bytes .entry)) 1))
@@ -65,8 +65,8 @@ pub fn front_fits(bytes: &[u8]) -> bool
 
 // The checks 3, 4 and 5 of the transaction, made of the parts that `transaction::checks::cause` is made of.
 // `read` alone calls it, so that the compiler makes it part of `read`, and stores no field before all are checked.
-pub fn cause_of(t: Transaction) -> u8
-    ensures { λ r. ⌜ r ≡ causeOf house t ⌝ }
+pub(crate) fn cause_of(t: Transaction) -> u8
+    ensures { λ r. ⌜ r ≡ causeOf houseGenesis t ⌝ }
 {
     let i = t.input_count;
     let o = t.output_count;
@@ -93,7 +93,7 @@ pub fn cause_of(t: Transaction) -> u8
     0
 }
 
-pub fn read_mint(bytes: &[u8]) -> Reading
+pub(crate) fn read_mint(bytes: &[u8]) -> Reading
     requires { ⌜ (headCause (now bytes) ≡ 0) × (kindOf (now bytes) ≡ 3) ⌝ }
     ensures { λ r. ⌜ r ≡ readingOf (now (bytes .entry)) ⌝ }
 {

@@ -20,7 +20,7 @@ fn four(a: u8, b: u8, c: u8, d: u8) -> u32
     ((wide(a) * 256 + wide(b)) * 256 + wide(c)) * 256 + wide(d)
 }
 
-pub fn word_at(bytes: &[u8], at: usize) -> u32
+pub(crate) fn word_at(bytes: &[u8], at: usize) -> u32
     requires { ⌜ at + 4 ≤ length (now bytes) ⌝ }
     ensures { λ r. ⌜ r ≡ wordAt (now (bytes .entry)) at ⌝ }
 {
@@ -77,7 +77,7 @@ fn outputs_at(bytes: &[u8], at: usize) -> [Output; 4]
     ]
 }
 
-pub fn transaction_at(bytes: &[u8], at: usize) -> Transaction
+pub(crate) fn transaction_at(bytes: &[u8], at: usize) -> Transaction
     requires { ⌜ at + 98 ≤ length (now bytes) ⌝ }
     ensures { λ r. ⌜ r ≡ transactionAt (now (bytes .entry)) at ⌝ }
 {

@@ -4,8 +4,8 @@ ghost use Rattle.reader.specs.Reading.{Reads, headCause, takenOf, restOf
 ghost use Rattle.reader.specs.Layout.{bodyLength};
 use transaction::Transaction;
 
-pub mod layout; // fields at their places
-pub mod bodies; // what `read` is made of
+mod layout; // fields at their places
+mod bodies; // what `read` is made of
 
 // The fields of a record beside its transaction, as they stand in the bytes.
 pub enum Record {

@@ -18,17 +18,14 @@ use Rattle.model.specs.declared.Outcome.the-variants.{Wait, Commit, Abort}
 use Rattle.model.specs.Lists.{keep}
 use Rattle.model.specs.Steps.{decide, outcomeOf, outputHere, outputsHere}
 use Rattle.model.specs.Shard.{ifUndecided, reservedBy, reserved}
+use Rattle.model.proofs.Basics.{all-append, all-map}
 use Rattle.model.proofs.Capacity.{keep-length}
 use Rattle.layout.specs.Layout.{knownSlots, shardOf, ledgerOf, noKnown, slotKnown}
 use Rattle.layout.proofs.Slots.{four-outputs}
 use Rattle.layout.proofs.Ledgers.{known-length, known-entry}
 use Rattle.loops.specs.Lists.{oneIf}
-use Rattle.loops.proofs.Fours.{keep-by, all-append}
+use Rattle.loops.proofs.Fours.{keep-by}
 use Rattle.registry.specs.Voted.{voted, inputVoted, outputVoted}
-
-all-map : {A B : Type 0} (f : B → Bool) (g : A → B) (x : List A) → all f (map g x) ≡ all (λ (a : A). f (g a)) x
-all-map f g [] = refl
-all-map f g (a ∷ x) = ap (λ (b : Bool). f (g a) && b) (all-map f g x)
 
 -- every shard of the transaction has voted: those of its inputs, and those of its outputs
 pub all-voted : (agreed : Bool) (heard : List ℕ) (t : Transaction) {i o : Bool}

@@ -10,6 +10,7 @@ use lib.ListN.{length, getD}
 use Rattle.transaction.specs.declared.Transaction.{Transaction}
 use Rattle.transaction.specs.Lists.{any}
 use Rattle.transaction.specs.Tokens.{sameTransaction}
+use Rattle.transaction.proofs.Slots.{and-left}
 use Rattle.model.specs.declared.Known.{Known}
 use Rattle.model.specs.Lists.{find}
 use Rattle.model.specs.Steps.{isFor, nothingKnown, heardFrom}
@@ -109,10 +110,6 @@ module _ (known : List Known) (one : OneEach known) (number : ℕ) {place : ℕ}
 
 -- ---- The tests
 
-and-first : (a b : Bool) → a && b ≡ true → a ≡ true
-and-first true b e = refl
-and-first false b e = e
-
 other-number : (t : Transaction) (k : Known) → hasNumber t k ≡ false → isFor t k ≡ false
 unfolding sameTransaction
 other-number t k e = rw e refl
@@ -125,10 +122,10 @@ asks-for t k e = go (hasNumber t k) refl
     go false q = absurd (false≢true (sym (other-number t k q) ∙ e))
 
 pub asks-other : (t : Transaction) → AsksNumber (t .number) (isOther t)
-asks-other t k e = and-first (hasNumber t k) (not (isFor t k)) e
+asks-other t k e = and-left (hasNumber t k) (not (isFor t k)) e
 
 asks-given : (sender verdict : ℕ) (t : Transaction) → AsksNumber (t .number) (hasGiven sender verdict t)
-asks-given sender verdict t k e = asks-for t k (and-first (isFor t k) (eqb (heardFrom sender k) (verdict + 1)) e)
+asks-given sender verdict t k e = asks-for t k (and-left (isFor t k) (eqb (heardFrom sender k) (verdict + 1)) e)
 
 -- has the shard given a vote
 module _ (ws : List ℕ) (most : shardOf ws .known ≤ knownSlots) (one : OneEach (ledgerOf ws .known))

@@ -4,7 +4,6 @@ use mathlib.Core.Bool.{Bool, cond, _&&_}
 use mathlib.Core.List.{List}
 use lib.Dec.{eqb, ltb}
 use lib.ListN.{length, getD}
-use Rattle.transaction.specs.Lists.{total}
 use Rattle.transaction.specs.Tokens.{blankTransaction}
 use Rattle.model.specs.declared.Token.{Token}
 use Rattle.model.specs.declared.Known.{Known}
@@ -43,11 +42,3 @@ outcomeAt known place = cond (ltb place (length known)) (outcome.Known (outcomeO
 -- the outcome of the known transaction of that number (document 01: of that swap)
 unfoldable pub outcomeOfNumber : List Known → ℕ → KnownOutcome
 outcomeOfNumber known number = outcomeAt known (find (isNumbered number) known)
-
--- the token's amount (document 01: portions)
-abbrev pub amountOf : Token → ℕ
-amountOf token = token .amount
-
--- the sum of the amounts (document 01: all portions of a pantry)
-unfoldable pub totalAmount : List Token → ℕ
-totalAmount tokens = total amountOf tokens

@@ -33,9 +33,8 @@ or-3 true q r = refl
 or-3 false q r = sym (or-assoc q r false)
 
 -- a count of four or more passes each test of the count
-module _ (n : ℕ) where
-  above : (k : ℕ) → k < 4 → ltb k (suc (suc (suc (suc n)))) ≡ true
-  above k h = lt-ltb k (suc (suc (suc (suc n)))) (omega arith)
+pub above : (n k : ℕ) → k < 4 → ltb k (suc (suc (suc (suc n)))) ≡ true
+above n k h = lt-ltb k (suc (suc (suc (suc n)))) (omega arith)
 
 module _ {A : Type 0} (u z : A → Bool) (a b c e : A) where
   slots-of : (n : ℕ)
@@ -207,7 +206,7 @@ module _ {A : Type 0} (d : A) (x : List A) (long : length x ≡ 4) where
       agree-of a b c e a' b' c' e' = simp (and-assoc, and-true)
 
 -- Sums: unused slots that are zero add nothing.
-total-append : {A : Type 0} (f : A → ℕ) (x y : List A) → total f (x ++ y) ≡ total f x + total f y
+pub total-append : {A : Type 0} (f : A → ℕ) (x y : List A) → total f (x ++ y) ≡ total f x + total f y
 total-append f [] y = omega arith
 total-append f (a ∷ x) y = omega (arith, total-append f x y)
 

@@ -79,8 +79,8 @@ unfoldable pub causeOf : ℕ → Transaction → ℕ
 causeOf genesis t = firstOf (checks genesis t)
 
 -- the genesis indices of a house: 0 to 127
-abbrev pub house : ℕ
-house = 128
+abbrev pub houseGenesis : ℕ
+houseGenesis = 128
 
 -- The fields of a record, by its kind; the shard that receives it, and of a vote the sender, are 0 to 7,
 -- and a verdict is 1 (yes) or 0 (no).

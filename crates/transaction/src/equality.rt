@@ -7,7 +7,7 @@ use crate::Output;
 use crate::TokenId;
 use crate::Transaction;
 
-pub fn same_token(a: TokenId, b: TokenId) -> bool
+pub(crate) fn same_token(a: TokenId, b: TokenId) -> bool
     ensures { λ r. ⌜ r ≡ sameToken a b ⌝ }
 {
     if a.creator != b.creator {
@@ -16,13 +16,13 @@ pub fn same_token(a: TokenId, b: TokenId) -> bool
     (a.shard == b.shard) & (a.index == b.index)
 }
 
-pub fn same_input(a: Input, b: Input) -> bool
+pub(crate) fn same_input(a: Input, b: Input) -> bool
     ensures { λ r. ⌜ r ≡ sameInput a b ⌝ }
 {
     same_token(a.token, b.token) & (a.owner == b.owner) & (a.amount == b.amount)
 }
 
-pub fn same_output(a: Output, b: Output) -> bool
+pub(crate) fn same_output(a: Output, b: Output) -> bool
     ensures { λ r. ⌜ r ≡ sameOutput a b ⌝ }
 {
     (a.shard == b.shard) & (a.owner == b.owner) & (a.amount == b.amount)

@@ -127,7 +127,7 @@ pub fn counts_fit(number: u32, inputs: u8, outputs: u8) -> bool
     (number != 0) & (1 <= inputs) & (inputs <= 4) & (1 <= outputs) & (outputs <= 4)
 }
 
-pub fn fields_fit(genesis: u8, t: Transaction) -> bool
+pub(crate) fn fields_fit(genesis: u8, t: Transaction) -> bool
     ensures { λ r. ⌜ r ≡ fieldsFit genesis t ⌝ }
 {
     let i = t.input_count;
@@ -147,7 +147,7 @@ pub fn fields_fit(genesis: u8, t: Transaction) -> bool
 }
 
 // Check 3 of a genesis token for a shard.
-pub fn mint_fits(genesis: u8, receiver: u8, index: u8, owner: u32, amount: u32) -> bool
+pub(crate) fn mint_fits(genesis: u8, receiver: u8, index: u8, owner: u32, amount: u32) -> bool
     ensures { λ r. ⌜ r ≡ mintFits genesis receiver index owner amount ⌝ }
 {
     shard_fits(receiver) & index_fits(genesis, 0, index) & value_fits(owner, amount)

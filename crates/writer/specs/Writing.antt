@@ -8,7 +8,7 @@ use lib.Dec.{eqb, ltb}
 use lib.ListN.{length, drop}
 use Rattle.transaction.specs.declared.Transaction.{Transaction}
 use Rattle.transaction.specs.Lists.{firstOf}
-use Rattle.transaction.specs.Checks.{house, registerChecks, voteChecks, mintChecks}
+use Rattle.transaction.specs.Checks.{houseGenesis, registerChecks, voteChecks, mintChecks}
 use Rattle.writer.specs.declared.Written.{Written}
 use Rattle.writer.specs.declared.Written.the-variants.{Bytes, Refused}
 
@@ -17,13 +17,13 @@ abbrev pub withRoom : List (Bool × ℕ) → ℕ → ℕ → ℕ
 withRoom fields size room = firstOf (fields ++ ((ltb room size, 15) ∷ []))
 
 unfoldable pub registerCause : ℕ → Transaction → ℕ → ℕ
-registerCause receiver t room = withRoom (registerChecks house receiver t) 100 room
+registerCause receiver t room = withRoom (registerChecks houseGenesis receiver t) 100 room
 
 unfoldable pub voteCause : ℕ → ℕ → ℕ → Transaction → ℕ → ℕ
-voteCause receiver sender verdict t room = withRoom (voteChecks house receiver sender verdict t) 102 room
+voteCause receiver sender verdict t room = withRoom (voteChecks houseGenesis receiver sender verdict t) 102 room
 
 unfoldable pub mintCause : ℕ → ℕ → ℕ → ℕ → ℕ → ℕ
-mintCause receiver index owner amount room = withRoom (mintChecks house receiver index owner amount) 11 room
+mintCause receiver index owner amount room = withRoom (mintChecks houseGenesis receiver index owner amount) 11 room
 
 -- document 01's number for each case of the answer, 0 where the record was written, and the answer of each number
 abbrev pub numberOf : Written → ℕ

@@ -82,7 +82,7 @@ fn put_transaction(out: &mut [u8], at: usize, t: Transaction)
 }
 
 // A whole record from the front; what stands behind it stays.
-pub fn put_register(out: &mut [u8], receiver: u8, t: Transaction)
+pub(crate) fn put_register(out: &mut [u8], receiver: u8, t: Transaction)
     requires { ⌜ 100 ≤ length (now out) ⌝ }
     ensures { λ _. ⌜ now (out .exit) ≡ registerBytes receiver t ++ drop 100 (now (out .entry)) ⌝ }
 {
@@ -91,7 +91,7 @@ pub fn put_register(out: &mut [u8], receiver: u8, t: Transaction)
     put_transaction(out, 2, t);
 }
 
-pub fn put_vote(out: &mut [u8], receiver: u8, sender: u8, verdict: u8, t: Transaction)
+pub(crate) fn put_vote(out: &mut [u8], receiver: u8, sender: u8, verdict: u8, t: Transaction)
     requires { ⌜ 102 ≤ length (now out) ⌝ }
     ensures { λ _. ⌜ now (out .exit) ≡ voteBytes receiver sender verdict t ++ drop 102 (now (out .entry)) ⌝ }
 {
@@ -102,7 +102,7 @@ pub fn put_vote(out: &mut [u8], receiver: u8, sender: u8, verdict: u8, t: Transa
     put_transaction(out, 4, t);
 }
 
-pub fn put_mint(out: &mut [u8], receiver: u8, index: u8, owner: u32, amount: u32)
+pub(crate) fn put_mint(out: &mut [u8], receiver: u8, index: u8, owner: u32, amount: u32)
     requires { ⌜ 11 ≤ length (now out) ⌝ }
     ensures { λ _. ⌜ now (out .exit) ≡ mintBytes receiver index owner amount ++ drop 11 (now (out .entry)) ⌝ }
 {

@@ -4,8 +4,8 @@ ghost use Rattle.writer.specs.Layout.{registerBytes, voteBytes, mintByte
 ghost use Rattle.writer.specs.Writing.{Writes, registerCause, voteCause, mintCause};
 use transaction::Transaction;
 
-pub mod layout; // fields at their places
-pub mod room; // the checks, with 15 behind the others
+mod layout; // fields at their places
+mod room; // the checks, with 15 behind the others
 
 // The bytes written, or the number of the refusal.
 pub enum Written {

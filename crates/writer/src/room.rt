@@ -4,7 +4,7 @@ ghost use Rattle.writer.specs.Writing.{registerCause, voteCause, mintCau
 use transaction::Transaction;
 use transaction::checks;
 
-pub fn register_cause(receiver: u8, t: Transaction, room: usize) -> u8
+pub(crate) fn register_cause(receiver: u8, t: Transaction, room: usize) -> u8
     ensures { λ r. ⌜ r ≡ registerCause receiver t room ⌝ }
 {
     let cause = checks::register_cause(128, receiver, t);
@@ -14,7 +14,7 @@ pub fn register_cause(receiver: u8, t: Transaction, room: usize) -> u8
     if room < 100 { 15 } else { 0 }
 }
 
-pub fn vote_cause(receiver: u8, sender: u8, verdict: u8, t: Transaction, room: usize) -> u8
+pub(crate) fn vote_cause(receiver: u8, sender: u8, verdict: u8, t: Transaction, room: usize) -> u8
     ensures { λ r. ⌜ r ≡ voteCause receiver sender verdict t room ⌝ }
 {
     let cause = checks::vote_cause(128, receiver, sender, verdict, t);
@@ -24,7 +24,7 @@ pub fn vote_cause(receiver: u8, sender: u8, verdict: u8, t: Transaction, room: u
     if room < 102 { 15 } else { 0 }
 }
 
-pub fn mint_cause(receiver: u8, index: u8, owner: u32, amount: u32, room: usize) -> u8
+pub(crate) fn mint_cause(receiver: u8, index: u8, owner: u32, amount: u32, room: usize) -> u8
     ensures { λ r. ⌜ r ≡ mintCause receiver index owner amount room ⌝ }
 {
     let cause = checks::mint_cause(128, receiver, index, owner, amount);

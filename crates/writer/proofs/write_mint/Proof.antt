@@ -2,7 +2,7 @@ use lib.ListN.{length}
 use denote.Ref.{now}
 use mathlib.Core.Path.{refl, sym, _∙_}
 use borrow.Author.Needs.{needs}
-use Rattle.transaction.specs.Checks.{house, mintChecks}
+use Rattle.transaction.specs.Checks.{houseGenesis, mintChecks}
 use Rattle.writer.specs.Writing.{mintCause}
 use Rattle.writer.proofs.Stores.{length-mint}
 use Rattle.writer.proofs.Writes.{refuses, writes, room-there}
@@ -24,7 +24,7 @@ put-mint-requires c κs =
     let found : tie.After-mint-cause = search in
     let entry : tie.Start = search in
     let a = entry .args in
-    let fields = mintChecks house (a .receiver) (a .index) (a .owner) (a .amount) in
+    let fields = mintChecks houseGenesis (a .receiver) (a .index) (a .owner) (a .amount) in
     room-there fields 11 (length (now (a .out))) refl (sym (found .mint-cause .ensures) ∙ passed .if1 .left)
 
 same-length : tie.Need-same-length

@@ -2,7 +2,7 @@ use lib.ListN.{length}
 use denote.Ref.{now}
 use mathlib.Core.Path.{refl, sym, _∙_}
 use borrow.Author.Needs.{needs}
-use Rattle.transaction.specs.Checks.{house, registerChecks}
+use Rattle.transaction.specs.Checks.{houseGenesis, registerChecks}
 use Rattle.writer.specs.Writing.{registerCause}
 use Rattle.writer.proofs.Stores.{length-register}
 use Rattle.writer.proofs.Writes.{refuses, writes, room-there}
@@ -24,7 +24,7 @@ put-register-requires c κs =
     let found : tie.After-register-cause = search in
     let entry : tie.Start = search in
     let a = entry .args in
-    let fields = registerChecks house (a .receiver) (a .t) in
+    let fields = registerChecks houseGenesis (a .receiver) (a .t) in
     room-there fields 100 (length (now (a .out))) refl (sym (found .register-cause .ensures) ∙ passed .if1 .left)
 
 same-length : tie.Need-same-length

@@ -2,7 +2,7 @@ use lib.ListN.{length}
 use denote.Ref.{now}
 use mathlib.Core.Path.{refl, sym, _∙_}
 use borrow.Author.Needs.{needs}
-use Rattle.transaction.specs.Checks.{house, voteChecks}
+use Rattle.transaction.specs.Checks.{houseGenesis, voteChecks}
 use Rattle.writer.specs.Writing.{voteCause}
 use Rattle.writer.proofs.Stores.{length-vote}
 use Rattle.writer.proofs.Writes.{refuses, writes, room-there}
@@ -24,7 +24,7 @@ put-vote-requires c κs =
     let found : tie.After-vote-cause = search in
     let entry : tie.Start = search in
     let a = entry .args in
-    let fields = voteChecks house (a .receiver) (a .sender) (a .verdict) (a .t) in
+    let fields = voteChecks houseGenesis (a .receiver) (a .sender) (a .verdict) (a .t) in
     room-there fields 102 (length (now (a .out))) refl (sym (found .vote-cause .ensures) ∙ passed .if1 .left)
 
 same-length : tie.Need-same-length

@@ -1,6 +1,6 @@
 use Rattle.cluster.proofs.Asked.{ledger-there, ledger-none}
-use Rattle.shard.specs.Queries.{totalAmount}
-use Rattle.cluster.specs.Queries.{heldIn}
+use Rattle.model.specs.Totals.{totalAmount}
+use Rattle.model.specs.Totals.{heldIn}
 use mathlib.Core.Path.{refl}
 use denote.Ref.{now}
 use borrow.Author.Needs.{needs}

@@ -1,4 +1,4 @@
-use Rattle.cluster.specs.Queries.{heldIn}
+use Rattle.model.specs.Totals.{heldIn}
 use Rattle.cluster.proofs.Asked.{heldBy, held-in-all}
 use Rattle.loops.proofs.Loops.{Summing, sum-start, sum-next, sum-end}
 use Prim.Native.Nat.{_-_, _≤_, _*_}

@@ -1,4 +1,4 @@
-use Rattle.shard.specs.Queries.{amountOf, totalAmount}
+use Rattle.model.specs.Totals.{amountOf, totalAmount}
 use Rattle.loops.proofs.Loops.{Summing, sum-start, sum-next, sum-end}
 use Rattle.layout.specs.Layout.{heldPlace, word, tokensOf, view, noToken}
 use Rattle.layout.proofs.Slots.{length-tokens}
