@@ -15,10 +15,10 @@ use Rattle.transaction.proofs.Tables.{first-stands}
 use Rattle.model.specs.declared.Answer.{Answer}
 use Rattle.model.specs.declared.Answer.the-variants.{Refused}
 use Rattle.model.specs.Steps.{Ledger, house, emptyLedger}
-use Rattle.model.specs.Shard.{Call, deliver, deliverForm, deliverRest, deliverRefusals, hear, shardStep}
+use Rattle.model.specs.Shard.{Call, mint, register, deliver, deliverForm, deliverRest, deliverRefusals, hear, shardStep}
 use Rattle.model.specs.Cluster.{emptyShards, ledgerAt, gave, notGiven, atShard, clusterStep}
 use Rattle.model.proofs.Basics.{passed}
-use Rattle.model.proofs.Tables.{unless-refused}
+use Rattle.model.proofs.Tables.{unless-refused, receiverOf, no-such-shard}
 use Rattle.model.proofs.Refusals.{shard-below}
 use Rattle.shard.specs.View as shard
 use Rattle.cluster.specs.View.{view, shardAt, SoundAt, Sound, Fresh, Steps}
@@ -34,26 +34,31 @@ map-set f [] i a = refl
 map-set f (x ∷ l) zero a = refl
 map-set f (x ∷ l) (suc i) a = ap (λ (m : List _). f x ∷ m) (map-set f l i a)
 
-module _ (c : List (List ℕ)) (sound : Sound c) where
+module _ {c : List (List ℕ)} (sound : Sound c) where
   -- the ledger of a shard
   pub ledger-of : (p : ℕ) → p < 8 → ledgerAt house (view c) p ≡ shard.view (shardAt c p)
   unfolding view
   ledger-of p h = map-at shard.view c p [] (emptyLedger house) (omega (arith, sound .eight))
 
   -- a call that changes nothing
-  pub refused : (call : Call) (number : ℕ) → clusterStep house (view c) call ≡ (view c, Refused number) → Steps c call (Refused number) c
-  refused call number e = record {
+  refused : {call : Call} {number : ℕ} → clusterStep house (view c) call ≡ (view c, Refused number)
+      → Steps c call (Refused number) c
+  refused e = record {
     answered = sym (ap (λ (y : List Ledger × Answer). y .1) e);
     ledgers = sym (ap (λ (y : List Ledger × Answer). y .0) e);
     sound = sound;
   }
+
+  -- a call to a shard that does not exist
+  pub no-shard : {call : Call} → 8 ≤ receiverOf call → Steps c call (Refused 3) c
+  no-shard {call} h = refused (no-such-shard house (view c) call (lt-leb (receiverOf call) 7 (omega arith)))
 
   -- a shard lent on, and its words come back
   module _ (p : ℕ) (below : p < 8) where
     pub lent : shard.Sound (shardAt c p)
     lent = sound .each p below .sound
 
-    pub numbered : shard.number (shardAt c p) ≡ p
+    numbered : shard.number (shardAt c p) ≡ p
     numbered = sound .each p below .numbered
 
     module _ (ws : List ℕ) where
@@ -71,88 +76,109 @@ module _ (c : List (List ℕ)) (sound : Sound c) where
               record { numbered = ap shard.number is ∙ n ∙ sym same; sound = subst shard.Sound (sym is) h }
           go i k false e =
               let is : shardAt (set c p ws) i ≡ shardAt c i = getD-set-other c p i ws [] (eqb-false i p e) in
-              record { numbered = ap shard.number is ∙ sound .each i k .numbered; sound = subst shard.Sound (sym is) (sound .each i k .sound) }
+              let old = sound .each i k in
+              record { numbered = ap shard.number is ∙ old .numbered; sound = subst shard.Sound (sym is) (old .sound) }
 
-      -- a call that the shard carried out
-      pub carried : (call : Call) {answer : Answer} → shard.Steps (shardAt c p) call answer ws
-          → clusterStep house (view c) call ≡ atShard house (view c) p call → Steps c call answer (set c p ws)
-      unfolding atShard
-      carried call h e =
-          let done : shardStep house p (ledgerAt house (view c) p) call ≡ shardStep house (shard.number (shardAt c p)) (shard.view (shardAt c p)) call =
-          rw (ledger-of p below, numbered) refl in
-          record {
-            answered = h .answered ∙ sym (ap (λ (y : Ledger × Answer). y .1) done) ∙ sym (ap (λ (y : List Ledger × Answer). y .1) e);
-            ledgers =
-                view-set ∙ ap (set (view c) p) (h .ledger ∙ sym (ap (λ (y : Ledger × Answer). y .0) done))
-                ∙ sym (ap (λ (y : List Ledger × Answer). y .0) e);
-            sound = sound-set (h .numbered ∙ numbered) (h .sound);
-          }
+  -- a call that the shard carried out
+  module _ {call : Call} {answer : Answer} {ws : List ℕ} where
+    carried : (p : ℕ) → p < 8 → clusterStep house (view c) call ≡ atShard house (view c) p call
+        → shard.Steps (shardAt c p) call answer ws → Steps c call answer (set c p ws)
+    unfolding atShard
+    carried p below e h =
+        let at = shardAt c p in
+        let done : shardStep house p (ledgerAt house (view c) p) call ≡ shardStep house (shard.number at) (shard.view at) call =
+        rw (ledger-of p below, numbered p below) refl in
+        let kept = h .ledger ∙ sym (ap (λ (y : Ledger × Answer). y .0) done) in
+        record {
+          answered =
+              h .answered ∙ sym (ap (λ (y : Ledger × Answer). y .1) done) ∙ sym (ap (λ (y : List Ledger × Answer). y .1) e);
+          ledgers =
+              view-set p below ws ∙ ap (set (view c) p) kept ∙ sym (ap (λ (y : List Ledger × Answer). y .0) e);
+          sound = sound-set p below ws (h .numbered ∙ numbered p below) (h .sound);
+        }
+
+  pub minted : {p index owner amount : ℕ} {answer : Answer} {ws : List ℕ} → p < 8
+      → shard.Steps (shardAt c p) (mint p index owner amount) answer ws
+      → Steps c (mint p index owner amount) answer (set c p ws)
+  unfolding clusterStep
+  minted {p} below h = carried p below refl h
+
+  pub registered : {p : ℕ} {t : Transaction} {answer : Answer} {ws : List ℕ} → p < 8
+      → shard.Steps (shardAt c p) (register p t) answer ws → Steps c (register p t) answer (set c p ws)
+  unfolding clusterStep
+  registered {p} below h = carried p below refl h
 
 -- ---- A vote: 3 to 6, then 16
 
-module _ (c : List (List ℕ)) (sound : Sound c) (receiver sender verdict : ℕ) (t : Transaction) {cause : ℕ}
-    (form : cause ≡ firstOf (deliverForm house receiver receiver sender verdict t)) where
-  abbrev call : Call
-  call = deliver receiver sender verdict t
+-- it has passed 3 to 6, so that its sender and its receiver are shards
+pub record Formed (receiver sender verdict : ℕ) (t : Transaction) : Type 0 where
+  pub passes : firstOf (deliverForm house receiver receiver sender verdict t) ≡ 0
+  pub from : sender < 8
+  pub to : receiver < 8
 
-  abbrev at-receiver : List Ledger × Answer
-  at-receiver = atShard house (view c) receiver call
+module _ (receiver sender verdict : ℕ) (t : Transaction) where
+  abbrev form : List (Bool × ℕ)
+  form = deliverForm house receiver receiver sender verdict t
 
-  -- refused by its form
-  module _ (n : cause ≡ 0 → ⊥) where
-    goes : clusterStep house (view c) call ≡ at-receiver
-    unfolding clusterStep notGiven
-    goes = rw (← form, ne-eqb cause 0 n) refl
+  -- the model's step where the form refuses it
+  module _ (shards : List Ledger) {cause : ℕ} (e : cause ≡ firstOf form) (n : cause ≡ 0 → ⊥) where
+    abbrev ledger : Ledger
+    ledger = ledgerAt house shards receiver
 
-    whole : firstOf (deliverRefusals house receiver (ledgerAt house (view c) receiver) receiver sender verdict t) ≡ cause
+    whole : firstOf (deliverRefusals house receiver ledger receiver sender verdict t) ≡ cause
     unfolding deliverRefusals
-    whole =
-        first-stands (deliverForm house receiver receiver sender verdict t) (deliverRest (ledgerAt house (view c) receiver) sender verdict t)
-        (λ z. n (form ∙ z))
-        ∙ sym form
+    whole = first-stands form (deliverRest ledger sender verdict t) (λ z. n (e ∙ z)) ∙ sym e
 
-    stays : at-receiver ≡ (view c, Refused cause)
-    unfolding atShard shardStep
-    stays =
-        let ledger = ledgerAt house (view c) receiver in
+    form-step : clusterStep house shards (deliver receiver sender verdict t) ≡ (shards, Refused cause)
+    unfolding clusterStep notGiven atShard shardStep
+    form-step =
         let r = unless-refused cause ledger (hear receiver ledger sender verdict t) n in
-        rw (whole, r) (ap (λ (l : List Ledger). (l, Refused cause)) (set-getD (view c) receiver (emptyLedger house)))
+        let same = set-getD shards receiver (emptyLedger house) in
+        rw (← e, ne-eqb cause 0 n, whole, r) (ap (λ (l : List Ledger). (l, Refused cause)) same)
 
-    pub form-refused : Steps c call (Refused cause) c
-    form-refused = refused c sound call cause (goes ∙ stays)
+module _ {receiver sender verdict : ℕ} {t : Transaction} where
+  pub formed : {cause : ℕ} → cause ≡ firstOf (form receiver sender verdict t) → cause ≡ 0 → Formed receiver sender verdict t
+  unfolding deliverForm
+  formed e z =
+      let passes = sym e ∙ z in
+      let checked = passed (form receiver sender verdict t) refl passes .1 in
+      record {
+        passes = passes;
+        from = shard-below sender (not-false (shardFits sender) (checked .1 .0));
+        to = shard-below receiver (not-false (shardFits receiver) (checked .0));
+      }
 
-  module _ (z : cause ≡ 0) where
-    pub passes : firstOf (deliverForm house receiver receiver sender verdict t) ≡ 0
-    passes = sym form ∙ z
+  module _ {c : List (List ℕ)} (sound : Sound c) where
+    -- refused by its form
+    pub form-refused : {cause : ℕ} → cause ≡ firstOf (form receiver sender verdict t) → (cause ≡ 0 → ⊥)
+        → Steps c (deliver receiver sender verdict t) (Refused cause) c
+    form-refused e n = refused sound (form-step receiver sender verdict t (view c) e n)
 
-    pub sender-below : sender < 8
-    unfolding deliverForm
-    sender-below = shard-below sender (not-false (shardFits sender) (passed (deliverForm house receiver receiver sender verdict t) refl passes .1 .1 .0))
+    module _ (vote : Formed receiver sender verdict t) where
+      -- to its receiver it has passed them too
+      pub own-form : let me = shard.number (shardAt c receiver) in firstOf (deliverForm house me me sender verdict t) ≡ 0
+      own-form = rw (numbered sound receiver (vote .to)) (vote .passes)
 
-    pub receiver-below : receiver < 8
-    unfolding deliverForm
-    receiver-below = shard-below receiver (not-false (shardFits receiver) (passed (deliverForm house receiver receiver sender verdict t) refl passes .1 .0))
+      module _ {given : Bool} (eg : given ≡ gave (shard.view (shardAt c sender)) sender verdict t) where
+        not-given-is : notGiven house (view c) receiver sender verdict t ≡ not given
+        unfolding notGiven
+        not-given-is = rw (vote .passes, ledger-of sound sender (vote .from), ← eg) refl
 
-    module _ {given : Bool} (eg : given ≡ gave (shard.view (shardAt c sender)) sender verdict t) where
-      not-given-is : notGiven house (view c) receiver sender verdict t ≡ not given
-      unfolding notGiven
-      not-given-is = rw (passes, ledger-of c sound sender sender-below, ← eg) refl
+        -- 16
+        pub not-given : not given ≡ true → Steps c (deliver receiver sender verdict t) (Refused 16) c
+        unfolding clusterStep
+        not-given n = refused sound (rw (not-given-is ∙ n) refl)
 
-      -- 16
-      pub not-given : not given ≡ true → Steps c call (Refused 16) c
-      unfolding clusterStep
-      not-given n = refused c sound call 16 (rw (not-given-is ∙ n) refl)
-
-      -- heard by the receiver
-      pub own-form : firstOf (deliverForm house (shard.number (shardAt c receiver)) (shard.number (shardAt c receiver)) sender verdict t) ≡ 0
-      own-form = rw (numbered c sound receiver receiver-below) passes
-
-      pub heard : not given ≡ false → {answer : Answer} {ws : List ℕ}
-          → shard.Steps (shardAt c receiver) (deliver (shard.number (shardAt c receiver)) sender verdict t) answer ws → Steps c call answer (set c receiver ws)
-      unfolding clusterStep
-      heard y {answer} {ws} h =
-          let own = subst (λ (r : ℕ). shard.Steps (shardAt c receiver) (deliver r sender verdict t) answer ws) (numbered c sound receiver receiver-below) h in
-          carried c sound receiver receiver-below ws call own (rw (not-given-is ∙ y) refl)
+        -- heard by the receiver
+        pub heard : {answer : Answer} {ws : List ℕ} → not given ≡ false
+            → shard.Steps (shardAt c receiver) (deliver (shard.number (shardAt c receiver)) sender verdict t) answer ws
+            → Steps c (deliver receiver sender verdict t) answer (set c receiver ws)
+        unfolding clusterStep
+        heard {answer} {ws} y h =
+            let at = shardAt c receiver in
+            let own = numbered sound receiver (vote .to) in
+            let h′ = subst (λ (r : ℕ). shard.Steps at (deliver r sender verdict t) answer ws) own h in
+            carried sound receiver (vote .to) (rw (not-given-is ∙ y) refl) h′
 
 -- ---- Eight fresh shards, one after the other
 
@@ -167,8 +193,9 @@ freshen-start c e = record { within = omega arith; eight = e; so = λ p h. absur
 below-it : (q i : ℕ) → q < i + 1 → (q ≡ i → ⊥) → q < i
 below-it q i h n = omega arith
 
-pub freshen-next : (c : List (List ℕ)) (i me : ℕ) (ws : List ℕ) → Freshened c i → i < 8 → me ≡ i → shard.Fresh me ws → Freshened (set c i ws) (i + 1)
-freshen-next c i me ws s h e f = record {
+pub freshen-next : {c : List (List ℕ)} {i me : ℕ} {ws : List ℕ} → Freshened c i → i < 8 → me ≡ i → shard.Fresh me ws
+    → Freshened (set c i ws) (i + 1)
+freshen-next {c} {i} {me} {ws} s h e f = record {
   within = omega arith;
   eight = length-set c i ws ∙ s .eight;
   so = λ p k. go p k (eqb p i) refl;
@@ -182,14 +209,16 @@ freshen-next c i me ws s h e f = record {
         let other : p ≡ i → ⊥ = eqb-false p i q in
         rw (getD-set-other c i p ws [] other) (s .so p (below-it p i k other))
 
-map-all : {A B : Type 0} (f : A → B) (l : List A) (d : A) (b : B) → ((p : ℕ) → p < length l → f (getD l p d) ≡ b) → map f l ≡ replicate (length l) b
+map-all : {A B : Type 0} (f : A → B) (l : List A) (d : A) (b : B) → ((p : ℕ) → p < length l → f (getD l p d) ≡ b)
+    → map f l ≡ replicate (length l) b
 map-all f [] d b h = refl
 map-all {B = B} f (x ∷ l) d b h =
-    ap (λ (y : B). y ∷ map f l) (h 0 (omega arith)) ∙ ap (λ (m : List B). b ∷ m) (map-all f l d b (λ p k. h (suc p) (omega arith)))
+    ap (λ (y : B). y ∷ map f l) (h 0 (omega arith))
+    ∙ ap (λ (m : List B). b ∷ m) (map-all f l d b (λ p k. h (suc p) (omega arith)))
 
-pub freshened : (c : List (List ℕ)) (i : ℕ) → Freshened c i → 8 ≤ i → Fresh c
+pub freshened : {c : List (List ℕ)} {i : ℕ} → Freshened c i → 8 ≤ i → Fresh c
 unfolding view
-freshened c i s h =
+freshened {c} s h =
     let at : (p : ℕ) → p < 8 → shard.Fresh p (shardAt c p) = λ p k. s .so p (omega (arith, s .within)) in
     record {
       empty =

@@ -9,7 +9,8 @@ use Rattle.model.specs.declared.Token.{Token}
 use Rattle.model.specs.declared.Known.{Known}
 use Rattle.model.specs.declared.Outcome.{Outcome}
 use Rattle.model.specs.Steps.{genesisToken, outcomeOf}
-use Rattle.layout.specs.Layout.{shardOf, slotToken, slotKnown}
+use Rattle.layout.specs.Layout.{heldPlace, word, tokensOf, shardOf, slotToken, slotKnown}
+use Rattle.layout.proofs.Slots.{length-tokens}
 use Rattle.layout.proofs.Ledgers.{held-length, known-length, held-entry, known-entry}
 use Rattle.shard.specs.declared.queries.HeldToken.the-variants.{Held, NotHeld}
 use Rattle.shard.specs.declared.queries.KnownOutcome.the-variants as outcome
@@ -25,7 +26,11 @@ pub none-known : (known : List Known) (place : ℕ) → length known ≤ place �
 unfolding outcomeAt
 none-known known place h = sym (rw (le-ltb place (length known) h) refl)
 
-module _ (ws : List ℕ) (sound : Sound ws) (place : ℕ) {n : ℕ} where
+-- no more tokens are held than there are slots
+pub held-slots : {ws : List ℕ} → Sound ws → word ws heldPlace ≤ length (tokensOf ws)
+held-slots {ws} sound = omega (arith, sound .held, length-tokens ws)
+
+module _ {ws : List ℕ} (sound : Sound ws) (place : ℕ) {n : ℕ} where
   -- the tokens held
   module _ (count : n ≡ shardOf ws .held) where
     held-all : length (view ws .tokens) ≡ n
@@ -52,7 +57,8 @@ module _ (ws : List ℕ) (sound : Sound ws) (place : ℕ) {n : ℕ} where
     known-behind h e = e ∙ sym (List·getD-eq-default (view ws .known) blankKnown {n = place} (omega (arith, known-all)))
 
     -- and their outcomes
-    pub outcome-within : {o : Outcome} → place < n → o ≡ outcomeOf (slotKnown ws place) → outcome.Known o ≡ outcomeAt (view ws .known) place
+    pub outcome-within : {o : Outcome} → place < n → o ≡ outcomeOf (slotKnown ws place)
+        → outcome.Known o ≡ outcomeAt (view ws .known) place
     unfolding outcomeAt
     outcome-within h e =
         ap outcome.Known (e ∙ ap outcomeOf (known-within h refl))

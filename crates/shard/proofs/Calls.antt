@@ -51,21 +51,18 @@ use Rattle.holdings.proofs.Tokens.{turn-room, pledges-in-turn}
 use Rattle.registry.specs.Numbers.{isNumbered}
 use Rattle.registry.proofs.Finds.{asks-for, found-there, passes-there}
 use Rattle.shard.specs.View.{number, view, Sound, Steps}
-use Rattle.shard.specs.Parts.{Leaves, entryFor, enteredLedger, Entering, Entered, heardLedger, FreshVote, FreshDone}
+use Rattle.shard.specs.Parts.{Leaves, Pledges, entryFor, enteredLedger, Entering, Entered, heardLedger, FreshVote, FreshDone}
 use Rattle.shard.proofs.Ledgers.{leaves-then, holds-leaves}
 use Rattle.shard.proofs.Once.{once-step}
 use Rattle.shard.proofs.Tables.{stands, stands-at, stands-there, verdict-there}
 
 -- what a call leaves
-module _ (ws : List ℕ) (sound : Sound ws) (call : Call) where
-  abbrev stepped : Ledger × Answer
-  stepped = shardStep house (number ws) (view ws) call
+abbrev stepped : List ℕ → Call → Ledger × Answer
+stepped ws call = shardStep house (number ws) (view ws) call
 
-  still-fit : Fit house (number ws) (stepped .0)
-  still-fit = fit-step house (omega arith) (number ws) (view ws) (sound .fit) call
-
+module _ {ws : List ℕ} (sound : Sound ws) (call : Call) {answer : Answer} where
   -- a call that changes nothing
-  pub stays-put : {answer : Answer} → stepped ≡ (view ws, answer) → Steps ws call answer ws
+  stays-put : stepped ws call ≡ (view ws, answer) → Steps ws call answer ws
   stays-put e = record {
     answered = sym (ap (λ (x : Ledger × Answer). x .1) e);
     ledger = sym (ap (λ (x : Ledger × Answer). x .0) e);
@@ -74,88 +71,96 @@ module _ (ws : List ℕ) (sound : Sound ws) (call : Call) where
   }
 
   -- a call that leaves another ledger
-  module _ {answer : Answer} {ledger : Ledger} (e : stepped ≡ (ledger, answer)) where
-    left : stepped .0 ≡ ledger
+  module _ {ledger : Ledger} (e : stepped ws call ≡ (ledger, answer)) where
+    left : stepped ws call .0 ≡ ledger
     left = ap (λ (x : Ledger × Answer). x .0) e
 
     fit-left : Fit house (number ws) ledger
-    fit-left = subst (Fit house (number ws)) left still-fit
+    fit-left = subst (Fit house (number ws)) left (fit-step house (omega arith) (number ws) (view ws) (sound .fit) call)
 
-    pub room-left : length (ledger .tokens) ≤ tokenSlots
+    room-left : length (ledger .tokens) ≤ tokenSlots
     room-left = omega (arith, fit-left .token-room)
 
-    pub goes-on : {count : ℕ} (vs : List ℕ) → count ≤ knownSlots → Leaves ws ledger count vs → Steps ws call answer vs
-    goes-on vs k l = record {
-      answered = sym (ap (λ (x : Ledger × Answer). x .1) e);
-      ledger = l .seen ∙ sym left;
-      numbered = l .numbered;
-      sound = record {
-        long = l .long;
-        held = rw (l .holds) room-left;
-        known = rw (l .knows) k;
-        fit = subst (λ (m : ℕ). Fit house m (view vs)) (sym (l .numbered)) (subst (Fit house (number ws)) (sym (l .seen)) fit-left);
-        once = rw (l .seen ∙ sym left) (once-step house (number ws) (view ws) (sound .once) call);
-      };
-    }
+    goes-on : {count : ℕ} {vs : List ℕ} → count ≤ knownSlots → Leaves ws ledger count vs → Steps ws call answer vs
+    goes-on {count} {vs} k l =
+        let fit : Fit house (number ws) (view vs) = subst (Fit house (number ws)) (sym (l .seen)) fit-left in
+        record {
+          answered = sym (ap (λ (x : Ledger × Answer). x .1) e);
+          ledger = l .seen ∙ sym left;
+          numbered = l .numbered;
+          sound = record {
+            long = l .long;
+            held = rw (l .holds) room-left;
+            known = rw (l .knows) k;
+            fit = subst (λ (m : ℕ). Fit house m (view vs)) (sym (l .numbered)) fit;
+            once = rw (l .seen ∙ sym left) (once-step house (number ws) (view ws) (sound .once) call);
+          };
+        }
 
 -- ---- Refused
 
-module _ (ws : List ℕ) (sound : Sound ws) {cause : ℕ} (n : cause ≡ 0 → ⊥) where
-  pub mint-refused : (receiver index owner amount : ℕ) → cause ≡ firstOf (mintRefusals house (number ws) (view ws) receiver index owner amount)
+module _ {ws : List ℕ} (sound : Sound ws) {cause : ℕ} where
+  pub mint-refused : {receiver index owner amount : ℕ}
+      → cause ≡ firstOf (mintRefusals house (number ws) (view ws) receiver index owner amount) → (cause ≡ 0 → ⊥)
       → Steps ws (mint receiver index owner amount) (Refused cause) ws
   unfolding shardStep
-  mint-refused receiver index owner amount e =
-      stays-put ws sound (mint receiver index owner amount)
+  mint-refused {receiver} {index} {owner} {amount} e n =
+      stays-put sound (mint receiver index owner amount)
       (rw (← e) (unless-refused cause (view ws) (afterMint (view ws) index owner amount, Minted) n))
 
-  pub register-refused : (receiver : ℕ) (t : Transaction) → cause ≡ firstOf (registerRefusals house (number ws) (view ws) receiver t)
+  pub register-refused : {receiver : ℕ} {t : Transaction}
+      → cause ≡ firstOf (registerRefusals house (number ws) (view ws) receiver t) → (cause ≡ 0 → ⊥)
       → Steps ws (register receiver t) (Refused cause) ws
   unfolding shardStep
-  register-refused receiver t e =
+  register-refused {receiver} {t} e n =
       let me = number ws in
       let tokens = view ws .tokens in
-      stays-put ws sound (register receiver t)
-      (rw (← e) (unless-refused cause (view ws)
-      (afterRegister me (view ws) t, Registered (vote me tokens t) (outcomeOf (newlyKnown me tokens t))) n))
+      let answer = Registered (vote me tokens t) (outcomeOf (newlyKnown me tokens t)) in
+      stays-put sound (register receiver t) (rw (← e) (unless-refused cause (view ws) (afterRegister me (view ws) t, answer) n))
 
-  pub deliver-refused : (receiver sender verdict : ℕ) (t : Transaction)
-      → cause ≡ firstOf (deliverRefusals house (number ws) (view ws) receiver sender verdict t)
+  deliver-refused : {receiver sender verdict : ℕ} {t : Transaction}
+      → cause ≡ firstOf (deliverRefusals house (number ws) (view ws) receiver sender verdict t) → (cause ≡ 0 → ⊥)
       → Steps ws (deliver receiver sender verdict t) (Refused cause) ws
   unfolding shardStep
-  deliver-refused receiver sender verdict t e =
-      stays-put ws sound (deliver receiver sender verdict t)
+  deliver-refused {receiver} {sender} {verdict} {t} e n =
+      stays-put sound (deliver receiver sender verdict t)
       (rw (← e) (unless-refused cause (view ws) (hear (number ws) (view ws) sender verdict t) n))
 
 -- ---- A genesis token that passes
 
-module _ (ws : List ℕ) (sound : Sound ws) (receiver index owner amount : ℕ)
-    (pass : firstOf (mintRefusals house (number ws) (view ws) receiver index owner amount) ≡ 0) where
-  mint-step : shardStep house (number ws) (view ws) (mint receiver index owner amount) ≡ (afterMint (view ws) index owner amount, Minted)
-  unfolding shardStep
-  mint-step =
-      unless-done (firstOf (mintRefusals house (number ws) (view ws) receiver index owner amount)) (view ws)
-      (afterMint (view ws) index owner amount, Minted) pass
+-- it passes: its index is one of a genesis token, and there is a slot for it
+pub record Opens (ws : List ℕ) (receiver index owner amount : ℕ) : Type 0 where
+  pub step : stepped ws (mint receiver index owner amount) ≡ (afterMint (view ws) index owner amount, Minted)
+  pub index-fits : index < genesisSlots
+  pub room : shardOf ws .held < tokenSlots
 
-  pub mint-room : shardOf ws .held < tokenSlots
-  unfolding afterMint
-  mint-room =
-      omega (
-        arith,
-        room-left ws sound (mint receiver index owner amount) mint-step,
-        length-append (view ws .tokens) (genesisToken index owner amount ∷ []),
-        held-length ws (sound .held),
-      )
+module _ {ws : List ℕ} (sound : Sound ws) {receiver index owner amount : ℕ} where
+  pub opens : {cause : ℕ} → cause ≡ firstOf (mintRefusals house (number ws) (view ws) receiver index owner amount) → cause ≡ 0
+      → Opens ws receiver index owner amount
+  unfolding shardStep afterMint
+  opens e z =
+      let call = mint receiver index owner amount in
+      let me = number ws in
+      let ledger = view ws in
+      let pass = sym e ∙ z in
+      let step : stepped ws call ≡ (afterMint ledger index owner amount, Minted) =
+      unless-done (firstOf (mintRefusals house me ledger receiver index owner amount)) ledger
+      (afterMint ledger index owner amount, Minted) pass in
+      let more = length-append (ledger .tokens) (genesisToken index owner amount ∷ []) in
+      record {
+        step = step;
+        index-fits = mint-passes house me ledger receiver index owner amount pass .index-fits;
+        room = omega (arith, room-left sound call step, more, held-length ws (sound .held));
+      }
 
-  pub mint-index : index < genesisSlots
-  mint-index = mint-passes house (number ws) (view ws) receiver index owner amount pass .index-fits
-
-  pub mint-carried : (vs : List ℕ) → Leaves ws (afterMint (view ws) index owner amount) (shardOf ws .known) vs
+  pub mint-carried : {vs : List ℕ} → Opens ws receiver index owner amount
+      → Leaves ws (afterMint (view ws) index owner amount) (shardOf ws .known) vs
       → Steps ws (mint receiver index owner amount) Minted vs
-  mint-carried vs l = goes-on ws sound (mint receiver index owner amount) mint-step vs (sound .known) l
+  mint-carried o l = goes-on sound (mint receiver index owner amount) (o .step) (sound .known) l
 
 -- ---- A registration that passes
 
-module _ (ws : List ℕ) (sound : Sound ws) (t : Transaction)
+module _ {ws : List ℕ} (sound : Sound ws) (t : Transaction)
     (pass : firstOf (registerRefusals house (number ws) (view ws) (number ws) t) ≡ 0) where
   abbrev me : ℕ
   me = number ws
@@ -180,9 +185,12 @@ module _ (ws : List ℕ) (sound : Sound ws) (t : Transaction)
   pledged = pledges (t .number) (availableHere me tokens t) tokens
 
   -- after the pledges
-  module _ (vs : List ℕ) (p : Changes (pledges (t .number) (availableHere me tokens t)) ws vs) {verdict : Bool} (ev : verdict ≡ vote me tokens t) where
+  module _ {vs : List ℕ} {verdict : Bool} (pledged-here : Pledges t ws verdict vs) where
+    ev : verdict ≡ vote me tokens t
+    ev = pledged-here .1
+
     same : Leaves ws (holding (view ws) pledged (view ws .known)) (shardOf ws .known) vs
-    same = holds-leaves ws vs p
+    same = holds-leaves ws vs (pledged-here .0)
 
     entered-is : enteredLedger verdict t vs ≡ afterRegister me (view ws) t
     unfolding afterRegister newlyKnown
@@ -190,28 +198,30 @@ module _ (ws : List ℕ) (sound : Sound ws) (t : Transaction)
 
     pub entering : Entering verdict t vs
     entering = record {
-      room = turn-room (pledges-in-turn (t .number)) ws vs (record { long = sound .long; held = sound .held }) p;
+      room =
+          turn-room (pledges-in-turn (t .number)) ws vs (record { long = sound .long; held = sound .held }) (pledged-here .0);
       me = rw (same .numbered) (shard-below me (passes .form .receiver-fits));
       free = rw (same .knows) known-free;
       fits =
-          subst (λ (l : Ledger). length (l .tokens) ≤ tokenSlots) (sym entered-is) (room-left ws sound (register me t) register-step);
+          subst (λ (l : Ledger). length (l .tokens) ≤ tokenSlots) (sym entered-is)
+          (room-left sound (register me t) register-step);
     }
 
     entry-is : entryFor verdict t vs ≡ newlyKnown me tokens t
     unfolding newlyKnown
     entry-is = rw (same .numbered, ev) refl
 
-    pub register-carried : (us : List ℕ) {decided : Outcome} → Entered verdict t vs decided us → Steps ws (register me t) (Registered verdict decided) us
-    register-carried us {decided} e =
+    pub register-carried : {us : List ℕ} {decided : Outcome} → Entered verdict t vs decided us
+        → Steps ws (register me t) (Registered verdict decided) us
+    register-carried {us} {decided} e =
         let d : decided ≡ outcomeOf (newlyKnown me tokens t) = e .decides ∙ ap outcomeOf entry-is in
-        let answer : Registered (vote me tokens t) (outcomeOf (newlyKnown me tokens t)) ≡ Registered verdict decided = rw (ev, d) refl in
-        let l = leaves-then same (e .leaves) entered-is in
-        goes-on ws sound (register me t) (register-step ∙ ap (λ (a : Answer). (afterRegister me (view ws) t, a)) answer) us
-        (omega (arith, same .knows, known-free)) l
+        let step : stepped ws (register me t) ≡ (afterRegister me (view ws) t, Registered verdict decided) =
+        register-step ∙ rw (ev, d) refl in
+        goes-on sound (register me t) step (omega (arith, same .knows, known-free)) (leaves-then same (e .leaves) entered-is)
 
 -- ---- A vote that passes, on the transaction whose number stands at a place
 
-module _ (ws : List ℕ) (sound : Sound ws) (sender verdict : ℕ) (t : Transaction)
+module _ {ws : List ℕ} (sound : Sound ws) (sender verdict : ℕ) (t : Transaction)
     (pass : firstOf (deliverRefusals house (number ws) (view ws) (number ws) sender verdict t) ≡ 0)
     {place : ℕ} (found : place ≡ find (isNumbered (t .number)) (view ws .known)) where
   abbrev here : ℕ
@@ -221,24 +231,26 @@ module _ (ws : List ℕ) (sound : Sound ws) (sender verdict : ℕ) (t : Transact
   vote-passes = deliver-passes house here (view ws) here sender verdict t pass
 
   pub vote-below : place < shardOf ws .known
-  vote-below = stands ws sound t found (vote-passes .number-known) (vote-passes .no-other)
+  vote-below = stands sound t found (vote-passes .number-known) (vote-passes .no-other)
 
   pub vote-slot : place < knownSlots
   vote-slot = omega (arith, vote-below, sound .known)
 
   place-is : placeOf t (view ws .known) ≡ place
-  place-is = stands-at ws sound t found (vote-passes .number-known) (vote-passes .no-other)
+  place-is = stands-at sound t found (vote-passes .number-known) (vote-passes .no-other)
 
   entry-at : slotKnown ws place ≡ entryOf t (view ws .known)
-  entry-at = stands-there ws sound t found (vote-passes .number-known) (vote-passes .no-other)
+  entry-at = stands-there sound t found (vote-passes .number-known) (vote-passes .no-other)
 
   hear-step : shardStep house here (view ws) (deliver here sender verdict t) ≡ hear here (view ws) sender verdict t
   unfolding shardStep
-  hear-step = unless-done (firstOf (deliverRefusals house here (view ws) here sender verdict t)) (view ws) (hear here (view ws) sender verdict t) pass
+  hear-step =
+      unless-done (firstOf (deliverRefusals house here (view ws) here sender verdict t)) (view ws)
+      (hear here (view ws) sender verdict t) pass
 
   module _ {heard : ℕ} (eh : heard ≡ getD (slotKnown ws place .heard) sender 0) where
     heard-is : heard ≡ heardFrom sender (entryOf t (view ws .known))
-    heard-is = verdict-there ws sound t found (vote-passes .number-known) (vote-passes .no-other) sender eh
+    heard-is = verdict-there sound t found (vote-passes .number-known) (vote-passes .no-other) sender eh
 
     -- the sender was not heard before
     module _ (z : heard ≡ 0) where
@@ -260,15 +272,17 @@ module _ (ws : List ℕ) (sound : Sound ws) (sender verdict : ℕ) (t : Transact
         says = vote-passes .verdict-fits;
         fits =
             subst (λ (l : Ledger). length (l .tokens) ≤ tokenSlots) (sym after-is)
-            (room-left ws sound (deliver here sender verdict t) fresh-step);
+            (room-left sound (deliver here sender verdict t) fresh-step);
       }
 
-      pub fresh-carried : (vs : List ℕ) {answer : Answer} → FreshDone place sender verdict ws answer vs → Steps ws (deliver here sender verdict t) answer vs
-      fresh-carried vs {answer} d =
+      pub fresh-carried : {vs : List ℕ} {answer : Answer} → FreshDone place sender verdict ws answer vs
+          → Steps ws (deliver here sender verdict t) answer vs
+      fresh-carried {vs} {answer} d =
           let a : Heard (outcomeOf (hearing sender verdict (entryOf t (view ws .known)))) ≡ answer =
           ap (λ (k : Known). Heard (outcomeOf (hearing sender verdict k))) (sym entry-at) ∙ sym (d .answered) in
-          let e = fresh-step ∙ ap (λ (x : Answer). (afterVote here (view ws) sender verdict t, x)) a in
-          goes-on ws sound (deliver here sender verdict t) (e ∙ ap (λ (l : Ledger). (l, answer)) (sym after-is)) vs (sound .known) (d .leaves)
+          let step = fresh-step ∙ ap (λ (x : Answer). (afterVote here (view ws) sender verdict t, x)) a in
+          let call = deliver here sender verdict t in
+          goes-on sound call (step ∙ ap (λ (l : Ledger). (l, answer)) (sym after-is)) (sound .known) (d .leaves)
 
     -- the same vote was heard before
     pub again-carried : {decided : Outcome} → (heard ≡ 0 → ⊥) → decided ≡ outcomeOf (slotKnown ws place)
@@ -276,22 +290,25 @@ module _ (ws : List ℕ) (sound : Sound ws) (sender verdict : ℕ) (t : Transact
     unfolding hear
     again-carried n ed =
         let z = ne-eqb (heardFrom sender (entryOf t (view ws .known))) 0 (λ q. n (heard-is ∙ q)) in
-        stays-put ws sound (deliver here sender verdict t) (hear-step ∙ rw (z, ed, entry-at) refl)
+        stays-put sound (deliver here sender verdict t) (hear-step ∙ rw (z, ed, entry-at) refl)
 
 -- ---- A call that passes is addressed to this shard
 
-module _ (ws : List ℕ) (receiver : ℕ) (t : Transaction) (pass : firstOf (registerRefusals house (number ws) (view ws) receiver t) ≡ 0) where
+module _ (ws : List ℕ) (receiver : ℕ) (t : Transaction) {cause : ℕ}
+    (e : cause ≡ firstOf (registerRefusals house (number ws) (view ws) receiver t)) (z : cause ≡ 0) where
   register-addressed : receiver ≡ number ws
-  register-addressed = register-passes house (number ws) (view ws) receiver t pass .form .addressed
+  register-addressed = register-passes house (number ws) (view ws) receiver t (sym e ∙ z) .form .addressed
 
   pub register-own : firstOf (registerRefusals house (number ws) (view ws) (number ws) t) ≡ 0
-  register-own = subst (λ (r : ℕ). firstOf (registerRefusals house (number ws) (view ws) r t) ≡ 0) register-addressed pass
+  register-own =
+      subst (λ (r : ℕ). firstOf (registerRefusals house (number ws) (view ws) r t) ≡ 0) register-addressed (sym e ∙ z)
 
-  pub register-back : {answer : Answer} {vs : List ℕ} → Steps ws (register (number ws) t) answer vs → Steps ws (register receiver t) answer vs
+  pub register-back : {answer : Answer} {vs : List ℕ} → Steps ws (register (number ws) t) answer vs
+      → Steps ws (register receiver t) answer vs
   register-back {answer} {vs} h = subst (λ (p : ℕ). Steps ws (register p t) answer vs) (sym register-addressed) h
 
 -- a vote: 3 to 6 first, then what the ledger says
-module _ (ws : List ℕ) (sound : Sound ws) (receiver sender verdict : ℕ) (t : Transaction) {me cause : ℕ} (em : me ≡ number ws)
+module _ {ws : List ℕ} (sound : Sound ws) (receiver sender verdict : ℕ) (t : Transaction) {me cause : ℕ} (em : me ≡ number ws)
     (form : cause ≡ firstOf (deliverForm house me receiver sender verdict t)) where
   own-form : cause ≡ firstOf (deliverForm house (number ws) receiver sender verdict t)
   own-form = form ∙ rw em refl
@@ -299,31 +316,35 @@ module _ (ws : List ℕ) (sound : Sound ws) (receiver sender verdict : ℕ) (t :
   pub form-refused : (cause ≡ 0 → ⊥) → Steps ws (deliver receiver sender verdict t) (Refused cause) ws
   unfolding deliverRefusals
   form-refused n =
-      deliver-refused ws sound n receiver sender verdict t
-      (own-form ∙ sym (first-stands (deliverForm house (number ws) receiver sender verdict t) (deliverRest (view ws) sender verdict t)
-      (λ z. n (own-form ∙ z))))
+      let first = deliverForm house (number ws) receiver sender verdict t in
+      let rest = deliverRest (view ws) sender verdict t in
+      deliver-refused sound (own-form ∙ sym (first-stands first rest (λ z. n (own-form ∙ z)))) n
 
   addressed : cause ≡ 0 → receiver ≡ number ws
   unfolding deliverForm
   addressed z =
-      eqb-eq receiver (number ws)
-      (not-no (eqb receiver (number ws)) (passed (deliverForm house (number ws) receiver sender verdict t) refl (sym own-form ∙ z) .0))
+      let first = deliverForm house (number ws) receiver sender verdict t in
+      eqb-eq receiver (number ws) (not-no (eqb receiver (number ws)) (passed first refl (sym own-form ∙ z) .0))
 
   pub form-own : cause ≡ 0 → firstOf (deliverForm house (number ws) (number ws) sender verdict t) ≡ 0
-  form-own z = subst (λ (r : ℕ). firstOf (deliverForm house (number ws) r sender verdict t) ≡ 0) (addressed z) (sym own-form ∙ z)
+  form-own z =
+      subst (λ (r : ℕ). firstOf (deliverForm house (number ws) r sender verdict t) ≡ 0) (addressed z) (sym own-form ∙ z)
 
   pub form-back : cause ≡ 0 → {answer : Answer} {vs : List ℕ} → Steps ws (deliver (number ws) sender verdict t) answer vs
       → Steps ws (deliver receiver sender verdict t) answer vs
   form-back z {answer} {vs} h = subst (λ (p : ℕ). Steps ws (deliver p sender verdict t) answer vs) (sym (addressed z)) h
 
-module _ (ws : List ℕ) (sound : Sound ws) (sender verdict : ℕ) (t : Transaction) {cause : ℕ}
-    (form : firstOf (deliverForm house (number ws) (number ws) sender verdict t) ≡ 0) (found : cause ≡ firstOf (deliverRest (view ws) sender verdict t)) where
+module _ {ws : List ℕ} (sound : Sound ws) (sender verdict : ℕ) (t : Transaction) {cause : ℕ}
+    (form : firstOf (deliverForm house (number ws) (number ws) sender verdict t) ≡ 0)
+    (found : cause ≡ firstOf (deliverRest (view ws) sender verdict t)) where
   whole-cause : cause ≡ firstOf (deliverRefusals house (number ws) (view ws) (number ws) sender verdict t)
   unfolding deliverRefusals deliverForm
-  whole-cause = found ∙ sym (first-behind (deliverForm house (number ws) (number ws) sender verdict t) (deliverRest (view ws) sender verdict t) refl form)
+  whole-cause =
+      let first = deliverForm house (number ws) (number ws) sender verdict t in
+      found ∙ sym (first-behind first (deliverRest (view ws) sender verdict t) refl form)
 
   pub rest-refused : (cause ≡ 0 → ⊥) → Steps ws (deliver (number ws) sender verdict t) (Refused cause) ws
-  rest-refused n = deliver-refused ws sound n (number ws) sender verdict t whole-cause
+  rest-refused n = deliver-refused sound whole-cause n
 
   pub rest-passes : cause ≡ 0 → firstOf (deliverRefusals house (number ws) (view ws) (number ws) sender verdict t) ≡ 0
   rest-passes z = sym whole-cause ∙ z

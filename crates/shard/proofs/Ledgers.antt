@@ -74,6 +74,7 @@ use Rattle.holdings.specs.declared.Inputs.{Inputs}
 use Rattle.holdings.specs.Held.{inputsOf, Room, Holds, Changes, Settling, Settles, settledAt}
 use Rattle.shard.specs.View.{number, view, Sound, Fresh}
 use Rattle.shard.specs.Parts.{
+  Pledges,
   Leaves,
   Minted,
   Grows,
@@ -111,7 +112,8 @@ holds-leaves ws vs {l} p = record {
 }
 
 -- one known transaction more
-module _ (ws vs : List ℕ) (k : Known) (g : Grows ws k vs) (h : shardOf ws .held ≤ tokenSlots) (free : shardOf ws .known < knownSlots) where
+module _ (ws vs : List ℕ) (k : Known) (g : Grows ws k vs) (h : shardOf ws .held ≤ tokenSlots)
+    (free : shardOf ws .known < knownSlots) where
   pub grows-leaves : Leaves ws (holding (view ws) (view ws .tokens) (view ws .known ++ (k ∷ []))) (shardOf ws .known + 1) vs
   unfolding layout.view
   grows-leaves =
@@ -131,8 +133,9 @@ module _ (ws vs : List ℕ) (k : Known) (g : Grows ws k vs) (h : shardOf ws .hel
       ∙ getD-set-same (transactionsOf ws) (shardOf ws .known) k noKnown (omega (arith, length-known ws))
 
 -- two stores
-pub grown : (ws vs us : List ℕ) (k : Known) {n : ℕ} → n ≡ shardOf ws .known → PutsKnown ws n k vs → Becomes (withKnown (shardOf vs) (n + 1)) us → Grows ws k us
-grown ws vs us k {n} e p q =
+pub grown : {ws vs us : List ℕ} {k : Known} {n : ℕ} → n ≡ shardOf ws .known → PutsKnown ws n k vs
+    → Becomes (withKnown (shardOf vs) (n + 1)) us → Grows ws k us
+grown {ws} {vs} {us} {k} {n} e p q =
     let is : shardOf us ≡ withKnown (withTransactions (shardOf ws) (set (shardOf ws .transactions) n k)) (n + 1) =
     q .is ∙ ap (λ (x : Shard). withKnown x (n + 1)) (p .is) in
     record { is = record { is = rw (← e) is; long = q .long } }
@@ -159,12 +162,15 @@ module _ (ws vs : List ℕ) (place : ℕ) (k : Known) (p : PutsKnown ws place k 
 
 -- ---- The decision on an entry
 
-module _ (ws vs : List ℕ) (ledger : Ledger) (count place : ℕ) (k : Known) (p : Leaves ws ledger count vs) (e : slotKnown vs place ≡ k) where
-  settled-is : settledAt (outcomeOf (slotKnown vs place)) place vs ≡ settle (outcomeOf k) (number ws) (k .transaction) (ledger .tokens)
+module _ (ws vs : List ℕ) (ledger : Ledger) (count place : ℕ) (k : Known) (p : Leaves ws ledger count vs)
+    (e : slotKnown vs place ≡ k) where
+  settled-is : settledAt (outcomeOf (slotKnown vs place)) place vs
+      ≡ settle (outcomeOf k) (number ws) (k .transaction) (ledger .tokens)
   settled-is = rw (e, p .seen, p .numbered) refl
 
   pub can-decide : length (ledger .tokens) ≤ tokenSlots → place < knownSlots
-      → length (settle (outcomeOf k) (number ws) (k .transaction) (ledger .tokens)) ≤ tokenSlots → Settling (outcomeOf (slotKnown vs place)) place vs
+      → length (settle (outcomeOf k) (number ws) (k .transaction) (ledger .tokens)) ≤ tokenSlots
+      → Settling (outcomeOf (slotKnown vs place)) place vs
   can-decide h l f = record {
     room = record { long = p .long; held = rw (p .holds) h };
     slot = l;
@@ -179,7 +185,7 @@ module _ (ws vs : List ℕ) (ledger : Ledger) (count place : ℕ) (k : Known) (p
       record { long = d .long; seen = d .seen; numbered = d .numbered; holds = d .holds; knows = d .knows ∙ p .knows }
 
 -- a transaction entered
-module _ (verdict : Bool) (t : Transaction) (ws : List ℕ) (pre : Entering verdict t ws) (vs : List ℕ) {k : Known} {me place : ℕ}
+module _ {verdict : Bool} {t : Transaction} {ws : List ℕ} (pre : Entering verdict t ws) {vs : List ℕ} {k : Known} {me place : ℕ}
     (em : me ≡ number ws) (ep : place ≡ shardOf ws .known) (ek : k ≡ knownWith me verdict t) (g : Grows ws k vs) where
   is-entry : k ≡ entryFor verdict t ws
   is-entry = ek ∙ rw em refl
@@ -193,18 +199,19 @@ module _ (verdict : Bool) (t : Transaction) (ws : List ℕ) (pre : Entering verd
 
   pub enter-decides : Settling (outcomeOf (slotKnown vs place)) place vs
   enter-decides =
-      can-decide ws vs _ _ place (entryFor verdict t ws) grows-to entry-there (omega (arith, held-length ws (pre .room .held), pre .room .held))
-      (omega (arith, pre .free)) (pre .fits)
+      can-decide ws vs _ _ place (entryFor verdict t ws) grows-to entry-there
+      (omega (arith, held-length ws (pre .room .held), pre .room .held)) (omega (arith, pre .free)) (pre .fits)
 
-  pub entered : (us : List ℕ) {decided : Outcome} → decided ≡ outcomeOf (slotKnown vs place) → Settles (outcomeOf (slotKnown vs place)) place vs us
+  pub entered : {us : List ℕ} {decided : Outcome}
+      → (decided ≡ outcomeOf (slotKnown vs place)) × Settles (outcomeOf (slotKnown vs place)) place vs us
       → Entered verdict t ws decided us
-  entered us ed s = record {
-    decides = ed ∙ ap outcomeOf entry-there;
-    leaves = decided-leaves ws vs _ _ place (entryFor verdict t ws) grows-to entry-there us s;
+  entered {us} d = record {
+    decides = d .0 ∙ ap outcomeOf entry-there;
+    leaves = decided-leaves ws vs _ _ place (entryFor verdict t ws) grows-to entry-there us (d .1);
   }
 
 -- a vote noted
-module _ (place sender verdict : ℕ) (ws : List ℕ) (pre : FreshVote place sender verdict ws) (vs : List ℕ)
+module _ {place sender verdict : ℕ} {ws : List ℕ} (pre : FreshVote place sender verdict ws) {vs : List ℕ}
     (p : PutsKnown ws place (withSaid sender (verdict + 1) (slotKnown ws place)) vs) where
   hears : Leaves ws (holding (view ws) (view ws .tokens) (set (view ws .known) place (heardIn place sender verdict ws)))
       (shardOf ws .known) vs
@@ -215,30 +222,33 @@ module _ (place sender verdict : ℕ) (ws : List ℕ) (pre : FreshVote place sen
 
   pub fresh-decides : Settling (outcomeOf (slotKnown vs place)) place vs
   fresh-decides =
-      can-decide ws vs _ _ place (heardIn place sender verdict ws) hears heard-there (omega (arith, held-length ws (pre .room .held), pre .room .held))
-      (omega (arith, pre .entry, pre .known)) (pre .fits)
+      can-decide ws vs _ _ place (heardIn place sender verdict ws) hears heard-there
+      (omega (arith, held-length ws (pre .room .held), pre .room .held)) (omega (arith, pre .entry, pre .known)) (pre .fits)
 
-  pub fresh-done : (us : List ℕ) {decided : Outcome} → decided ≡ outcomeOf (slotKnown vs place) → Settles (outcomeOf (slotKnown vs place)) place vs us
+  pub fresh-done : {us : List ℕ} {decided : Outcome}
+      → (decided ≡ outcomeOf (slotKnown vs place)) × Settles (outcomeOf (slotKnown vs place)) place vs us
       → FreshDone place sender verdict ws (Heard decided) us
-  fresh-done us ed s = record {
-    answered = ap Heard (ed ∙ ap outcomeOf heard-there);
-    leaves = decided-leaves ws vs _ _ place (heardIn place sender verdict ws) hears heard-there us s;
+  fresh-done {us} d = record {
+    answered = ap Heard (d .0 ∙ ap outcomeOf heard-there);
+    leaves = decided-leaves ws vs _ _ place (heardIn place sender verdict ws) hears heard-there us (d .1);
   }
 
 -- ---- A genesis token
 
-pub minted : (ws vs us xs : List ℕ) (index owner amount : ℕ) {n at : ℕ} → n ≡ shardOf ws .held → at ≡ index → n < tokenSlots
+pub minted : {ws vs us xs : List ℕ} (index owner amount : ℕ) {n at : ℕ} → n ≡ shardOf ws .held → at ≡ index → n < tokenSlots
     → PutsToken ws n (genesisToken index owner amount) vs → Becomes (withHeld (shardOf vs) (n + 1)) us
     → Becomes (withGiven (shardOf us) (set (shardOf us .given) at true)) xs → Minted ws index owner amount xs
 unfolding layout.view afterMint
-minted ws vs us xs index owner amount {n} {at} en ea h p q g =
+minted {ws} {vs} {us} {xs} index owner amount {n} {at} en ea h p q g =
     let token = genesisToken index owner amount in
     let tokens = set (tokensOf ws) n token in
     let given = set (givenOf ws) index true in
-    let held : shardOf us ≡ withHeld (withTokens (shardOf ws) tokens) (n + 1) = q .is ∙ ap (λ (x : Shard). withHeld x (n + 1)) (p .is) in
+    let held : shardOf us ≡ withHeld (withTokens (shardOf ws) tokens) (n + 1) =
+    q .is ∙ ap (λ (x : Shard). withHeld x (n + 1)) (p .is) in
     let is : shardOf xs ≡ withGiven (withHeld (withTokens (shardOf ws) tokens) (n + 1)) given =
     g .is ∙ rw ea (ap (λ (x : Shard). withGiven x (set (x .given) index true)) held) in
-    let more : take (n + 1) tokens ≡ take n (tokensOf ws) ++ (token ∷ []) = append-one (tokensOf ws) n token (omega (arith, length-tokens ws)) in
+    let more : take (n + 1) tokens ≡ take n (tokensOf ws) ++ (token ∷ []) =
+    append-one (tokensOf ws) n token (omega (arith, length-tokens ws)) in
     let some : length (view ws .tokens) ≡ n = held-length ws (omega arith) ∙ sym en in
     record {
       long = g .long;
@@ -250,7 +260,7 @@ minted ws vs us xs index owner amount {n} {at} en ea h p q g =
 
 -- ---- An empty shard
 
-module _ (ws : List ℕ) (me : ℕ) (c : Cleared me ws) where
+module _ {ws : List ℕ} {me : ℕ} (c : Cleared me ws) where
   none : (i : ℕ) → numberPlace < i → word ws i ≡ 0
   none = c .rest
 
@@ -295,10 +305,10 @@ module _ (ws : List ℕ) (t : Transaction) {me : ℕ} {here found : List Input} 
   unfolding availableHere
   found-is = ef ∙ rw (eh, em) refl
 
-  pub pledges-here : {vs : List ℕ} → Changes (pledges (t .number) found) ws vs
-      → Changes (pledges (t .number) (availableHere (number ws) (view ws .tokens) t)) ws vs
-  pledges-here p = rw found-is at p
-
-  pub votes-here : {verdict : Bool} → verdict ≡ eqb (length found) (length here) → verdict ≡ vote (number ws) (view ws .tokens) t
+  pub pledged-here : {vs : List ℕ} {verdict : Bool} → Changes (pledges (t .number) found) ws vs
+      → verdict ≡ eqb (length found) (length here) → Pledges t ws verdict vs
   unfolding vote
-  votes-here e = e ∙ rw (ef, eh, em) (all-kept (available (view ws .tokens)) (inputsHere (number ws) t))
+  pledged-here p e =
+      let said : eqb (length found) (length here) ≡ vote (number ws) (view ws .tokens) t =
+      rw (ef, eh, em) (all-kept (available (view ws .tokens)) (inputsHere (number ws) t)) in
+      (rw found-is at p, e ∙ said)

@@ -68,7 +68,7 @@ module _ (receiver me : ℕ) (rest : Table) where
 
 -- ---- The tests that go by how many transactions are known: 13 and 9
 
-module _ (ws : List ℕ) (sound : Sound ws) {count : ℕ} (ec : count ≡ shardOf ws .known) where
+module _ {ws : List ℕ} (sound : Sound ws) {count : ℕ} (ec : count ≡ shardOf ws .known) where
   pub count-is : length (view ws .known) ≡ count
   count-is = known-length ws (sound .known) ∙ sym ec
 
@@ -80,13 +80,13 @@ module _ (ws : List ℕ) (sound : Sound ws) {count : ℕ} (ec : count ≡ shardO
 
 -- ---- The tests that go by the place of the number: 11, 7 and 8
 
-module _ (ws : List ℕ) (sound : Sound ws) (t : Transaction) {place count : ℕ} (found : place ≡ find (isNumbered (t .number)) (view ws .known))
+module _ {ws : List ℕ} (sound : Sound ws) (t : Transaction) {place count : ℕ} (found : place ≡ find (isNumbered (t .number)) (view ws .known))
     (ec : count ≡ shardOf ws .known) where
   abbrev known : List Known
   known = view ws .known
 
   length-is : length known ≡ count
-  length-is = count-is ws sound ec
+  length-is = count-is sound ec
 
   -- it is not known
   module _ (h : count ≤ place) where
@@ -144,7 +144,7 @@ module _ (ws : List ℕ) (sound : Sound ws) (t : Transaction) {place count : ℕ
     entry-is y = entry ∙ rw (place-is y) refl
 
 -- ---- 10, by the counts
-module _ (ws : List ℕ) (sound : Sound ws) (t : Transaction) {me held more : ℕ} (em : me ≡ number ws) (eh : held ≡ shardOf ws .held)
+module _ {ws : List ℕ} (sound : Sound ws) (t : Transaction) {me held more : ℕ} (em : me ≡ number ws) (eh : held ≡ shardOf ws .held)
     (eo : more ≡ length (outputsHere me t)) where
   abbrev wanted : ℕ
   wanted = length (view ws .tokens) + reserved (number ws) (view ws .known) + length (outputsHere (number ws) t)
@@ -164,7 +164,7 @@ module _ (ws : List ℕ) (sound : Sound ws) (t : Transaction) {me held more : �
 
 -- ---- 12: where 11 and 7 do not fit, the transaction stands at the place
 
-module _ (ws : List ℕ) (sound : Sound ws) (t : Transaction) {place : ℕ} (found : place ≡ find (isNumbered (t .number)) (view ws .known))
+module _ {ws : List ℕ} (sound : Sound ws) (t : Transaction) {place : ℕ} (found : place ≡ find (isNumbered (t .number)) (view ws .known))
     (numbered : any (hasNumber t) (view ws .known) ≡ true) (own : any (isOther t) (view ws .known) ≡ false) where
   abbrev among : List Known
   among = view ws .known
@@ -173,13 +173,13 @@ module _ (ws : List ℕ) (sound : Sound ws) (t : Transaction) {place : ℕ} (fou
   stands = omega (arith, found, known-length ws (sound .known), find-below (isNumbered (t .number)) among numbered)
 
   same : isFor t (slotKnown ws place) ≡ true
-  same = not-false _ (sym (other-is ws sound t found refl stands refl) ∙ own)
+  same = not-false _ (sym (other-is sound t found refl stands refl) ∙ own)
 
   pub stands-at : placeOf t among ≡ place
-  stands-at = place-is ws sound t found refl stands refl same
+  stands-at = place-is sound t found refl stands refl same
 
   pub stands-there : slotKnown ws place ≡ entryOf t among
-  stands-there = entry-is ws sound t found refl stands refl same
+  stands-there = entry-is sound t found refl stands refl same
 
   pub verdict-there : (sender : ℕ) {heard : ℕ} → heard ≡ getD (slotKnown ws place .heard) sender 0 → heard ≡ heardFrom sender (entryOf t among)
   verdict-there sender e = e ∙ ap (heardFrom sender) stands-there

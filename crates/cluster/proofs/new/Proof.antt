@@ -23,9 +23,8 @@ mul-new c = search needs
 
 index-1-new : tie.Need-index-1-new Inv-loop μ-loop
 index-1-new c =
-    let at-loop : tie.At-loop Inv-loop μ-loop = search in
-    let loop = at-loop .loop in
-    omega (arith, loop .inv .eight)
+    let turn : tie.At-loop Inv-loop μ-loop = search in
+    omega (arith, turn .loop .inv .eight)
 
 new-requires : tie.Need-new-requires Inv-loop μ-loop
 new-requires c κs = search needs
@@ -38,18 +37,14 @@ loop-less c = search needs
 
 loop-again : tie.Need-loop-again Inv-loop μ-loop
 loop-again c =
-    let after-narrow : tie.After-narrow Inv-loop μ-loop = search in
-    let at-loop : tie.At-loop Inv-loop μ-loop = search in
-    let loop = at-loop .loop in
-    let narrow = after-narrow .narrow in
-    let new = c .new in
-    freshen-next (loop .c) (loop .p) (narrow .result) _ (loop .inv) (search needs) (narrow .ensures) (new .ensures)
+    let narrowed : tie.After-narrow Inv-loop μ-loop = search in
+    let turn : tie.At-loop Inv-loop μ-loop = search in
+    freshen-next (turn .loop .inv) (search needs) (narrowed .narrow .ensures) (c .new .ensures)
 
 returns : tie.Need-returns Inv-loop μ-loop
 returns c =
-    let at-loop : tie.At-loop Inv-loop μ-loop = search in
-    let loop = at-loop .loop in
-    freshened (loop .c) (loop .p) (loop .inv) (search needs)
+    let turn : tie.At-loop Inv-loop μ-loop = search in
+    freshened (turn .loop .inv) (search needs)
 
 pub new-spec : {M : Type 1} → statement M
 new-spec =

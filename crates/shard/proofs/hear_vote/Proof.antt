@@ -11,45 +11,13 @@ deliver-form-requires : tie.Need-deliver-form-requires
 deliver-form-requires c κs = search needs
 
 returns : tie.Need-returns
-returns c =
-    let after-deliver-form : tie.After-deliver-form = search in
-    let after-own-number : tie.After-own-number = search in
-    let entry : tie.Start = search in
-    let args = entry .args in
-    let pre = entry .pre in
-    let own-number = after-own-number .own-number in
-    let deliver-form = after-deliver-form .deliver-form in
-    let if1 = c .if1 in
-    form-refused (now (args .s)) pre (args .receiver) (args .sender) (args .verdict) (args .t) (own-number .ensures) (deliver-form .ensures) (if1 .taken)
+returns c = search form-refused
 
 hear-formed-requires : tie.Need-hear-formed-requires
-hear-formed-requires c κs =
-    let else1 : tie.Else1 = search in
-    let after-deliver-form : tie.After-deliver-form = search in
-    let after-own-number : tie.After-own-number = search in
-    let entry : tie.Start = search in
-    let args = entry .args in
-    let pre = entry .pre in
-    let own-number = after-own-number .own-number in
-    let deliver-form = after-deliver-form .deliver-form in
-    let if1 = else1 .if1 in
-    let own = form-own (now (args .s)) pre (args .receiver) (args .sender) (args .verdict) (args .t) (own-number .ensures) (deliver-form .ensures) in
-    (pre, own (if1 .left))
+hear-formed-requires c κs = search form-own
 
 returns-2 : tie.Need-returns-2
-returns-2 c =
-    let else1 : tie.Else1 = search in
-    let after-deliver-form : tie.After-deliver-form = search in
-    let after-own-number : tie.After-own-number = search in
-    let entry : tie.Start = search in
-    let args = entry .args in
-    let pre = entry .pre in
-    let own-number = after-own-number .own-number in
-    let deliver-form = after-deliver-form .deliver-form in
-    let if1 = else1 .if1 in
-    let hear-formed = c .hear-formed in
-    form-back (now (args .s)) pre (args .receiver) (args .sender) (args .verdict) (args .t) (own-number .ensures) (deliver-form .ensures) (if1 .left)
-    (hear-formed .ensures)
+returns-2 c = search form-back
 
 pub hear-vote-spec : {M : Type 1} → statement M
 hear-vote-spec =

@@ -7,11 +7,7 @@ clear-requires : tie.Need-clear-requires
 clear-requires c κs = search needs
 
 returns : tie.Need-returns
-returns c =
-    let entry : tie.Start = search in
-    let args = entry .args in
-    let clear = c .clear in
-    fresh _ (args .me) (clear .ensures)
+returns c = fresh (c .clear .ensures)
 
 pub new-spec : {M : Type 1} → statement M
 new-spec = tie.close (tie.spec clear-requires returns)

@@ -1,8 +1,6 @@
-use Rattle.cluster.proofs.Asked.{ledger-there, ledger-none}
-use Rattle.model.specs.Totals.{totalAmount}
-use Rattle.model.specs.Totals.{heldIn}
-use mathlib.Core.Path.{refl}
-use denote.Ref.{now}
+use Rattle.model.specs.Totals.{totalAmount, heldIn}
+use Rattle.cluster.proofs.Shards.{ledger-of}
+use Rattle.cluster.proofs.Asked.{ledger-none}
 use borrow.Author.Needs.{needs}
 use Rattle.cluster.proofs.queries.amount_at.Statement.{statement}
 use Rattle.cluster.proofs.queries.amount_at.Tie as tie
@@ -11,7 +9,7 @@ returns : tie.Need-returns
 unfolding heldIn totalAmount
 returns c =
     let entry : tie.Start = search in
-    rw (ledger-none (now (entry .args .c)) (entry .pre) (entry .args .number) (c .if1 .taken)) refl
+    rw (ledger-none (entry .pre) (entry .args .number) (c .if1 .taken))
 
 mul-total-amount : tie.Need-mul-total-amount
 mul-total-amount c = search needs
@@ -28,7 +26,7 @@ returns-2 : tie.Need-returns-2
 unfolding heldIn
 returns-2 c =
     let entry : tie.Start = search in
-    rw (← ledger-there (now (entry .args .c)) (entry .pre) (entry .args .number) (search needs)) (c .total-amount .ensures .0)
+    rw (ledger-of (entry .pre) (entry .args .number) (search needs)) (c .total-amount .ensures .0)
 
 pub amount-at-spec : {M : Type 1} → statement M
 amount-at-spec =

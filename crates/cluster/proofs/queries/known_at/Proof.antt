@@ -1,6 +1,5 @@
-use Rattle.cluster.proofs.Asked.{ledger-there, ledger-none}
-use mathlib.Core.Path.{refl}
-use denote.Ref.{now}
+use Rattle.cluster.proofs.Shards.{ledger-of}
+use Rattle.cluster.proofs.Asked.{ledger-none}
 use borrow.Author.Needs.{needs}
 use Rattle.cluster.proofs.queries.known_at.Statement.{statement}
 use Rattle.cluster.proofs.queries.known_at.Tie as tie
@@ -10,10 +9,9 @@ blank-known-requires c κs = search needs
 
 returns : tie.Need-returns
 returns c =
-    let then1 : tie.Then1 = search in
+    let none : tie.Then1 = search in
     let entry : tie.Start = search in
-    let if1 = then1 .if1 in
-    rw (ledger-none (now (entry .args .c)) (entry .pre) (entry .args .number) (if1 .taken)) (c .blank-known .ensures)
+    rw (ledger-none (entry .pre) (entry .args .number) (none .if1 .taken)) (c .blank-known .ensures)
 
 mul-known-at : tie.Need-mul-known-at
 mul-known-at c = search needs
@@ -29,7 +27,7 @@ known-at-requires c κs =
 returns-2 : tie.Need-returns-2
 returns-2 c =
     let entry : tie.Start = search in
-    rw (← ledger-there (now (entry .args .c)) (entry .pre) (entry .args .number) (search needs)) (c .known-at .ensures)
+    rw (ledger-of (entry .pre) (entry .args .number) (search needs)) (c .known-at .ensures)
 
 pub known-at-spec : {M : Type 1} → statement M
 known-at-spec =

@@ -1,7 +1,6 @@
-use Rattle.cluster.proofs.Asked.{ledger-there, ledger-none}
+use Rattle.cluster.proofs.Shards.{ledger-of}
+use Rattle.cluster.proofs.Asked.{ledger-none}
 use Rattle.shard.specs.Queries.{outcomeAt, outcomeOfNumber}
-use mathlib.Core.Path.{refl}
-use denote.Ref.{now}
 use borrow.Author.Needs.{needs}
 use Rattle.cluster.proofs.queries.outcome_of.Statement.{statement}
 use Rattle.cluster.proofs.queries.outcome_of.Tie as tie
@@ -10,7 +9,7 @@ returns : tie.Need-returns
 unfolding outcomeOfNumber outcomeAt
 returns c =
     let entry : tie.Start = search in
-    rw (ledger-none (now (entry .args .c)) (entry .pre) (entry .args .number) (c .if1 .taken)) refl
+    rw (ledger-none (entry .pre) (entry .args .number) (c .if1 .taken))
 
 mul-outcome-of : tie.Need-mul-outcome-of
 mul-outcome-of c = search needs
@@ -26,7 +25,7 @@ outcome-of-requires c κs =
 returns-2 : tie.Need-returns-2
 returns-2 c =
     let entry : tie.Start = search in
-    rw (← ledger-there (now (entry .args .c)) (entry .pre) (entry .args .number) (search needs)) (c .outcome-of .ensures)
+    rw (ledger-of (entry .pre) (entry .args .number) (search needs)) (c .outcome-of .ensures)
 
 pub outcome-of-spec : {M : Type 1} → statement M
 outcome-of-spec =

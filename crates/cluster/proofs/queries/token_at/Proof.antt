@@ -1,8 +1,8 @@
-use Rattle.cluster.proofs.Asked.{ledger-there, ledger-none}
+use Rattle.cluster.proofs.Shards.{ledger-of}
+use Rattle.cluster.proofs.Asked.{ledger-none}
 use Rattle.shard.proofs.Asked.{none-held}
 use mathlib.Core.List.{[]}
 use native.Mathlib.Omega.{arith}
-use denote.Ref.{now}
 use borrow.Author.Needs.{needs}
 use Rattle.cluster.proofs.queries.token_at.Statement.{statement}
 use Rattle.cluster.proofs.queries.token_at.Tie as tie
@@ -10,7 +10,7 @@ use Rattle.cluster.proofs.queries.token_at.Tie as tie
 returns : tie.Need-returns
 returns c =
     let entry : tie.Start = search in
-    rw (ledger-none (now (entry .args .c)) (entry .pre) (entry .args .number) (c .if1 .taken)) (none-held [] (entry .args .place) (omega arith))
+    rw (ledger-none (entry .pre) (entry .args .number) (c .if1 .taken)) (none-held [] (entry .args .place) (omega arith))
 
 mul-token-at : tie.Need-mul-token-at
 mul-token-at c = search needs
@@ -26,7 +26,7 @@ token-at-requires c κs =
 returns-2 : tie.Need-returns-2
 returns-2 c =
     let entry : tie.Start = search in
-    rw (← ledger-there (now (entry .args .c)) (entry .pre) (entry .args .number) (search needs)) (c .token-at .ensures)
+    rw (ledger-of (entry .pre) (entry .args .number) (search needs)) (c .token-at .ensures)
 
 pub token-at-spec : {M : Type 1} → statement M
 token-at-spec =

@@ -4,7 +4,6 @@ use Rattle.loops.proofs.Loops.{Summing, sum-start, sum-next, sum-end}
 use Prim.Native.Nat.{_-_, _≤_, _*_}
 use mathlib.Core.List.{[]}
 use native.Mathlib.Omega.{arith}
-use denote.Ref.{now}
 use borrow.Author.Needs.{needs}
 use Rattle.cluster.proofs.queries.total_amount.Statement.{statement}
 use Rattle.cluster.proofs.queries.total_amount.Tie as tie
@@ -26,18 +25,14 @@ index-1-total-amount c = search needs
 
 total-amount-requires : tie.Need-total-amount-requires Inv-loop μ-loop
 total-amount-requires c κs =
-    let at-loop : tie.At-loop Inv-loop μ-loop = search in
+    let turn : tie.At-loop Inv-loop μ-loop = search in
     let entry : tie.Start Inv-loop μ-loop = search in
-    let pre = entry .pre in
-    let loop = at-loop .loop in
-    pre .each (loop .i) (search needs) .sound
+    entry .pre .each (turn .loop .i) (search needs) .sound
 
 add-sum : tie.Need-add-sum Inv-loop μ-loop
 add-sum c =
-    let at-loop : tie.At-loop Inv-loop μ-loop = search in
-    let total-amount = c .total-amount in
-    let loop = at-loop .loop in
-    omega (arith, total-amount .ensures .1, loop .inv .0, loop .inv .1 .within)
+    let turn : tie.At-loop Inv-loop μ-loop = search in
+    omega (arith, c .total-amount .ensures .1, turn .loop .inv .0, turn .loop .inv .1 .within)
 
 add-i : tie.Need-add-i Inv-loop μ-loop
 add-i c = search needs
@@ -48,22 +43,17 @@ loop-less c = search needs
 loop-again : tie.Need-loop-again Inv-loop μ-loop
 unfolding heldIn
 loop-again c =
-    let at-loop : tie.At-loop Inv-loop μ-loop = search in
+    let turn : tie.At-loop Inv-loop μ-loop = search in
     let entry : tie.Start Inv-loop μ-loop = search in
-    let loop = at-loop .loop in
-    let pre = entry .pre in
-    let total-amount = c .total-amount in
-    let next = sum-next [] _ (loop .inv .1) (search needs) (omega (arith, pre .eight)) (total-amount .ensures .0) in
-    (omega (arith, total-amount .ensures .1, loop .inv .0), next)
+    let inv = turn .loop .inv in
+    let next = sum-next [] _ (inv .1) (search needs) (omega (arith, entry .pre .eight)) (c .total-amount .ensures .0) in
+    (omega (arith, c .total-amount .ensures .1, inv .0), next)
 
 returns : tie.Need-returns Inv-loop μ-loop
 returns c =
-    let at-loop : tie.At-loop Inv-loop μ-loop = search in
+    let turn : tie.At-loop Inv-loop μ-loop = search in
     let entry : tie.Start Inv-loop μ-loop = search in
-    let args = entry .args in
-    let pre = entry .pre in
-    let loop = at-loop .loop in
-    held-in-all (now (args .c)) pre (sum-end (loop .inv .1) (omega arith))
+    held-in-all (entry .pre) (sum-end (turn .loop .inv .1) (omega arith))
 
 pub total-amount-spec : {M : Type 1} → statement M
 total-amount-spec =

@@ -7,9 +7,7 @@ blank-requires : tie.Need-blank-requires
 blank-requires c κs = search needs
 
 returns : tie.Need-returns
-returns c =
-    let blank = c .blank in
-    rw (blank .ensures) refl
+returns c = rw (c .blank .ensures)
 
 pub blank-known-spec : {M : Type 1} → statement M
 blank-known-spec = tie.close (tie.spec blank-requires returns)

@@ -15,12 +15,8 @@ token-at-requires c κs = search needs
 returns : tie.Need-returns
 unfolding tokenOfId
 returns c =
-    let after-place-of-token : tie.After-place-of-token = search in
-    let entry : tie.Start = search in
-    let token-at = c .token-at in
-    let args = entry .args in
-    let place-of-token = after-place-of-token .place-of-token in
-    token-at .ensures ∙ ap (tokenAt (view (now (args .s)) .tokens)) (place-of-token .ensures)
+    let placed : tie.After-place-of-token = search in
+    rw (← placed .place-of-token .ensures) (c .token-at .ensures)
 
 pub find-token-spec : {M : Type 1} → statement M
 find-token-spec = tie.close (tie.spec place-of-token-requires token-at-requires returns)

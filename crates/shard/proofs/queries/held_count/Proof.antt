@@ -11,10 +11,7 @@ held-requires c κs = search needs
 returns : tie.Need-returns
 returns c =
     let entry : tie.Start = search in
-    let held = c .held in
-    let args = entry .args in
-    let pre = entry .pre in
-    held .ensures ∙ sym (held-length (now (args .s)) (pre .held))
+    c .held .ensures ∙ sym (held-length (now (entry .args .s)) (entry .pre .held))
 
 pub held-count-spec : {M : Type 1} → statement M
 held-count-spec = tie.close (tie.spec held-requires returns)

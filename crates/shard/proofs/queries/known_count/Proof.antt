@@ -11,10 +11,7 @@ known-count-requires c κs = search needs
 returns : tie.Need-returns
 returns c =
     let entry : tie.Start = search in
-    let known-count = c .known-count in
-    let args = entry .args in
-    let pre = entry .pre in
-    known-count .ensures ∙ sym (known-length (now (args .s)) (pre .known))
+    c .known-count .ensures ∙ sym (known-length (now (entry .args .s)) (entry .pre .known))
 
 pub known-count-spec : {M : Type 1} → statement M
 known-count-spec = tie.close (tie.spec known-count-requires returns)

@@ -12,19 +12,16 @@ outcome-at-requires c κs = search needs
 
 returns : tie.Need-returns
 returns c =
-    let then1 : tie.Then1 = search in
-    let after-known-count : tie.After-known-count = search in
+    let within : tie.Then1 = search in
+    let counted : tie.After-known-count = search in
     let entry : tie.Start = search in
-    let known-count = after-known-count .known-count in
-    let if1 = then1 .if1 in
-    outcome-within (now (entry .args .s)) (entry .pre) (entry .args .place) (known-count .ensures) (if1 .taken) (c .outcome-at .ensures)
+    outcome-within (entry .pre) (entry .args .place) (counted .known-count .ensures) (within .if1 .taken) (c .outcome-at .ensures)
 
 returns-2 : tie.Need-returns-2
 returns-2 c =
-    let after-known-count : tie.After-known-count = search in
+    let counted : tie.After-known-count = search in
     let entry : tie.Start = search in
-    let known-count = after-known-count .known-count in
-    outcome-behind (now (entry .args .s)) (entry .pre) (entry .args .place) (known-count .ensures) (c .if1 .left)
+    outcome-behind (entry .pre) (entry .args .place) (counted .known-count .ensures) (c .if1 .left)
 
 pub outcome-at-spec : {M : Type 1} → statement M
 outcome-at-spec = tie.close (tie.spec known-count-requires outcome-at-requires returns returns-2)

@@ -12,10 +12,8 @@ outcome-at-requires c κs = search needs
 returns : tie.Need-returns
 unfolding outcomeOfNumber
 returns c =
-    let after-place-of-number : tie.After-place-of-number = search in
-    let place-of-number = after-place-of-number .place-of-number in
-    let outcome-at = c .outcome-at in
-    rw (← place-of-number .ensures .0) (outcome-at .ensures)
+    let placed : tie.After-place-of-number = search in
+    rw (← placed .place-of-number .ensures .0) (c .outcome-at .ensures)
 
 pub outcome-of-spec : {M : Type 1} → statement M
 outcome-of-spec = tie.close (tie.spec place-of-number-requires outcome-at-requires returns)

@@ -1,10 +1,10 @@
 use Rattle.shard.specs.Queries.{hasId}
 use Rattle.loops.proofs.Loops.{Finding, find-start, find-hit, find-next, find-end}
 use Rattle.layout.specs.Layout.{heldPlace, word, tokensOf, view, noToken}
-use Rattle.layout.proofs.Slots.{length-tokens}
+use Rattle.shard.proofs.Asked.{held-slots}
 use Prim.Native.Nat.{_-_}
 use native.Mathlib.Omega.{arith}
-use mathlib.Core.Path.{_≡_, sym}
+use mathlib.Core.Path.{_≡_, sym, _∙_}
 use denote.Ref.{now}
 use borrow.Author.Needs.{needs}
 use Rattle.shard.proofs.queries.place_of_token.Statement.{statement}
@@ -28,16 +28,11 @@ is-token-requires c κs = search needs
 returns : tie.Need-returns Inv-loop μ-loop
 unfolding view
 returns c =
-    let after-is-token : tie.After-is-token Inv-loop μ-loop = search in
-    let at-loop : tie.At-loop Inv-loop μ-loop = search in
+    let asked : tie.After-is-token Inv-loop μ-loop = search in
+    let turn : tie.At-loop Inv-loop μ-loop = search in
     let entry : tie.Start Inv-loop μ-loop = search in
-    let args = entry .args in
-    let loop = at-loop .loop in
-    let pre = entry .pre in
-    let is-token = after-is-token .is-token in
-    let if1 = c .if1 in
-    let long = length-tokens (now (args .s)) in
-    sym (find-hit noToken (loop .inv .1) (omega arith) (omega (arith, pre .held, long)) (rw (← is-token .ensures) (if1 .taken)))
+    let hit = find-hit noToken (turn .loop .inv .1) (omega arith) (held-slots (entry .pre)) in
+    sym (hit (sym (asked .is-token .ensures) ∙ c .if1 .taken))
 
 add-i : tie.Need-add-i Inv-loop μ-loop
 add-i c = search needs
@@ -47,23 +42,17 @@ loop-less c = search needs
 
 loop-again : tie.Need-loop-again Inv-loop μ-loop
 loop-again c =
-    let after-is-token : tie.After-is-token Inv-loop μ-loop = search in
-    let at-loop : tie.At-loop Inv-loop μ-loop = search in
+    let asked : tie.After-is-token Inv-loop μ-loop = search in
+    let turn : tie.At-loop Inv-loop μ-loop = search in
     let entry : tie.Start Inv-loop μ-loop = search in
-    let args = entry .args in
-    let loop = at-loop .loop in
-    let pre = entry .pre in
-    let is-token = after-is-token .is-token in
-    let if1 = c .if1 in
-    let long = length-tokens (now (args .s)) in
-    (loop .inv .0, find-next noToken (loop .inv .1) (omega arith) (omega (arith, pre .held, long)) (rw (← is-token .ensures) (if1 .left)))
+    let next = find-next noToken (turn .loop .inv .1) (omega arith) (held-slots (entry .pre)) in
+    (turn .loop .inv .0, next (sym (asked .is-token .ensures) ∙ c .if1 .left))
 
 returns-2 : tie.Need-returns-2 Inv-loop μ-loop
 unfolding view
 returns-2 c =
-    let at-loop : tie.At-loop Inv-loop μ-loop = search in
-    let loop = at-loop .loop in
-    sym (find-end (loop .inv .1) (omega arith))
+    let turn : tie.At-loop Inv-loop μ-loop = search in
+    sym (find-end (turn .loop .inv .1) (omega arith))
 
 pub place-of-token-spec : {M : Type 1} → statement M
 place-of-token-spec =

@@ -1,7 +1,7 @@
 use Rattle.model.specs.Totals.{amountOf, totalAmount}
 use Rattle.loops.proofs.Loops.{Summing, sum-start, sum-next, sum-end}
 use Rattle.layout.specs.Layout.{heldPlace, word, tokensOf, view, noToken}
-use Rattle.layout.proofs.Slots.{length-tokens}
+use Rattle.shard.proofs.Asked.{held-slots}
 use Prim.Native.Nat.{_-_, _*_, _≤_}
 use native.Mathlib.Omega.{arith}
 use mathlib.Core.Path.{_≡_, sym, _∙_}
@@ -31,10 +31,8 @@ wide-requires c κs = search needs
 
 add-sum : tie.Need-add-sum Inv-loop μ-loop
 add-sum c =
-    let at-loop : tie.At-loop Inv-loop μ-loop = search in
-    let wide = c .wide in
-    let loop = at-loop .loop in
-    omega (arith, wide .ensures .1, loop .inv .1 .0)
+    let turn : tie.At-loop Inv-loop μ-loop = search in
+    omega (arith, c .wide .ensures .1, turn .loop .inv .1 .0)
 
 add-i : tie.Need-add-i Inv-loop μ-loop
 add-i c = search needs
@@ -44,26 +42,21 @@ loop-less c = search needs
 
 loop-again : tie.Need-loop-again Inv-loop μ-loop
 loop-again c =
-    let after-amount-at : tie.After-amount-at Inv-loop μ-loop = search in
-    let at-loop : tie.At-loop Inv-loop μ-loop = search in
+    let read : tie.After-amount-at Inv-loop μ-loop = search in
+    let turn : tie.At-loop Inv-loop μ-loop = search in
     let entry : tie.Start Inv-loop μ-loop = search in
-    let wide = c .wide in
-    let amount-at = after-amount-at .amount-at in
-    let loop = at-loop .loop in
-    let pre = entry .pre in
-    let args = entry .args in
-    let amount = wide .ensures .0 ∙ amount-at .ensures in
-    let next = sum-next noToken _ (loop .inv .1 .1) (omega arith) (omega (arith, pre .held, length-tokens (now (args .s)))) amount in
-    (loop .inv .0, (omega (arith, wide .ensures .1, loop .inv .1 .0), next))
+    let inv = turn .loop .inv in
+    let amount = c .wide .ensures .0 ∙ read .amount-at .ensures in
+    let next = sum-next noToken _ (inv .1 .1) (omega arith) (held-slots (entry .pre)) amount in
+    (inv .0, (omega (arith, c .wide .ensures .1, inv .1 .0), next))
 
 returns : tie.Need-returns Inv-loop μ-loop
 unfolding view totalAmount
 returns c =
-    let at-loop : tie.At-loop Inv-loop μ-loop = search in
+    let turn : tie.At-loop Inv-loop μ-loop = search in
     let entry : tie.Start Inv-loop μ-loop = search in
-    let loop = at-loop .loop in
-    let pre = entry .pre in
-    (sym (sum-end (loop .inv .1 .1) (omega arith)), omega (arith, loop .inv .1 .0, loop .inv .1 .1 .within, pre .held))
+    let inv = turn .loop .inv in
+    (sym (sum-end (inv .1 .1) (omega arith)), omega (arith, inv .1 .0, inv .1 .1 .within, entry .pre .held))
 
 pub total-amount-spec : {M : Type 1} → statement M
 total-amount-spec =

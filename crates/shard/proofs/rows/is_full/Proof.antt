@@ -10,7 +10,7 @@ known-count-requires c κs = search needs
 returns : tie.Need-returns
 returns c =
     let entry : tie.Start = search in
-    all-known (now (entry .args .s)) (entry .pre) (c .known-count .ensures)
+    all-known (entry .pre) (c .known-count .ensures)
 
 pub is-full-spec : {M : Type 1} → statement M
 is-full-spec = tie.close (tie.spec known-count-requires returns)

@@ -13,8 +13,7 @@ returns : tie.Need-returns
 returns c =
     let counted : tie.After-known-count = search in
     let entry : tie.Start = search in
-    let args = entry .args in
-    sym (no-other (now (args .s)) (entry .pre .0) (args .t) (entry .pre .1) (counted .known-count .ensures) (c .if1 .taken))
+    sym (no-other (entry .pre .0) (entry .args .t) (entry .pre .1) (counted .known-count .ensures) (c .if1 .taken))
 
 same-at-requires : tie.Need-same-at-requires
 same-at-requires c κs = search needs
@@ -24,9 +23,7 @@ returns-2 c =
     let known : tie.Else1 = search in
     let counted : tie.After-known-count = search in
     let entry : tie.Start = search in
-    let args = entry .args in
-    let is = other-is (now (args .s)) (entry .pre .0) (args .t) (entry .pre .1) (counted .known-count .ensures) (known .if1 .left) in
-    sym (is (c .same-at .ensures))
+    sym (other-is (entry .pre .0) (entry .args .t) (entry .pre .1) (counted .known-count .ensures) (known .if1 .left) (c .same-at .ensures))
 
 pub is-other-spec : {M : Type 1} → statement M
 is-other-spec = tie.close (tie.spec known-count-requires returns same-at-requires returns-2)

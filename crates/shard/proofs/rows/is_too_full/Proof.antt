@@ -28,18 +28,13 @@ add-if1-2 c = search needs
 
 returns : tie.Need-returns
 returns c =
-    let after-known-count : tie.After-known-count = search in
-    let after-count-here : tie.After-count-here = search in
-    let after-held : tie.After-held = search in
-    let after-own-number : tie.After-own-number = search in
+    let counted : tie.After-known-count = search in
+    let more : tie.After-count-here = search in
+    let held : tie.After-held = search in
+    let numbered : tie.After-own-number = search in
     let entry : tie.Start = search in
-    let args = entry .args in
-    let pre = entry .pre in
-    let own-number = after-own-number .own-number in
-    let held = after-held .held in
-    let count-here = after-count-here .count-here in
-    let known-count = after-known-count .known-count in
-    not-full (now (args .s)) pre (args .t) (own-number .ensures) (held .ensures) (count-here .ensures .0) (known-count .ensures) (omega arith)
+    not-full (entry .pre) (entry .args .t) (numbered .own-number .ensures) (held .held .ensures) (more .count-here .ensures .0)
+    (counted .known-count .ensures) (omega arith)
 
 reserved-here-requires : tie.Need-reserved-here-requires
 reserved-here-requires c κs = search needs
@@ -52,17 +47,12 @@ add-result-2 c = search needs
 
 returns-2 : tie.Need-returns-2
 returns-2 c =
-    let after-count-here : tie.After-count-here = search in
-    let after-held : tie.After-held = search in
-    let after-own-number : tie.After-own-number = search in
+    let more : tie.After-count-here = search in
+    let held : tie.After-held = search in
+    let numbered : tie.After-own-number = search in
     let entry : tie.Start = search in
-    let args = entry .args in
-    let pre = entry .pre in
-    let own-number = after-own-number .own-number in
-    let held = after-held .held in
-    let count-here = after-count-here .count-here in
-    let reserved-here = c .reserved-here in
-    full-is (now (args .s)) pre (args .t) (own-number .ensures) (held .ensures) (count-here .ensures .0) (reserved-here .ensures .0)
+    full-is (entry .pre) (entry .args .t) (numbered .own-number .ensures) (held .held .ensures) (more .count-here .ensures .0)
+    (c .reserved-here .ensures .0)
 
 pub is-too-full-spec : {M : Type 1} → statement M
 is-too-full-spec =

@@ -12,8 +12,7 @@ known-count-requires c κs = search needs
 returns : tie.Need-returns
 returns c =
     let entry : tie.Start = search in
-    let args = entry .args in
-    unknown-is (now (args .s)) (entry .pre .0) (args .t) (entry .pre .1) (c .known-count .ensures)
+    unknown-is (entry .pre .0) (entry .args .t) (entry .pre .1) (c .known-count .ensures)
 
 pub is-unknown-spec : {M : Type 1} → statement M
 is-unknown-spec = tie.close (tie.spec known-count-requires returns)

@@ -10,7 +10,7 @@ known-count-requires c κs = search needs
 returns : tie.Need-returns
 returns c =
     let entry : tie.Start = search in
-    any-known (now (entry .args .s)) (entry .pre) (c .known-count .ensures)
+    any-known (entry .pre) (c .known-count .ensures)
 
 pub knows-any-spec : {M : Type 1} → statement M
 knows-any-spec = tie.close (tie.spec known-count-requires returns)

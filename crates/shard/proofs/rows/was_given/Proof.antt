@@ -14,16 +14,14 @@ is-given-requires c κs = search needs
 
 returns : tie.Need-returns
 unfolding view
-returns c =
-    let is-given = c .is-given in
-    is-given .ensures
+returns c = c .is-given .ensures
 
 returns-2 : tie.Need-returns-2
 unfolding view
 returns-2 c =
     let entry : tie.Start = search in
-    let args = entry .args in
-    sym (List·getD-eq-default (givenOf (now (args .s))) false {n = args .index} (omega (arith, length-given (now (args .s)))))
+    let words = now (entry .args .s) in
+    sym (List·getD-eq-default (givenOf words) false {n = entry .args .index} (omega (arith, length-given words)))
 
 pub was-given-spec : {M : Type 1} → statement M
 was-given-spec = tie.close (tie.spec is-given-requires returns returns-2)

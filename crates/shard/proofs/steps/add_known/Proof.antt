@@ -18,14 +18,9 @@ set-known-count-requires c κs = search needs
 
 returns : tie.Need-returns
 returns c =
-    let after-put-known : tie.After-put-known = search in
-    let after-known-count : tie.After-known-count = search in
-    let entry : tie.Start = search in
-    let args = entry .args in
-    let known-count = after-known-count .known-count in
-    let put-known = after-put-known .put-known in
-    let set-known-count = c .set-known-count in
-    grown (now (args .s)) _ _ (args .k) (known-count .ensures) (put-known .ensures) (set-known-count .ensures)
+    let put : tie.After-put-known = search in
+    let counted : tie.After-known-count = search in
+    grown (counted .known-count .ensures) (put .put-known .ensures) (c .set-known-count .ensures)
 
 pub add-known-spec : {M : Type 1} → statement M
 add-known-spec =

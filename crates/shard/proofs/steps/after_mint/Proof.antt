@@ -23,17 +23,12 @@ give-requires c κs = search needs
 
 returns : tie.Need-returns
 returns c =
-    let after-set-held : tie.After-set-held = search in
-    let after-put-token : tie.After-put-token = search in
-    let after-held : tie.After-held = search in
+    let counted : tie.After-set-held = search in
+    let put : tie.After-put-token = search in
+    let held : tie.After-held = search in
     let entry : tie.Start = search in
-    let args = entry .args in
-    let held = after-held .held in
-    let put-token = after-put-token .put-token in
-    let set-held = after-set-held .set-held in
-    let give = c .give in
-    let law = minted (now (args .s)) _ _ _ (args .index) (args .owner) (args .amount) (held .ensures) refl (search needs) in
-    law (put-token .ensures) (set-held .ensures) (give .ensures)
+    minted (entry .args .index) (entry .args .owner) (entry .args .amount) (held .held .ensures) refl (search needs)
+    (put .put-token .ensures) (counted .set-held .ensures) (c .give .ensures)
 
 pub after-mint-spec : {M : Type 1} → statement M
 after-mint-spec =

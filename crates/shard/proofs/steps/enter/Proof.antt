@@ -18,35 +18,16 @@ add-known-requires c κs = search needs
 
 decide-at-requires : tie.Need-decide-at-requires
 decide-at-requires c κs =
-    let after-add-known : tie.After-add-known = search in
-    let after-newly-known : tie.After-newly-known = search in
-    let after-known-count : tie.After-known-count = search in
-    let after-own-number : tie.After-own-number = search in
+    let added : tie.After-add-known = search in
+    let made : tie.After-newly-known = search in
+    let counted : tie.After-known-count = search in
+    let numbered : tie.After-own-number = search in
     let entry : tie.Start = search in
-    let args = entry .args in
-    let pre = entry .pre in
-    let own-number = after-own-number .own-number in
-    let known-count = after-known-count .known-count in
-    let newly-known = after-newly-known .newly-known in
-    let add-known = after-add-known .add-known in
-    enter-decides (args .verdict) (args .t) (now (args .s)) pre _ (own-number .ensures) (known-count .ensures) (newly-known .ensures) (add-known .ensures)
+    enter-decides (entry .pre) (numbered .own-number .ensures) (counted .known-count .ensures) (made .newly-known .ensures)
+    (added .add-known .ensures)
 
 returns : tie.Need-returns
-returns c =
-    let after-add-known : tie.After-add-known = search in
-    let after-newly-known : tie.After-newly-known = search in
-    let after-known-count : tie.After-known-count = search in
-    let after-own-number : tie.After-own-number = search in
-    let entry : tie.Start = search in
-    let args = entry .args in
-    let pre = entry .pre in
-    let own-number = after-own-number .own-number in
-    let known-count = after-known-count .known-count in
-    let newly-known = after-newly-known .newly-known in
-    let add-known = after-add-known .add-known in
-    let decide-at = c .decide-at in
-    entered (args .verdict) (args .t) (now (args .s)) pre _ (own-number .ensures) (known-count .ensures) (newly-known .ensures) (add-known .ensures) _
-    (decide-at .ensures .0) (decide-at .ensures .1)
+returns c = search entered
 
 pub enter-spec : {M : Type 1} → statement M
 enter-spec =

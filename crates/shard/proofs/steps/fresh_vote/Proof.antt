@@ -12,22 +12,15 @@ put-heard-requires c κs = search needs
 
 decide-at-requires : tie.Need-decide-at-requires
 decide-at-requires c κs =
-    let after-put-heard : tie.After-put-heard = search in
+    let noted : tie.After-put-heard = search in
     let entry : tie.Start = search in
-    let args = entry .args in
-    let pre = entry .pre in
-    let put-heard = after-put-heard .put-heard in
-    fresh-decides (args .place) (args .sender) (args .verdict) (now (args .s)) pre _ (put-heard .ensures)
+    fresh-decides (entry .pre) (noted .put-heard .ensures)
 
 returns : tie.Need-returns
 returns c =
-    let after-put-heard : tie.After-put-heard = search in
+    let noted : tie.After-put-heard = search in
     let entry : tie.Start = search in
-    let args = entry .args in
-    let pre = entry .pre in
-    let put-heard = after-put-heard .put-heard in
-    let decide-at = c .decide-at in
-    fresh-done (args .place) (args .sender) (args .verdict) (now (args .s)) pre _ (put-heard .ensures) _ (decide-at .ensures .0) (decide-at .ensures .1)
+    fresh-done (entry .pre) (noted .put-heard .ensures) (c .decide-at .ensures)
 
 pub fresh-vote-spec : {M : Type 1} → statement M
 fresh-vote-spec = tie.close (tie.spec add-put-heard put-heard-requires decide-at-requires returns)

@@ -10,9 +10,7 @@ array-write-heard : tie.Need-array-write-heard
 array-write-heard c = search needs
 
 returns : tie.Need-returns
-returns c =
-    let note = c .note in
-    rw (note .ensures) refl
+returns c = rw (c .note .ensures)
 
 pub newly-known-spec : {M : Type 1} → statement M
 newly-known-spec = tie.close (tie.spec note-requires array-write-heard returns)
