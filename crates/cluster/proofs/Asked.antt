@@ -3,7 +3,7 @@ use Prim.Native.Nat.{ℕ, _+_, _≤_}
 use mathlib.Core.Path.{_≡_, refl, sym, ap, _∙_}
 use mathlib.Core.List.{List, [], _∷_, map}
 use native.Mathlib.Omega.{arith}
-use lib.ListN.{length, take, List·getD-eq-default, length-map}
+use lib.ListN.{take, List·getD-eq-default, length-map}
 use lib.Seq.{take-all}
 use Rattle.model.specs.Totals.{heldIn, totalHeld}
 use Rattle.transaction.specs.Lists.{total}

@@ -1,12 +1,12 @@
 -- One shard of eight: its ledger, the ledgers after it was changed, and the promise of a call that one shard carried out.
 use Prim.Native.Nat.{ℕ, zero, suc, _+_, _≤_, _<_}
 use mathlib.Core.Path.{_≡_, refl, sym, ap, _∙_, subst}
-use mathlib.Core.Bool.{Bool, true, false, not, _&&_}
-use mathlib.Core.List.{List, [], _∷_, _++_, map}
+use mathlib.Core.Bool.{Bool, true, false, not}
+use mathlib.Core.List.{List, [], _∷_, map}
 use native.Mathlib.Omega.{arith}
-use borrow.Author.Tests.{eqb-true, eqb-false, eq-eqb, ne-eqb, not-true, not-false, lt-leb}
-use lib.Dec.{eqb, leb}
-use lib.ListN.{length, getD, set, replicate, length-set, length-map}
+use borrow.Author.Tests.{eqb-true, eqb-false, ne-eqb, not-false, lt-leb}
+use lib.Dec.{eqb}
+use lib.ListN.{length, getD, set, replicate, length-set}
 use lib.Seq.{getD-set-same, getD-set-other, set-getD}
 use Rattle.transaction.specs.declared.Transaction.{Transaction}
 use Rattle.transaction.specs.Lists.{firstOf}
@@ -16,7 +16,7 @@ use Rattle.model.specs.declared.Answer.{Answer}
 use Rattle.model.specs.declared.Answer.the-variants.{Refused}
 use Rattle.model.specs.Steps.{Ledger, house, emptyLedger}
 use Rattle.model.specs.Shard.{Call, mint, register, deliver, deliverForm, deliverRest, deliverRefusals, hear, shardStep}
-use Rattle.model.specs.Cluster.{emptyShards, ledgerAt, gave, notGiven, atShard, clusterStep}
+use Rattle.model.specs.Cluster.{ledgerAt, gave, notGiven, atShard, clusterStep}
 use Rattle.model.proofs.Basics.{passed}
 use Rattle.model.proofs.Tables.{unless-refused, receiverOf, no-such-shard}
 use Rattle.model.proofs.Refusals.{shard-below}
@@ -24,7 +24,8 @@ use Rattle.shard.specs.View as shard
 use Rattle.cluster.specs.View.{view, shardAt, SoundAt, Sound, Fresh, Steps}
 
 -- an element of a mapped list, and a mapped list after a store
-map-at : {A B : Type 0} (f : A → B) (l : List A) (i : ℕ) (d : A) (e : B) → i < length l → getD (map f l) i e ≡ f (getD l i d)
+map-at : {A B : Type 0} (f : A → B) (l : List A) (i : ℕ) (d : A) (e : B) → i < length l
+    → getD (map f l) i e ≡ f (getD l i d)
 map-at f [] i d e h = absurd (omega arith)
 map-at f (x ∷ l) zero d e h = refl
 map-at f (x ∷ l) (suc i) d e h = map-at f l i d e (omega arith)
@@ -137,7 +138,8 @@ module _ (receiver sender verdict : ℕ) (t : Transaction) where
         rw (← e, ne-eqb cause 0 n, whole, r) (ap (λ (l : List Ledger). (l, Refused cause)) same)
 
 module _ {receiver sender verdict : ℕ} {t : Transaction} where
-  pub formed : {cause : ℕ} → cause ≡ firstOf (form receiver sender verdict t) → cause ≡ 0 → Formed receiver sender verdict t
+  pub formed : {cause : ℕ} → cause ≡ firstOf (form receiver sender verdict t) → cause ≡ 0
+      → Formed receiver sender verdict t
   unfolding deliverForm
   formed e z =
       let passes = sym e ∙ z in

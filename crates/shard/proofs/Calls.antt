@@ -1,8 +1,8 @@
 -- Calls: what the model's step is where a call is refused and where it passes, and the promise of the whole call.
-use Prim.Native.Nat.{ℕ, _+_, _≤_, _<_}
+use Prim.Native.Nat.{ℕ, _≤_, _<_}
 use mathlib.Core.Path.{_≡_, refl, sym, ap, _∙_, subst}
-use mathlib.Core.Bool.{Bool, true}
-use mathlib.Core.List.{List, [], _∷_, _++_}
+use mathlib.Core.Bool.{Bool}
+use mathlib.Core.List.{List, [], _∷_}
 use native.Mathlib.Omega.{arith}
 use borrow.Author.Tests.{ne-eqb}
 use lib.Dec.{eqb}
@@ -27,29 +27,35 @@ use Rattle.model.specs.Steps.{
   vote,
   newlyKnown,
   outcomeOf,
-  settle,
   afterRegister,
-  isFor,
   placeOf,
   entryOf,
-  nothingKnown,
   heardFrom,
   hearing,
   afterVote,
 }
-use Rattle.model.specs.Shard.{Call, mint, register, deliver, mintRefusals, registerRefusals, deliverForm, deliverRest, deliverRefusals, hear, shardStep}
+use Rattle.model.specs.Shard.{
+  Call,
+  mint,
+  register,
+  deliver,
+  mintRefusals,
+  registerRefusals,
+  deliverForm,
+  deliverRest,
+  deliverRefusals,
+  hear,
+  shardStep,
+}
 use Rattle.model.proofs.Basics.{eqb-eq, not-no, passed}
 use Rattle.model.specs.Fit.{Fit}
 use Rattle.model.proofs.Capacity.{fit-step}
 use Rattle.model.proofs.Tables.{unless-refused, unless-done}
-use Rattle.model.proofs.Entries.{whole-known}
 use Rattle.model.proofs.Refusals.{shard-below, mint-passes, RegisterPasses, register-passes, DeliverPasses, deliver-passes}
 use Rattle.layout.specs.Layout.{tokenSlots, knownSlots, genesisSlots, shardOf, slotKnown}
-use Rattle.layout.proofs.Ledgers.{held-length, known-length, known-entry}
-use Rattle.holdings.specs.Held.{Changes}
+use Rattle.layout.proofs.Ledgers.{held-length, known-length}
 use Rattle.holdings.proofs.Tokens.{turn-room, pledges-in-turn}
 use Rattle.registry.specs.Numbers.{isNumbered}
-use Rattle.registry.proofs.Finds.{asks-for, found-there, passes-there}
 use Rattle.shard.specs.View.{number, view, Sound, Steps}
 use Rattle.shard.specs.Parts.{Leaves, Pledges, entryFor, enteredLedger, Entering, Entered, heardLedger, FreshVote, FreshDone}
 use Rattle.shard.proofs.Ledgers.{leaves-then, holds-leaves}
@@ -116,7 +122,8 @@ module _ {ws : List ℕ} (sound : Sound ws) {cause : ℕ} where
       let me = number ws in
       let tokens = view ws .tokens in
       let answer = Registered (vote me tokens t) (outcomeOf (newlyKnown me tokens t)) in
-      stays-put sound (register receiver t) (rw (← e) (unless-refused cause (view ws) (afterRegister me (view ws) t, answer) n))
+      stays-put sound (register receiver t)
+      (rw (← e) (unless-refused cause (view ws) (afterRegister me (view ws) t, answer) n))
 
   deliver-refused : {receiver sender verdict : ℕ} {t : Transaction}
       → cause ≡ firstOf (deliverRefusals house (number ws) (view ws) receiver sender verdict t) → (cause ≡ 0 → ⊥)
@@ -128,35 +135,26 @@ module _ {ws : List ℕ} (sound : Sound ws) {cause : ℕ} where
 
 -- ---- A genesis token that passes
 
--- it passes: its index is one of a genesis token, and there is a slot for it
-pub record Opens (ws : List ℕ) (receiver index owner amount : ℕ) : Type 0 where
-  pub step : stepped ws (mint receiver index owner amount) ≡ (afterMint (view ws) index owner amount, Minted)
-  pub index-fits : index < genesisSlots
-  pub room : shardOf ws .held < tokenSlots
+module _ {ws : List ℕ} (sound : Sound ws) (receiver index owner amount : ℕ) {cause : ℕ}
+    (e : cause ≡ firstOf (mintRefusals house (number ws) (view ws) receiver index owner amount)) (z : cause ≡ 0) where
+  mint-step : stepped ws (mint receiver index owner amount) ≡ (afterMint (view ws) index owner amount, Minted)
+  unfolding shardStep
+  mint-step =
+      unless-done (firstOf (mintRefusals house (number ws) (view ws) receiver index owner amount)) (view ws)
+      (afterMint (view ws) index owner amount, Minted) (sym e ∙ z)
 
-module _ {ws : List ℕ} (sound : Sound ws) {receiver index owner amount : ℕ} where
-  pub opens : {cause : ℕ} → cause ≡ firstOf (mintRefusals house (number ws) (view ws) receiver index owner amount) → cause ≡ 0
-      → Opens ws receiver index owner amount
-  unfolding shardStep afterMint
-  opens e z =
-      let call = mint receiver index owner amount in
-      let me = number ws in
-      let ledger = view ws in
-      let pass = sym e ∙ z in
-      let step : stepped ws call ≡ (afterMint ledger index owner amount, Minted) =
-      unless-done (firstOf (mintRefusals house me ledger receiver index owner amount)) ledger
-      (afterMint ledger index owner amount, Minted) pass in
-      let more = length-append (ledger .tokens) (genesisToken index owner amount ∷ []) in
-      record {
-        step = step;
-        index-fits = mint-passes house me ledger receiver index owner amount pass .index-fits;
-        room = omega (arith, room-left sound call step, more, held-length ws (sound .held));
-      }
+  pub mint-room : shardOf ws .held < tokenSlots
+  unfolding afterMint
+  mint-room =
+      let more = length-append (view ws .tokens) (genesisToken index owner amount ∷ []) in
+      omega (arith, room-left sound (mint receiver index owner amount) mint-step, more, held-length ws (sound .held))
 
-  pub mint-carried : {vs : List ℕ} → Opens ws receiver index owner amount
-      → Leaves ws (afterMint (view ws) index owner amount) (shardOf ws .known) vs
+  pub mint-index : index < genesisSlots
+  mint-index = mint-passes house (number ws) (view ws) receiver index owner amount (sym e ∙ z) .index-fits
+
+  pub mint-carried : {vs : List ℕ} → Leaves ws (afterMint (view ws) index owner amount) (shardOf ws .known) vs
       → Steps ws (mint receiver index owner amount) Minted vs
-  mint-carried o l = goes-on sound (mint receiver index owner amount) (o .step) (sound .known) l
+  mint-carried l = goes-on sound (mint receiver index owner amount) mint-step (sound .known) l
 
 -- ---- A registration that passes
 
@@ -230,7 +228,7 @@ module _ {ws : List ℕ} (sound : Sound ws) (sender verdict : ℕ) (t : Transact
   vote-passes : DeliverPasses house here (view ws) here sender verdict t
   vote-passes = deliver-passes house here (view ws) here sender verdict t pass
 
-  pub vote-below : place < shardOf ws .known
+  vote-below : place < shardOf ws .known
   vote-below = stands sound t found (vote-passes .number-known) (vote-passes .no-other)
 
   pub vote-slot : place < knownSlots
@@ -259,7 +257,10 @@ module _ {ws : List ℕ} (sound : Sound ws) (sender verdict : ℕ) (t : Transact
       after-is = rw (entry-at, place-is) refl
 
       fresh-step : shardStep house here (view ws) (deliver here sender verdict t)
-          ≡ (afterVote here (view ws) sender verdict t, Heard (outcomeOf (hearing sender verdict (entryOf t (view ws .known)))))
+          ≡ (
+            afterVote here (view ws) sender verdict t,
+            Heard (outcomeOf (hearing sender verdict (entryOf t (view ws .known)))),
+          )
       unfolding hear
       fresh-step = hear-step ∙ rw (sym heard-is ∙ z) refl
 
@@ -308,8 +309,8 @@ module _ (ws : List ℕ) (receiver : ℕ) (t : Transaction) {cause : ℕ}
   register-back {answer} {vs} h = subst (λ (p : ℕ). Steps ws (register p t) answer vs) (sym register-addressed) h
 
 -- a vote: 3 to 6 first, then what the ledger says
-module _ {ws : List ℕ} (sound : Sound ws) (receiver sender verdict : ℕ) (t : Transaction) {me cause : ℕ} (em : me ≡ number ws)
-    (form : cause ≡ firstOf (deliverForm house me receiver sender verdict t)) where
+module _ {ws : List ℕ} (sound : Sound ws) (receiver sender verdict : ℕ) (t : Transaction) {me cause : ℕ}
+    (em : me ≡ number ws) (form : cause ≡ firstOf (deliverForm house me receiver sender verdict t)) where
   own-form : cause ≡ firstOf (deliverForm house (number ws) receiver sender verdict t)
   own-form = form ∙ rw em refl
 

@@ -13,7 +13,6 @@ use Rattle.transaction.specs.declared.Transaction.{Transaction}
 use Rattle.model.specs.declared.Token.{Token}
 use Rattle.model.specs.declared.Known.{Known}
 use Rattle.model.specs.declared.Outcome.{Outcome}
-use Rattle.model.specs.declared.Answer.{Answer}
 use Rattle.model.specs.declared.Answer.the-variants.{Heard}
 use Rattle.model.specs.Steps.{
   house,
@@ -39,7 +38,6 @@ use Rattle.loops.proofs.Loops.{append-one}
 use Rattle.loops.proofs.Fours.{all-kept}
 use Rattle.layout.specs.Layout as layout
 use Rattle.layout.specs.Layout.{
-  shardWords,
   tokenSlots,
   knownSlots,
   genesisSlots,
@@ -69,28 +67,15 @@ use Rattle.layout.specs.Layout.{
 }
 use Rattle.layout.proofs.Regions.{tab-same}
 use Rattle.layout.proofs.Slots.{length-tokens, length-known}
-use Rattle.layout.proofs.Ledgers.{held-length, known-length}
+use Rattle.layout.proofs.Ledgers.{held-length}
 use Rattle.holdings.specs.declared.Inputs.{Inputs}
-use Rattle.holdings.specs.Held.{inputsOf, Room, Holds, Changes, Settling, Settles, settledAt}
-use Rattle.shard.specs.View.{number, view, Sound, Fresh}
-use Rattle.shard.specs.Parts.{
-  Pledges,
-  Leaves,
-  Minted,
-  Grows,
-  decidedOn,
-  entryFor,
-  enteredLedger,
-  Entering,
-  Entered,
-  heardIn,
-  heardLedger,
-  FreshVote,
-  FreshDone,
-}
+use Rattle.holdings.specs.Held.{inputsOf, Holds, Changes, Settling, Settles, settledAt}
+use Rattle.shard.specs.View.{number, view, Fresh}
+use Rattle.shard.specs.Parts.{Pledges, Leaves, Minted, Grows, decidedOn, entryFor, Entering, Entered, heardIn, FreshVote, FreshDone}
 
 -- one after another
-pub leaves-then : {ws vs us : List ℕ} {a b c : Ledger} {m n : ℕ} → Leaves ws a m vs → Leaves vs b n us → b ≡ c → Leaves ws c n us
+pub leaves-then : {ws vs us : List ℕ} {a b c : Ledger} {m n : ℕ} → Leaves ws a m vs → Leaves vs b n us → b ≡ c
+    → Leaves ws c n us
 leaves-then p q e = record {
   long = q .long;
   seen = q .seen ∙ e;
@@ -185,8 +170,8 @@ module _ (ws vs : List ℕ) (ledger : Ledger) (count place : ℕ) (k : Known) (p
       record { long = d .long; seen = d .seen; numbered = d .numbered; holds = d .holds; knows = d .knows ∙ p .knows }
 
 -- a transaction entered
-module _ {verdict : Bool} {t : Transaction} {ws : List ℕ} (pre : Entering verdict t ws) {vs : List ℕ} {k : Known} {me place : ℕ}
-    (em : me ≡ number ws) (ep : place ≡ shardOf ws .known) (ek : k ≡ knownWith me verdict t) (g : Grows ws k vs) where
+module _ {verdict : Bool} {t : Transaction} {ws : List ℕ} (pre : Entering verdict t ws) {vs : List ℕ} {k : Known}
+    {me place : ℕ} (em : me ≡ number ws) (ep : place ≡ shardOf ws .known) (ek : k ≡ knownWith me verdict t) (g : Grows ws k vs) where
   is-entry : k ≡ entryFor verdict t ws
   is-entry = ek ∙ rw em refl
 
@@ -271,7 +256,8 @@ module _ {ws : List ℕ} {me : ℕ} (c : Cleared me ws) where
   none-given : givenOf ws ≡ replicate genesisSlots false
   unfolding givenOf
   none-given =
-      tab-same genesisSlots (λ (i : ℕ). false) (givenAt ws) (λ i l. rw (none (givenPlace + i) (omega arith)) refl) ∙ no-flags genesisSlots
+      tab-same genesisSlots (λ (i : ℕ). false) (givenAt ws) (λ i l. rw (none (givenPlace + i) (omega arith)) refl)
+      ∙ no-flags genesisSlots
 
   nothing : view ws ≡ emptyLedger house
   unfolding layout.view
@@ -285,22 +271,25 @@ module _ {ws : List ℕ} {me : ℕ} (c : Cleared me ws) where
       long = c .long;
       held = omega (arith, none heldPlace (omega arith));
       known = omega (arith, none knownPlace (omega arith));
-      fit = subst (λ (m : ℕ). Fit house m (view ws)) (sym (c .numbered)) (subst (Fit house me) (sym nothing) (empty-fit house me));
+      fit =
+          subst (λ (m : ℕ). Fit house m (view ws)) (sym (c .numbered))
+          (subst (Fit house me) (sym nothing) (empty-fit house me));
       once = rw nothing (λ i j h k e. absurd (not-suc-le-zero h));
     };
   }
 
 -- ---- The message, and the pledges
 
-pub same-count : (here found : Inputs) → length (here .list) ≡ 4 → length (found .list) ≡ 4 → here .count ≤ 4 → found .count ≤ 4
+pub same-count : (here found : Inputs) → length (here .list) ≡ 4 → length (found .list) ≡ 4 → here .count ≤ 4
+    → found .count ≤ 4
     → eqb (found .count) (here .count) ≡ eqb (length (inputsOf found)) (length (inputsOf here))
 same-count here found lh lf ch cf =
     let h : length (inputsOf here) ≡ here .count = length-take-le (here .count) (here .list) (omega arith) in
     let f : length (inputsOf found) ≡ found .count = length-take-le (found .count) (found .list) (omega arith) in
     rw (h, f) refl
 
-module _ (ws : List ℕ) (t : Transaction) {me : ℕ} {here found : List Input} (em : me ≡ number ws) (eh : here ≡ inputsHere me t)
-    (ef : found ≡ keep (available (view ws .tokens)) here) where
+module _ (ws : List ℕ) (t : Transaction) {me : ℕ} {here found : List Input} (em : me ≡ number ws)
+    (eh : here ≡ inputsHere me t) (ef : found ≡ keep (available (view ws .tokens)) here) where
   found-is : found ≡ availableHere (number ws) (view ws .tokens) t
   unfolding availableHere
   found-is = ef ∙ rw (eh, em) refl

@@ -1,5 +1,5 @@
 -- A number is known for one transaction only: every call keeps that.
-use Prim.Native.Nat.{ℕ, zero, suc, _+_, _≤_, _<_}
+use Prim.Native.Nat.{ℕ, zero, suc, _+_, _<_}
 use mathlib.Core.Path.{_≡_, refl, sym, ap, _∙_}
 use mathlib.Core.Bool.{Bool, true, false, true≢false}
 use mathlib.Core.List.{List, [], _∷_, _++_}
@@ -91,7 +91,8 @@ module _ (known : List Known) (one : OneEach known) (p : ℕ) (k : Known) (same 
 
 -- ---- Every call
 
-unknown-number : (t : Transaction) (known : List Known) → any (isOther t) known ≡ false → any (isFor t) known ≡ false → any (hasNumber t) known ≡ false
+unknown-number : (t : Transaction) (known : List Known) → any (isOther t) known ≡ false → any (isFor t) known ≡ false
+    → any (hasNumber t) known ≡ false
 unknown-number t known o f = go (any (hasNumber t) known) refl
   where
     go : (b : Bool) → any (hasNumber t) known ≡ b → b ≡ false
@@ -107,7 +108,8 @@ once-step limits me ledger one call = go (shard-effect limits me ledger call)
     go (shard-refused n) = one
     go (shard-minted p) = one
     go (shard-registered {receiver} {t} p) =
-        once-more (ledger .known) one (newlyKnown me (ledger .tokens) t) (unknown-number t (ledger .known) (p .no-other) (p .unknown))
+        let new = unknown-number t (ledger .known) (p .no-other) (p .unknown) in
+        once-more (ledger .known) one (newlyKnown me (ledger .tokens) t) new
     go (shard-heard {receiver} {sender} {verdict} {t} p f z) =
         once-changed (ledger .known) one (placeOf t (ledger .known)) (hearing sender verdict (entryOf t (ledger .known))) refl
     go (shard-again p n) = one

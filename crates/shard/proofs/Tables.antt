@@ -12,8 +12,8 @@ use Rattle.transaction.specs.Lists.{any, firstOf}
 use Rattle.transaction.proofs.Tables.{numbered, table-stands, table-behind}
 use Rattle.model.specs.declared.Known.{Known}
 use Rattle.model.specs.Lists.{find}
-use Rattle.model.specs.Steps.{Ledger, house, isFor, placeOf, entryOf, nothingKnown, heardFrom, outputsHere}
-use Rattle.model.specs.Shard.{hasNumber, isOther, tooFull, reserved}
+use Rattle.model.specs.Steps.{house, isFor, placeOf, entryOf, nothingKnown, heardFrom, outputsHere}
+use Rattle.model.specs.Shard.{hasNumber, isOther, otherVerdict, tooFull, reserved}
 use Rattle.model.proofs.Capacity.{find-below}
 use Rattle.layout.specs.Layout.{tokenSlots, knownSlots, shardOf, slotKnown}
 use Rattle.layout.proofs.Ledgers.{held-length, known-length, known-entry}
@@ -37,11 +37,13 @@ none = record { so = refl }
 pub here : {told test : Bool} {number : ℕ} {rest : Table} → told ≡ test → told ≡ true → Says ((test, number) ∷ rest) number
 here e y = record { so = rw (← e, y) refl }
 
-pub past : {told test : Bool} {number found : ℕ} {rest : Table} → told ≡ test → told ≡ false → Says rest found → Says ((test, number) ∷ rest) found
+pub past : {told test : Bool} {number found : ℕ} {rest : Table} → told ≡ test → told ≡ false → Says rest found
+    → Says ((test, number) ∷ rest) found
 past e n s = record { so = rw (← e, n) (s .so) }
 
 -- the same where the test is told by its opposite
-pub here-not : {told test : Bool} {number : ℕ} {rest : Table} → told ≡ test → not told ≡ true → Says ((not test, number) ∷ rest) number
+pub here-not : {told test : Bool} {number : ℕ} {rest : Table} → told ≡ test → not told ≡ true
+    → Says ((not test, number) ∷ rest) number
 here-not e y = here (ap not e) y
 
 pub past-not : {told test : Bool} {number found : ℕ} {rest : Table} → told ≡ test → not told ≡ false → Says rest found
@@ -80,8 +82,8 @@ module _ {ws : List ℕ} (sound : Sound ws) {count : ℕ} (ec : count ≡ shardO
 
 -- ---- The tests that go by the place of the number: 11, 7 and 8
 
-module _ {ws : List ℕ} (sound : Sound ws) (t : Transaction) {place count : ℕ} (found : place ≡ find (isNumbered (t .number)) (view ws .known))
-    (ec : count ≡ shardOf ws .known) where
+module _ {ws : List ℕ} (sound : Sound ws) (t : Transaction) {place count : ℕ}
+    (found : place ≡ find (isNumbered (t .number)) (view ws .known)) (ec : count ≡ shardOf ws .known) where
   abbrev known : List Known
   known = view ws .known
 
@@ -93,14 +95,14 @@ module _ {ws : List ℕ} (sound : Sound ws) (t : Transaction) {place count : ℕ
     beyond : length known ≤ place
     beyond = omega (arith, length-is)
 
-    pub no-number : any (hasNumber t) known ≡ false
+    no-number : any (hasNumber t) known ≡ false
     no-number = none-found (hasNumber t) known (rw (← found) beyond)
 
-    pub no-other : any (isOther t) known ≡ false
-    no-other = none-passes known (sound .once) (t .number) found beyond (isOther t) (asks-other t)
+    pub no-other : false ≡ any (isOther t) known
+    no-other = sym (none-passes known (sound .once) (t .number) found beyond (isOther t) (asks-other t))
 
-    pub not-known : any (isFor t) known ≡ false
-    not-known = none-passes known (sound .once) (t .number) found beyond (isFor t) (asks-for t)
+    pub not-known : false ≡ any (isFor t) known
+    not-known = sym (none-passes known (sound .once) (t .number) found beyond (isFor t) (asks-for t))
 
   -- 11, either way
   pub unknown-is : leb count place ≡ not (any (hasNumber t) known)
@@ -108,7 +110,9 @@ module _ {ws : List ℕ} (sound : Sound ws) (t : Transaction) {place count : ℕ
     where
       go : (b : Bool) → leb count place ≡ b → leb count place ≡ not (any (hasNumber t) known)
       go true e = e ∙ ap not (sym (no-number (leb-true count place e)))
-      go false e = e ∙ ap not (sym (known-there known (sound .once) (t .number) found (omega (arith, leb-false count place e, length-is))))
+      go false e =
+          let within : place < length known = omega (arith, leb-false count place e, length-is) in
+          e ∙ ap not (sym (known-there known (sound .once) (t .number) found within))
 
   -- it is known, for this transaction or for another
   module _ (h : place < count) {same : Bool} (es : same ≡ isFor t (slotKnown ws place)) where
@@ -124,28 +128,25 @@ module _ {ws : List ℕ} (sound : Sound ws) (t : Transaction) {place count : ℕ
     same-is : isFor t there ≡ same
     same-is = sym (es ∙ ap (isFor t) entry)
 
-    pub a-number : any (hasNumber t) known ≡ true
-    a-number = known-there known (sound .once) (t .number) found within
-
-    pub other-is : any (isOther t) known ≡ not same
+    pub other-is : not same ≡ any (isOther t) known
     other-is =
-        passes-there known (sound .once) (t .number) found within (isOther t) (asks-other t)
-        ∙ rw (is-numbered known (sound .once) (t .number) found within, same-is) refl
+        sym (passes-there known (sound .once) (t .number) found within (isOther t) (asks-other t)
+        ∙ rw (is-numbered known (sound .once) (t .number) found within, same-is) refl)
 
-    pub for-is : any (isFor t) known ≡ same
-    for-is = passes-there known (sound .once) (t .number) found within (isFor t) (asks-for t) ∙ same-is
+    pub for-is : same ≡ any (isFor t) known
+    for-is = sym (passes-there known (sound .once) (t .number) found within (isFor t) (asks-for t) ∙ same-is)
 
-    pub place-is : same ≡ true → placeOf t known ≡ place
+    place-is : same ≡ true → placeOf t known ≡ place
     unfolding placeOf
     place-is y = found-there known (sound .once) (t .number) found within (isFor t) (asks-for t) (same-is ∙ y)
 
-    pub entry-is : same ≡ true → slotKnown ws place ≡ entryOf t known
+    entry-is : same ≡ true → slotKnown ws place ≡ entryOf t known
     unfolding entryOf
     entry-is y = entry ∙ rw (place-is y) refl
 
 -- ---- 10, by the counts
-module _ {ws : List ℕ} (sound : Sound ws) (t : Transaction) {me held more : ℕ} (em : me ≡ number ws) (eh : held ≡ shardOf ws .held)
-    (eo : more ≡ length (outputsHere me t)) where
+module _ {ws : List ℕ} (sound : Sound ws) (t : Transaction) {me held more : ℕ}
+    (em : me ≡ number ws) (eh : held ≡ shardOf ws .held) (eo : more ≡ length (outputsHere me t)) where
   abbrev wanted : ℕ
   wanted = length (view ws .tokens) + reserved (number ws) (view ws .known) + length (outputsHere (number ws) t)
 
@@ -155,16 +156,19 @@ module _ {ws : List ℕ} (sound : Sound ws) (t : Transaction) {me held more : �
   more-is : length (outputsHere (number ws) t) ≡ more
   more-is = sym (eo ∙ rw em refl)
 
-  pub not-full : {count : ℕ} → count ≡ shardOf ws .known → held + 4 * count + more ≤ tokenSlots → false ≡ tooFull house (number ws) (view ws) t
+  pub not-full : {count : ℕ} → count ≡ shardOf ws .known → held + 4 * count + more ≤ tokenSlots
+      → false ≡ tooFull house (number ws) (view ws) t
   not-full {count} ec h =
       sym (le-ltb (house .tokens) wanted (omega (arith, held-is, more-is, ec, reserved-most (number ws) ws (sound .known))))
 
-  pub full-is : {waiting : ℕ} → waiting ≡ reserved me (view ws .known) → ltb tokenSlots (held + waiting + more) ≡ tooFull house (number ws) (view ws) t
+  pub full-is : {waiting : ℕ} → waiting ≡ reserved me (view ws .known)
+      → ltb tokenSlots (held + waiting + more) ≡ tooFull house (number ws) (view ws) t
   full-is ew = rw (held-is, more-is, ew, em) refl
 
 -- ---- 12: where 11 and 7 do not fit, the transaction stands at the place
 
-module _ {ws : List ℕ} (sound : Sound ws) (t : Transaction) {place : ℕ} (found : place ≡ find (isNumbered (t .number)) (view ws .known))
+module _ {ws : List ℕ} (sound : Sound ws) (t : Transaction) {place : ℕ}
+    (found : place ≡ find (isNumbered (t .number)) (view ws .known))
     (numbered : any (hasNumber t) (view ws .known) ≡ true) (own : any (isOther t) (view ws .known) ≡ false) where
   abbrev among : List Known
   among = view ws .known
@@ -172,8 +176,11 @@ module _ {ws : List ℕ} (sound : Sound ws) (t : Transaction) {place : ℕ} (fou
   pub stands : place < shardOf ws .known
   stands = omega (arith, found, known-length ws (sound .known), find-below (isNumbered (t .number)) among numbered)
 
+  pub stands-slot : place < knownSlots
+  stands-slot = omega (arith, stands, sound .known)
+
   same : isFor t (slotKnown ws place) ≡ true
-  same = not-false _ (sym (other-is sound t found refl stands refl) ∙ own)
+  same = not-false _ (other-is sound t found refl stands refl ∙ own)
 
   pub stands-at : placeOf t among ≡ place
   stands-at = place-is sound t found refl stands refl same
@@ -181,5 +188,10 @@ module _ {ws : List ℕ} (sound : Sound ws) (t : Transaction) {place : ℕ} (fou
   pub stands-there : slotKnown ws place ≡ entryOf t among
   stands-there = entry-is sound t found refl stands refl same
 
-  pub verdict-there : (sender : ℕ) {heard : ℕ} → heard ≡ getD (slotKnown ws place .heard) sender 0 → heard ≡ heardFrom sender (entryOf t among)
-  verdict-there sender e = e ∙ ap (heardFrom sender) stands-there
+  module _ (sender : ℕ) {heard : ℕ} (e : heard ≡ getD (slotKnown ws place .heard) sender 0) where
+    pub verdict-there : heard ≡ heardFrom sender (entryOf t among)
+    verdict-there = e ∙ ap (heardFrom sender) stands-there
+
+    pub other-there : (verdict : ℕ) {told : Bool} → told ≡ otherVerdict heard verdict
+        → told ≡ otherVerdict (heardFrom sender (entryOf t among)) verdict
+    other-there verdict o = o ∙ ap (λ (h : ℕ). otherVerdict h verdict) verdict-there

@@ -22,24 +22,18 @@ mint-token-requires c κs = search needs
 
 returns : tie.Need-returns
 returns c =
-    let after-fields : tie.After-fields = search in
-    let fields = after-fields .fields in
-    let register-transaction = c .register-transaction in
-    rw (fields .given .1) (register-transaction .ensures)
+    let read : tie.After-fields = search in
+    rw (read .fields .given .1) (c .register-transaction .ensures)
 
 returns-2 : tie.Need-returns-2
 returns-2 c =
-    let after-fields2 : tie.After-fields2 = search in
-    let fields2 = after-fields2 .fields2 in
-    let deliver-vote = c .deliver-vote in
-    rw (fields2 .given .1) (deliver-vote .ensures)
+    let read : tie.After-fields2 = search in
+    rw (read .fields2 .given .1) (c .deliver-vote .ensures)
 
 returns-3 : tie.Need-returns-3
 returns-3 c =
-    let after-fields3 : tie.After-fields3 = search in
-    let fields3 = after-fields3 .fields3 in
-    let mint-token = c .mint-token in
-    rw (fields3 .given .1) (mint-token .ensures)
+    let read : tie.After-fields3 = search in
+    rw (read .fields3 .given .1) (c .mint-token .ensures)
 
 pub call-spec : {M : Type 1} → statement M
 call-spec =

@@ -1,13 +1,13 @@
 use Rattle.cluster.proofs.Shards.{lent, Formed, formed, form-refused, not-given, own-form, heard}
-use native.Mathlib.Omega.{arith}
 use borrow.Author.Needs.{needs}
 use Rattle.cluster.proofs.deliver_vote.Statement.{statement}
 use Rattle.cluster.proofs.deliver_vote.Tie as tie
 
+-- A vote of the form that 3 to 6 ask for: its sender and its receiver are shards.
 abbrev Vote : tie.Start → Type 0
 Vote entry = Formed (entry .args .receiver) (entry .args .sender) (entry .args .verdict) (entry .args .t)
 
--- The vote has passed 3 to 6.
+-- It has passed 3 to 6.
 passed : (c : tie.Else1) → let entry : tie.Start = search in Vote entry
 passed c =
     let told : tie.After-deliver-form = search in
@@ -24,13 +24,13 @@ mul-has-given-vote c = search needs
 
 index-1-has-given-vote : tie.Need-index-1-has-given-vote
 index-1-has-given-vote c =
-    let entry : tie.Start = search in
-    omega (arith, passed (search) .from, entry .pre .eight)
+    let vote = passed (search) in
+    search needs
 
 has-given-vote-requires : tie.Need-has-given-vote-requires
 has-given-vote-requires c κs =
-    let entry : tie.Start = search in
-    lent (entry .pre) (entry .args .sender) (passed (search) .from)
+    let vote = passed (search) in
+    search lent
 
 returns-2 : tie.Need-returns-2
 returns-2 c = search (not-given, passed)
@@ -40,13 +40,13 @@ mul-hear-formed c = search needs
 
 index-1-hear-formed : tie.Need-index-1-hear-formed
 index-1-hear-formed c =
-    let entry : tie.Start = search in
-    omega (arith, passed (search) .to, entry .pre .eight)
+    let vote = passed (search) in
+    search needs
 
 hear-formed-requires : tie.Need-hear-formed-requires
 hear-formed-requires c κs =
-    let entry : tie.Start = search in
-    (lent (entry .pre) (entry .args .receiver) (passed (search) .to), own-form (entry .pre) (passed (search)))
+    let vote = passed (search) in
+    search (lent, own-form)
 
 returns-3 : tie.Need-returns-3
 returns-3 c = search (heard, passed)

@@ -1,5 +1,4 @@
 use Rattle.shard.proofs.Calls.{rest-refused, rest-passes}
-use denote.Ref.{now}
 use borrow.Author.Needs.{needs}
 use Rattle.shard.proofs.hear_formed.Statement.{statement}
 use Rattle.shard.proofs.hear_formed.Tie as tie

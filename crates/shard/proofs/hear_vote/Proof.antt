@@ -1,5 +1,4 @@
 use Rattle.shard.proofs.Calls.{form-refused, form-own, form-back}
-use denote.Ref.{now}
 use borrow.Author.Needs.{needs}
 use Rattle.shard.proofs.hear_vote.Statement.{statement}
 use Rattle.shard.proofs.hear_vote.Tie as tie

@@ -1,6 +1,4 @@
 use Rattle.shard.proofs.Calls.{register-refused, register-own, register-back}
-use mathlib.Core.Path.{sym, _∙_}
-use denote.Ref.{now}
 use borrow.Author.Needs.{needs}
 use Rattle.shard.proofs.register_transaction.Statement.{statement}
 use Rattle.shard.proofs.register_transaction.Tie as tie

@@ -1,6 +1,7 @@
 use Rattle.model.specs.Totals.{totalAmount, heldIn}
-use Rattle.cluster.proofs.Shards.{ledger-of}
+use Rattle.cluster.proofs.Shards.{lent, ledger-of}
 use Rattle.cluster.proofs.Asked.{ledger-none}
+use native.Mathlib.Omega.{arith}
 use borrow.Author.Needs.{needs}
 use Rattle.cluster.proofs.queries.amount_at.Statement.{statement}
 use Rattle.cluster.proofs.queries.amount_at.Tie as tie
@@ -18,9 +19,7 @@ index-1-total-amount : tie.Need-index-1-total-amount
 index-1-total-amount c = search needs
 
 total-amount-requires : tie.Need-total-amount-requires
-total-amount-requires c κs =
-    let entry : tie.Start = search in
-    entry .pre .each (entry .args .number) (search needs) .sound
+total-amount-requires c κs = search (lent, arith)
 
 returns-2 : tie.Need-returns-2
 unfolding heldIn

@@ -1,5 +1,6 @@
-use Rattle.cluster.proofs.Shards.{ledger-of}
+use Rattle.cluster.proofs.Shards.{lent, ledger-of}
 use Rattle.cluster.proofs.Asked.{ledger-none}
+use native.Mathlib.Omega.{arith}
 use borrow.Author.Needs.{needs}
 use Rattle.cluster.proofs.queries.held_count.Statement.{statement}
 use Rattle.cluster.proofs.queries.held_count.Tie as tie
@@ -16,9 +17,7 @@ index-1-held-count : tie.Need-index-1-held-count
 index-1-held-count c = search needs
 
 held-count-requires : tie.Need-held-count-requires
-held-count-requires c κs =
-    let entry : tie.Start = search in
-    entry .pre .each (entry .args .number) (search needs) .sound
+held-count-requires c κs = search (lent, arith)
 
 returns-2 : tie.Need-returns-2
 returns-2 c =

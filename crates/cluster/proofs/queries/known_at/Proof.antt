@@ -1,5 +1,6 @@
-use Rattle.cluster.proofs.Shards.{ledger-of}
+use Rattle.cluster.proofs.Shards.{lent, ledger-of}
 use Rattle.cluster.proofs.Asked.{ledger-none}
+use native.Mathlib.Omega.{arith}
 use borrow.Author.Needs.{needs}
 use Rattle.cluster.proofs.queries.known_at.Statement.{statement}
 use Rattle.cluster.proofs.queries.known_at.Tie as tie
@@ -20,9 +21,7 @@ index-1-known-at : tie.Need-index-1-known-at
 index-1-known-at c = search needs
 
 known-at-requires : tie.Need-known-at-requires
-known-at-requires c κs =
-    let entry : tie.Start = search in
-    entry .pre .each (entry .args .number) (search needs) .sound
+known-at-requires c κs = search (lent, arith)
 
 returns-2 : tie.Need-returns-2
 returns-2 c =

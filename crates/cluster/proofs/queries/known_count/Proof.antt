@@ -1,5 +1,6 @@
-use Rattle.cluster.proofs.Shards.{ledger-of}
+use Rattle.cluster.proofs.Shards.{lent, ledger-of}
 use Rattle.cluster.proofs.Asked.{ledger-none}
+use native.Mathlib.Omega.{arith}
 use borrow.Author.Needs.{needs}
 use Rattle.cluster.proofs.queries.known_count.Statement.{statement}
 use Rattle.cluster.proofs.queries.known_count.Tie as tie
@@ -16,9 +17,7 @@ index-1-known-count : tie.Need-index-1-known-count
 index-1-known-count c = search needs
 
 known-count-requires : tie.Need-known-count-requires
-known-count-requires c κs =
-    let entry : tie.Start = search in
-    entry .pre .each (entry .args .number) (search needs) .sound
+known-count-requires c κs = search (lent, arith)
 
 returns-2 : tie.Need-returns-2
 returns-2 c =

@@ -1,4 +1,4 @@
-use Rattle.cluster.proofs.Shards.{ledger-of}
+use Rattle.cluster.proofs.Shards.{lent, ledger-of}
 use Rattle.cluster.proofs.Asked.{ledger-none}
 use Rattle.shard.proofs.Asked.{none-known}
 use mathlib.Core.List.{[]}
@@ -19,9 +19,7 @@ index-1-outcome-at : tie.Need-index-1-outcome-at
 index-1-outcome-at c = search needs
 
 outcome-at-requires : tie.Need-outcome-at-requires
-outcome-at-requires c κs =
-    let entry : tie.Start = search in
-    entry .pre .each (entry .args .number) (search needs) .sound
+outcome-at-requires c κs = search (lent, arith)
 
 returns-2 : tie.Need-returns-2
 returns-2 c =

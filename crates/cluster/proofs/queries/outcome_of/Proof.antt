@@ -1,6 +1,7 @@
-use Rattle.cluster.proofs.Shards.{ledger-of}
+use Rattle.cluster.proofs.Shards.{lent, ledger-of}
 use Rattle.cluster.proofs.Asked.{ledger-none}
 use Rattle.shard.specs.Queries.{outcomeAt, outcomeOfNumber}
+use native.Mathlib.Omega.{arith}
 use borrow.Author.Needs.{needs}
 use Rattle.cluster.proofs.queries.outcome_of.Statement.{statement}
 use Rattle.cluster.proofs.queries.outcome_of.Tie as tie
@@ -18,9 +19,7 @@ index-1-outcome-of : tie.Need-index-1-outcome-of
 index-1-outcome-of c = search needs
 
 outcome-of-requires : tie.Need-outcome-of-requires
-outcome-of-requires c κs =
-    let entry : tie.Start = search in
-    entry .pre .each (entry .args .number) (search needs) .sound
+outcome-of-requires c κs = search (lent, arith)
 
 returns-2 : tie.Need-returns-2
 returns-2 c =

@@ -1,4 +1,4 @@
-use Rattle.cluster.proofs.Shards.{ledger-of}
+use Rattle.cluster.proofs.Shards.{lent, ledger-of}
 use Rattle.cluster.proofs.Asked.{ledger-none}
 use Rattle.shard.proofs.Asked.{none-held}
 use mathlib.Core.List.{[]}
@@ -19,9 +19,7 @@ index-1-token-at : tie.Need-index-1-token-at
 index-1-token-at c = search needs
 
 token-at-requires : tie.Need-token-at-requires
-token-at-requires c κs =
-    let entry : tie.Start = search in
-    entry .pre .each (entry .args .number) (search needs) .sound
+token-at-requires c κs = search (lent, arith)
 
 returns-2 : tie.Need-returns-2
 returns-2 c =

@@ -1,7 +1,4 @@
-use Rattle.shard.specs.Queries.{tokenAt, tokenOfId}
-use Rattle.shard.specs.View.{view}
-use mathlib.Core.Path.{ap, _∙_}
-use denote.Ref.{now}
+use Rattle.shard.specs.Queries.{tokenOfId}
 use borrow.Author.Needs.{needs}
 use Rattle.shard.proofs.queries.find_token.Statement.{statement}
 use Rattle.shard.proofs.queries.find_token.Tie as tie

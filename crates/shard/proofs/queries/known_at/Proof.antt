@@ -1,5 +1,4 @@
 use Rattle.shard.proofs.Asked.{known-within, known-behind}
-use denote.Ref.{now}
 use borrow.Author.Needs.{needs}
 use Rattle.shard.proofs.queries.known_at.Statement.{statement}
 use Rattle.shard.proofs.queries.known_at.Tie as tie
@@ -11,21 +10,13 @@ known-at-requires : tie.Need-known-at-requires
 known-at-requires c κs = search needs
 
 returns : tie.Need-returns
-returns c =
-    let within : tie.Then1 = search in
-    let counted : tie.After-known-count = search in
-    let entry : tie.Start = search in
-    known-within (entry .pre) (entry .args .place) (counted .known-count .ensures) (within .if1 .taken) (c .known-at .ensures)
+returns c = search known-within
 
 blank-known-requires : tie.Need-blank-known-requires
 blank-known-requires c κs = search needs
 
 returns-2 : tie.Need-returns-2
-returns-2 c =
-    let behind : tie.Else1 = search in
-    let counted : tie.After-known-count = search in
-    let entry : tie.Start = search in
-    known-behind (entry .pre) (entry .args .place) (counted .known-count .ensures) (behind .if1 .left) (c .blank-known .ensures)
+returns-2 c = search known-behind
 
 pub known-at-spec : {M : Type 1} → statement M
 known-at-spec =

@@ -1,5 +1,4 @@
 use Rattle.shard.proofs.Asked.{outcome-within, outcome-behind}
-use denote.Ref.{now}
 use borrow.Author.Needs.{needs}
 use Rattle.shard.proofs.queries.outcome_at.Statement.{statement}
 use Rattle.shard.proofs.queries.outcome_at.Tie as tie
@@ -11,17 +10,10 @@ outcome-at-requires : tie.Need-outcome-at-requires
 outcome-at-requires c κs = search needs
 
 returns : tie.Need-returns
-returns c =
-    let within : tie.Then1 = search in
-    let counted : tie.After-known-count = search in
-    let entry : tie.Start = search in
-    outcome-within (entry .pre) (entry .args .place) (counted .known-count .ensures) (within .if1 .taken) (c .outcome-at .ensures)
+returns c = search outcome-within
 
 returns-2 : tie.Need-returns-2
-returns-2 c =
-    let counted : tie.After-known-count = search in
-    let entry : tie.Start = search in
-    outcome-behind (entry .pre) (entry .args .place) (counted .known-count .ensures) (c .if1 .left)
+returns-2 c = search outcome-behind
 
 pub outcome-at-spec : {M : Type 1} → statement M
 outcome-at-spec = tie.close (tie.spec known-count-requires outcome-at-requires returns returns-2)

@@ -1,6 +1,5 @@
 use Rattle.shard.proofs.Tables.{not-full, full-is}
 use native.Mathlib.Omega.{arith}
-use denote.Ref.{now}
 use borrow.Author.Needs.{needs}
 use Rattle.shard.proofs.rows.is_too_full.Statement.{statement}
 use Rattle.shard.proofs.rows.is_too_full.Tie as tie
@@ -27,14 +26,7 @@ add-if1-2 : tie.Need-add-if1-2
 add-if1-2 c = search needs
 
 returns : tie.Need-returns
-returns c =
-    let counted : tie.After-known-count = search in
-    let more : tie.After-count-here = search in
-    let held : tie.After-held = search in
-    let numbered : tie.After-own-number = search in
-    let entry : tie.Start = search in
-    not-full (entry .pre) (entry .args .t) (numbered .own-number .ensures) (held .held .ensures) (more .count-here .ensures .0)
-    (counted .known-count .ensures) (omega arith)
+returns c = search (not-full, arith)
 
 reserved-here-requires : tie.Need-reserved-here-requires
 reserved-here-requires c κs = search needs
@@ -46,13 +38,7 @@ add-result-2 : tie.Need-add-result-2
 add-result-2 c = search needs
 
 returns-2 : tie.Need-returns-2
-returns-2 c =
-    let more : tie.After-count-here = search in
-    let held : tie.After-held = search in
-    let numbered : tie.After-own-number = search in
-    let entry : tie.Start = search in
-    full-is (entry .pre) (entry .args .t) (numbered .own-number .ensures) (held .held .ensures) (more .count-here .ensures .0)
-    (c .reserved-here .ensures .0)
+returns-2 c = search full-is
 
 pub is-too-full-spec : {M : Type 1} → statement M
 is-too-full-spec =

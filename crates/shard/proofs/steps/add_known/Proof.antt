@@ -1,5 +1,4 @@
 use Rattle.shard.proofs.Ledgers.{grown}
-use denote.Ref.{now}
 use borrow.Author.Needs.{needs}
 use Rattle.shard.proofs.steps.add_known.Statement.{statement}
 use Rattle.shard.proofs.steps.add_known.Tie as tie
@@ -17,10 +16,7 @@ set-known-count-requires : tie.Need-set-known-count-requires
 set-known-count-requires c κs = search needs
 
 returns : tie.Need-returns
-returns c =
-    let put : tie.After-put-known = search in
-    let counted : tie.After-known-count = search in
-    grown (counted .known-count .ensures) (put .put-known .ensures) (c .set-known-count .ensures)
+returns c = search grown
 
 pub add-known-spec : {M : Type 1} → statement M
 add-known-spec =

@@ -1,7 +1,5 @@
 use Rattle.shard.proofs.Ledgers.{minted}
 use mathlib.Core.Path.{refl}
-use native.Mathlib.Omega.{arith}
-use denote.Ref.{now}
 use borrow.Author.Needs.{needs}
 use Rattle.shard.proofs.steps.after_mint.Statement.{statement}
 use Rattle.shard.proofs.steps.after_mint.Tie as tie

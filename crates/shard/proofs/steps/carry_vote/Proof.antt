@@ -1,5 +1,4 @@
 use Rattle.shard.proofs.Calls.{vote-slot, fresh-ready, fresh-carried, again-carried}
-use denote.Ref.{now}
 use Rattle.shard.proofs.steps.carry_vote.Statement.{statement}
 use Rattle.shard.proofs.steps.carry_vote.Tie as tie
 

@@ -1,7 +1,3 @@
-use Rattle.model.specs.declared.Outcome.{Outcome}
-use Rattle.holdings.specs.Held.{Settling, Settles}
-use mathlib.Core.Path.{sym, subst}
-use denote.Ref.{now}
 use borrow.Author.Needs.{needs}
 use Rattle.shard.proofs.steps.decide_at.Statement.{statement}
 use Rattle.shard.proofs.steps.decide_at.Tie as tie

@@ -1,5 +1,4 @@
 use Rattle.shard.proofs.Ledgers.{enter-decides, entered}
-use denote.Ref.{now}
 use borrow.Author.Needs.{needs}
 use Rattle.shard.proofs.steps.enter.Statement.{statement}
 use Rattle.shard.proofs.steps.enter.Tie as tie
@@ -17,14 +16,7 @@ add-known-requires : tie.Need-add-known-requires
 add-known-requires c κs = search needs
 
 decide-at-requires : tie.Need-decide-at-requires
-decide-at-requires c κs =
-    let added : tie.After-add-known = search in
-    let made : tie.After-newly-known = search in
-    let counted : tie.After-known-count = search in
-    let numbered : tie.After-own-number = search in
-    let entry : tie.Start = search in
-    enter-decides (entry .pre) (numbered .own-number .ensures) (counted .known-count .ensures) (made .newly-known .ensures)
-    (added .add-known .ensures)
+decide-at-requires c κs = search enter-decides
 
 returns : tie.Need-returns
 returns c = search entered

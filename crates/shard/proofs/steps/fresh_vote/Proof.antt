@@ -1,5 +1,4 @@
 use Rattle.shard.proofs.Ledgers.{fresh-decides, fresh-done}
-use denote.Ref.{now}
 use borrow.Author.Needs.{needs}
 use Rattle.shard.proofs.steps.fresh_vote.Statement.{statement}
 use Rattle.shard.proofs.steps.fresh_vote.Tie as tie
@@ -11,16 +10,10 @@ put-heard-requires : tie.Need-put-heard-requires
 put-heard-requires c κs = search needs
 
 decide-at-requires : tie.Need-decide-at-requires
-decide-at-requires c κs =
-    let noted : tie.After-put-heard = search in
-    let entry : tie.Start = search in
-    fresh-decides (entry .pre) (noted .put-heard .ensures)
+decide-at-requires c κs = search fresh-decides
 
 returns : tie.Need-returns
-returns c =
-    let noted : tie.After-put-heard = search in
-    let entry : tie.Start = search in
-    fresh-done (entry .pre) (noted .put-heard .ensures) (c .decide-at .ensures)
+returns c = search fresh-done
 
 pub fresh-vote-spec : {M : Type 1} → statement M
 fresh-vote-spec = tie.close (tie.spec add-put-heard put-heard-requires decide-at-requires returns)

@@ -1,4 +1,3 @@
-use mathlib.Core.Path.{refl}
 use borrow.Author.Needs.{needs}
 use Rattle.shard.proofs.steps.newly_known.Statement.{statement}
 use Rattle.shard.proofs.steps.newly_known.Tie as tie

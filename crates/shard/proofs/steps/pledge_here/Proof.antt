@@ -1,5 +1,4 @@
 use Rattle.shard.proofs.Ledgers.{pledged-here}
-use denote.Ref.{now}
 use borrow.Author.Needs.{needs}
 use Rattle.shard.proofs.steps.pledge_here.Statement.{statement}
 use Rattle.shard.proofs.steps.pledge_here.Tie as tie
@@ -20,14 +19,7 @@ own-vote-requires : tie.Need-own-vote-requires
 own-vote-requires c κs = search needs
 
 returns : tie.Need-returns
-returns c =
-    let pledged : tie.After-pledge-all = search in
-    let found : tie.After-available-of = search in
-    let here : tie.After-inputs-here = search in
-    let numbered : tie.After-own-number = search in
-    let entry : tie.Start = search in
-    pledged-here (now (entry .args .s)) (entry .args .t) (numbered .own-number .ensures) (here .inputs-here .ensures .0)
-    (found .available-of .ensures .0) (pledged .pledge-all .ensures) (c .own-vote .ensures)
+returns c = search pledged-here
 
 pub pledge-here-spec : {M : Type 1} → statement M
 pledge-here-spec =
