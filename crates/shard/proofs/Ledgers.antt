@@ -169,6 +169,14 @@ module _ (ws vs : List ℕ) (ledger : Ledger) (count place : ℕ) (k : Known) (p
       let d = leaves-then {c = decidedOn (number ws) ledger k (ledger .known)} p q (rw (settled-is, p .seen) refl) in
       record { long = d .long; seen = d .seen; numbered = d .numbered; holds = d .holds; knows = d .knows ∙ p .knows }
 
+-- the outcome as it was told can be carried out, and is
+pub told-settling : {told is : Outcome} {place : ℕ} {ws : List ℕ} → told ≡ is → Settling is place ws → Settling told place ws
+told-settling {place = place} {ws = ws} e s = subst (λ (o : Outcome). Settling o place ws) (sym e) s
+
+pub told-settles : {told is : Outcome} (place : ℕ) (ws : List ℕ) {vs : List ℕ} → told ≡ is → Settles told place ws vs
+    → (told ≡ is) × Settles is place ws vs
+told-settles place ws {vs} e s = (e, subst (λ (o : Outcome). Settles o place ws vs) e s)
+
 -- a transaction entered
 module _ {verdict : Bool} {t : Transaction} {ws : List ℕ} (pre : Entering verdict t ws) {vs : List ℕ} {k : Known}
     {me place : ℕ} (em : me ≡ number ws) (ep : place ≡ shardOf ws .known) (ek : k ≡ knownWith me verdict t) (g : Grows ws k vs) where

@@ -17,7 +17,8 @@ abbrev checks : tie.Start → Table
 checks entry = voteChecks 128 (entry .args .receiver) (entry .args .sender) (entry .args .verdict) (entry .args .t)
 
 abbrev parts : tie.Start → Table
-parts entry = (not (takesPart (entry .args .receiver) (entry .args .t)), 6) ∷ (not (takesPart (entry .args .sender) (entry .args .t)), 6) ∷ []
+parts entry =
+    (not (takesPart (entry .args .receiver) (entry .args .t)), 6) ∷ (not (takesPart (entry .args .sender) (entry .args .t)), 6) ∷ []
 
 abbrev form : tie.Start → Table
 form entry = (not (eqb (entry .args .receiver) (entry .args .me)), 3) ∷ checks entry ++ parts entry
@@ -26,13 +27,15 @@ answer : (entry : tie.Start) {number : ℕ} → Says (form entry) number → num
 answer entry said = said .so
 
 -- It is addressed to this shard.
-own : {number : ℕ} (c : tie.Else1) → let entry : tie.Start = search in Says (checks entry ++ parts entry) number → Says (form entry) number
+own : {number : ℕ} (c : tie.Else1) → let entry : tie.Start = search in Says (checks entry ++ parts entry) number
+    → Says (form entry) number
 own c s =
     let entry : tie.Start = search in
     own-shard (entry .args .receiver) (entry .args .me) (checks entry ++ parts entry) (c .if1 .left) (s .so)
 
 -- The checks of the fields have passed.
-passed : {number : ℕ} (c : tie.Else2) → let entry : tie.Start = search in Says (parts entry) number → Says (checks entry ++ parts entry) number
+passed : {number : ℕ} (c : tie.Else2) → let entry : tie.Start = search in Says (parts entry) number
+    → Says (checks entry ++ parts entry) number
 passed c s =
     let checked : tie.After-vote-cause = search in
     let entry : tie.Start = search in

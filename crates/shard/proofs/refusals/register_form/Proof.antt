@@ -25,13 +25,15 @@ answer : (entry : tie.Start) {number : ℕ} → Says (form entry) number → num
 answer entry said = said .so
 
 -- It is addressed to this shard.
-own : {number : ℕ} (c : tie.Else1) → let entry : tie.Start = search in Says (checks entry ++ parts entry) number → Says (form entry) number
+own : {number : ℕ} (c : tie.Else1) → let entry : tie.Start = search in Says (checks entry ++ parts entry) number
+    → Says (form entry) number
 own c s =
     let entry : tie.Start = search in
     own-shard (entry .args .receiver) (entry .args .me) (checks entry ++ parts entry) (c .if1 .left) (s .so)
 
 -- The checks of the fields have passed.
-passed : {number : ℕ} (c : tie.Else2) → let entry : tie.Start = search in Says (parts entry) number → Says (checks entry ++ parts entry) number
+passed : {number : ℕ} (c : tie.Else2) → let entry : tie.Start = search in Says (parts entry) number
+    → Says (checks entry ++ parts entry) number
 passed c s =
     let checked : tie.After-register-cause = search in
     let entry : tie.Start = search in
