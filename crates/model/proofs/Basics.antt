@@ -184,11 +184,11 @@ first-append (t ∷ a) b s e = go (t .0) e (first-append a b (both (isNumber t) 
     go false q h = h q
 
 -- the number comes from the second table if the first has no such number
-pub first-behind : (n : ℕ) (a b : List (Bool × ℕ)) → all (λ check. not (eqb (check .1) n)) a ≡ true → firstOf (a ++ b) ≡ n → (firstOf a ≡ 0) × (firstOf b ≡ n)
-first-behind n [] b s e = (refl, e)
-first-behind n (t ∷ a) b s e =
+pub number-behind : (n : ℕ) (a b : List (Bool × ℕ)) → all (λ check. not (eqb (check .1) n)) a ≡ true → firstOf (a ++ b) ≡ n → (firstOf a ≡ 0) × (firstOf b ≡ n)
+number-behind n [] b s e = (refl, e)
+number-behind n (t ∷ a) b s e =
     let r = both (not (eqb (t .1) n)) (all (λ check. not (eqb (check .1) n)) a) s in
-    go (t .0) (r .0) e (first-behind n a b (r .1))
+    go (t .0) (r .0) e (number-behind n a b (r .1))
   where
     go : (c : Bool) → not (eqb (t .1) n) ≡ true → cond c (t .1) (firstOf (a ++ b)) ≡ n → (firstOf (a ++ b) ≡ n → (firstOf a ≡ 0) × (firstOf b ≡ n))
         → (cond c (t .1) (firstOf a) ≡ 0) × (firstOf b ≡ n)

@@ -48,7 +48,7 @@ use Rattle.model.specs.Shard.{
 }
 use Rattle.model.specs.Cluster.{ledgerAt, gave, notGiven, atShard, clusterStep}
 use Rattle.model.specs.Model.{Model, play}
-use Rattle.model.proofs.Basics.{eqb-same, eqb-yes, eqb-no, eqb-apart, both, and-intro, not-yes, not-no, not-is, clash, isNumber, passed, first-behind}
+use Rattle.model.proofs.Basics.{eqb-same, eqb-yes, eqb-no, eqb-apart, both, and-intro, not-yes, not-no, not-is, clash, isNumber, passed, number-behind}
 use Rattle.model.proofs.Entries.{whole-known, entry-look}
 use Rattle.model.proofs.Invariant.{Voted}
 use Rattle.model.proofs.Steps.{Inv, play-inv, gave-vote}
@@ -161,8 +161,8 @@ twelve-says : (limits : Limits) (p : ℕ) (ledger : Ledger) (sender verdict : �
     × (otherVerdict (heardFrom sender (entryOf t (ledger .known))) verdict ≡ true)
 unfolding deliverRefusals deliverForm
 twelve-says limits p ledger sender verdict t e =
-    let r = first-behind 12 (deliverForm limits p p sender verdict t) (deliverRest ledger sender verdict t) refl e in
-    let s = first-behind 12 ((not (any (hasNumber t) (ledger .known)), 11) ∷ (any (isOther t) (ledger .known), 7) ∷ [])
+    let r = number-behind 12 (deliverForm limits p p sender verdict t) (deliverRest ledger sender verdict t) refl e in
+    let s = number-behind 12 ((not (any (hasNumber t) (ledger .known)), 11) ∷ (any (isOther t) (ledger .known), 7) ∷ [])
     ((otherVerdict (heardFrom sender (entryOf t (ledger .known))) verdict, 12) ∷ []) refl (r .1) in
     let g = passed ((not (any (hasNumber t) (ledger .known)), 11) ∷ (any (isOther t) (ledger .known), 7) ∷ []) refl (s .0) in (
       r .0,
