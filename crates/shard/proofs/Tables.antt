@@ -104,6 +104,13 @@ module _ {ws : List ℕ} (sound : Sound ws) (t : Transaction) {place count : ℕ
     pub not-known : false ≡ any (isFor t) known
     not-known = sym (none-passes known (sound .once) (t .number) found beyond (isFor t) (asks-for t))
 
+    -- so that 7 and 8 do not fit
+    pub other-passes : {number found : ℕ} {rest : Table} → Says rest found → Says ((any (isOther t) (view ws .known), number) ∷ rest) found
+    other-passes s = past {told = false} no-other refl s
+
+    pub known-passes : {number found : ℕ} {rest : Table} → Says rest found → Says ((any (isFor t) (view ws .known), number) ∷ rest) found
+    known-passes s = past {told = false} not-known refl s
+
   -- 11, either way
   pub unknown-is : leb count place ≡ not (any (hasNumber t) known)
   unknown-is = go (leb count place) refl

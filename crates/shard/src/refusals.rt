@@ -1,23 +1,26 @@
 // The tables of refusals at one shard, in document 01's order: the number of the first test that holds, 0 for none. Each table is in two
 // parts: what the record says by itself (its form), then what the ledger says (the rest). Each test of a rest is a function of `rows`.
 ghost use mathlib.Core.Path.{_≡_};
+ghost use Prim.Native.Nat.{_<_};
 ghost use Rattle.transaction.specs.Lists.{firstOf};
 ghost use Rattle.model.specs.Lists.{find};
 ghost use Rattle.model.specs.Steps.{house};
 ghost use Rattle.model.specs.Shard.{mintForm, mintRest, mintRefusals, registerForm, registerRest, registerRefusals, deliverForm, deliverRest};
+ghost use Rattle.layout.specs.Layout.{shardOf};
 ghost use Rattle.registry.specs.Numbers.{isNumbered};
 ghost use Rattle.shard.specs.View.{number, view, Sound};
 use crate::rows::has_other_verdict;
 use crate::rows::is_full;
-use crate::rows::is_known;
 use crate::rows::is_other;
 use crate::rows::is_too_full;
 use crate::rows::is_unknown;
 use crate::rows::knows_any;
 use crate::rows::was_given;
 use layout::Words;
+use layout::counts::known_count;
 use layout::counts::own_number;
 use registry::finding::place_of_number;
+use registry::finding::same_at;
 use transaction::Transaction;
 use transaction::checks::mint_cause;
 use transaction::checks::register_cause;
@@ -76,16 +79,24 @@ fn register_form(me: u8, receiver: u8, t: Transaction) -> u8
     0
 }
 
+// 7 or 8, where the transaction's number is known here, at that place: one comparison tells which.
+fn number_cause(s: &Words, place: usize, t: Transaction) -> u8
+    requires { ⌜ Sound (now s) × ((place ≡ find (isNumbered (t .number)) (view (now s) .known)) × (place < shardOf (now s) .known)) ⌝ }
+    ensures { λ r. ⌜ r ≡ firstOf (registerRest house (number (now (s .entry))) (view (now (s .entry))) t) ⌝ }
+{
+    if same_at(s, place, t) {
+        return 8;
+    }
+    7
+}
+
 // 7 to 10, from the place of the transaction's number.
 fn register_rest(s: &Words, place: usize, t: Transaction) -> u8
     requires { ⌜ Sound (now s) × (place ≡ find (isNumbered (t .number)) (view (now s) .known)) ⌝ }
     ensures { λ r. ⌜ r ≡ firstOf (registerRest house (number (now (s .entry))) (view (now (s .entry))) t) ⌝ }
 {
-    if is_other(s, place, t) {
-        return 7;
-    }
-    if is_known(s, place, t) {
-        return 8;
+    if place < known_count(s) {
+        return number_cause(s, place, t);
     }
     if is_full(s) {
         return 9;

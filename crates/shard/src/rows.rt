@@ -6,7 +6,7 @@ ghost use lib.Dec.{eqb, leb};
 ghost use lib.ListN.{length, getD};
 ghost use Rattle.transaction.specs.Lists.{any};
 ghost use Rattle.model.specs.Lists.{find};
-ghost use Rattle.model.specs.Steps.{house, isFor, entryOf, heardFrom};
+ghost use Rattle.model.specs.Steps.{house, entryOf, heardFrom};
 ghost use Rattle.model.specs.Shard.{hasNumber, isOther, otherVerdict, tooFull};
 ghost use Rattle.registry.specs.Numbers.{isNumbered};
 ghost use Rattle.shard.specs.View.{number, view, Sound};
@@ -60,17 +60,6 @@ pub(crate) fn is_other(s: &Words, place: usize, t: Transaction) -> bool
         return false;
     }
     !same_at(s, place, t)
-}
-
-// 8: this transaction is known here.
-pub(crate) fn is_known(s: &Words, place: usize, t: Transaction) -> bool
-    requires { ⌜ Sound (now s) × (place ≡ find (isNumbered (t .number)) (view (now s) .known)) ⌝ }
-    ensures { λ r. ⌜ r ≡ any (isFor t) (view (now (s .entry)) .known) ⌝ }
-{
-    if known_count(s) <= place {
-        return false;
-    }
-    same_at(s, place, t)
 }
 
 // 9: as many transactions are known as a shard can know.

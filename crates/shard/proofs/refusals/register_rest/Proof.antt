@@ -4,7 +4,7 @@ use Rattle.transaction.specs.Lists.{firstOf}
 use Rattle.model.specs.Steps.{house}
 use Rattle.model.specs.Shard.{registerRest}
 use Rattle.shard.specs.View.{number, view}
-use Rattle.shard.proofs.Tables.{Table, Says, none, here, past}
+use Rattle.shard.proofs.Tables.{Table, Says, none, here, past, other-passes, known-passes}
 use denote.Ref.{now}
 use borrow.Author.Needs.{needs}
 use Rattle.shard.proofs.refusals.register_rest.Statement.{statement}
@@ -17,43 +17,39 @@ rows entry = registerRest house (number (now (entry .args .s))) (view (now (entr
 answer : (entry : tie.Start) {number : ℕ} → Says (rows entry) number → number ≡ firstOf (rows entry)
 answer entry said = said .so
 
-is-other-requires : tie.Need-is-other-requires
-is-other-requires c κs = search needs
+known-count-requires : tie.Need-known-count-requires
+known-count-requires c κs = search needs
+
+number-cause-requires : tie.Need-number-cause-requires
+number-cause-requires c κs = search needs
 
 returns : tie.Need-returns
-returns c = answer (search) (search (none, here, past))
-
-is-known-requires : tie.Need-is-known-requires
-is-known-requires c κs = search needs
-
-returns-2 : tie.Need-returns-2
-returns-2 c = answer (search) (search (none, here, past))
+returns c = c .number-cause .ensures
 
 is-full-requires : tie.Need-is-full-requires
 is-full-requires c κs = search needs
 
-returns-3 : tie.Need-returns-3
-returns-3 c = answer (search) (search (none, here, past))
+returns-2 : tie.Need-returns-2
+returns-2 c = answer (search) (search (none, here, past, other-passes, known-passes))
 
 is-too-full-requires : tie.Need-is-too-full-requires
 is-too-full-requires c κs = search needs
 
-returns-4 : tie.Need-returns-4
-returns-4 c = answer (search) (search (none, here, past))
+returns-3 : tie.Need-returns-3
+returns-3 c = answer (search) (search (none, here, past, other-passes, known-passes))
 
-returns-5 : tie.Need-returns-5
-returns-5 c = answer (search) (search (none, here, past))
+returns-4 : tie.Need-returns-4
+returns-4 c = answer (search) (search (none, here, past, other-passes, known-passes))
 
 pub register-rest-spec : {M : Type 1} → statement M
 register-rest-spec =
     tie.close
     (tie.spec
-    is-other-requires
+    known-count-requires
+    number-cause-requires
     returns
-    is-known-requires
-    returns-2
     is-full-requires
-    returns-3
+    returns-2
     is-too-full-requires
-    returns-4
-    returns-5)
+    returns-3
+    returns-4)
