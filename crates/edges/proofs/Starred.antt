@@ -61,6 +61,7 @@ use Rattle.model.specs.Steps.{
 use Rattle.model.specs.Shard.{
   reservedBy,
   reserved,
+  heldOff,
   mintRefusals,
   registerRefusals,
   deliverForm,
@@ -94,7 +95,7 @@ unfolding
     registerCause voteCause mintCause
     inputsHere available availableHere pledges vote newlyKnown decide outputsHere madeHere commit afterMint
     afterRegister afterVote placeOf entryOf
-    reservedBy reserved mintRefusals registerRefusals deliverForm deliverRefusals hear shardStep
+    reservedBy reserved heldOff mintRefusals registerRefusals deliverForm deliverRefusals hear shardStep
     gave notGiven atShard clusterStep
     logAfter mintedAfter step after answers play playAnswers
     totalAmount heldIn totalHeld idsHeld readings

@@ -41,6 +41,7 @@ use Rattle.model.specs.Shard.{
   deliver,
   reservedBy,
   reserved,
+  heldOff,
   mintRefusals,
   registerRefusals,
   deliverForm,
@@ -128,6 +129,10 @@ torn = make 8 (input 0 0 0 10 3 ∷ input 1 0 0 20 2 ∷ []) (output 1 10 3 ∷ 
 torn-apart : List Call
 torn-apart = mint 0 0 10 3 ∷ register 0 torn ∷ register 1 torn ∷ deliver 0 1 0 torn ∷ deliver 1 0 1 torn ∷ []
 
+-- shard 0 is to pass on an amount of 2, which another transaction is to make, by that one's number, the output's index and its owner
+onward : ℕ → ℕ → ℕ → ℕ → Transaction
+onward number creator index owner = make number (input 0 creator index owner 2 ∷ []) (output 0 11 2 ∷ [])
+
 -- limits of two tokens and two transactions
 small : Limits
 small = record { tokens = 2; transactions = 2; genesis = 2 }
@@ -200,13 +205,39 @@ pub record Examples : Type 0 where
       ≡ Minted ∷ Registered true Commit ∷ Registered false Abort ∷ Refused 9 ∷ []
   full-10 : playAnswers small (mint 0 0 10 3 ∷ register 0 (alone 1) ∷ []) ≡ Minted ∷ Registered true Commit ∷ []
   over-10 : playAnswers small (mint 0 0 10 3 ∷ mint 0 1 10 3 ∷ register 0 (alone 1) ∷ []) ≡ Minted ∷ Minted ∷ Refused 10 ∷ []
+  -- an output here of an undecided transaction passed on: 17, whoever is named as its owner; not where the output is at another shard;
+  -- once the first is committed here, the same transaction is registered and voted yes
+  held-17 : playAnswers house (known-at-both ++ (
+      register 0 (onward 6 5 1 20)
+      ∷ register 0 (onward 6 5 1 99)
+      ∷ register 0 (onward 7 5 0 20)
+      ∷ deliver 0 1 1 both
+      ∷ register 0 (onward 6 5 1 20)
+      ∷ []
+      ))
+      ≡ Minted ∷ Minted ∷ Registered true Wait ∷ Registered true Wait ∷ Refused 17 ∷ Refused 17
+      ∷ Registered false Abort ∷ Heard Commit ∷ Registered true Commit ∷ []
+  -- once it is aborted here, registered and voted no
+  aborted-17 : playAnswers house (
+      mint 0 0 10 3
+      ∷ register 0 torn
+      ∷ register 1 torn
+      ∷ register 0 (onward 9 8 1 20)
+      ∷ deliver 0 1 0 torn
+      ∷ register 0 (onward 9 8 1 20)
+      ∷ []
+      )
+      ≡ Minted ∷ Registered true Wait ∷ Registered false Wait ∷ Refused 17 ∷ Heard Abort ∷ Registered false Abort ∷ []
+  -- a full shard: 10 and 9 go first
+  full-17 : playAnswers small (mint 0 0 10 3 ∷ register 0 both ∷ register 0 (onward 6 5 1 20) ∷ register 0 (pass 0 1) ∷ register 0 (onward 6 5 1 20) ∷ [])
+      ≡ Minted ∷ Registered true Wait ∷ Refused 10 ∷ Registered false Wait ∷ Refused 9 ∷ []
 
 -- each of them by computation
 pub examples : Examples
 unfolding input output make tokensAfter token both known-at-both votes alone wrong half other5 near5 pass torn
-    torn-apart small takesPart sameToken sameInput sameOutput sameTransaction indexFits valueFits inputFits outputFits
+    torn-apart onward small takesPart sameToken sameInput sameOutput sameTransaction indexFits valueFits inputFits outputFits
     countsFit fieldsFit sameName namedTwice balanced mintFits inputsHere available availableHere pledges vote newlyKnown
-    decide outputsHere madeHere commit afterMint afterRegister afterVote placeOf entryOf reservedBy reserved
+    decide outputsHere madeHere commit afterMint afterRegister afterVote placeOf entryOf reservedBy reserved heldOff
     mintRefusals registerRefusals deliverForm deliverRefusals hear shardStep gave notGiven atShard clusterStep logAfter
     mintedAfter step after answers play playAnswers outcomeIn committed serialFrom serialValue genesisLedger takeInputs addOutputs spend serialRun
 examples = record {
@@ -238,4 +269,7 @@ examples = record {
   full-9 = refl;
   full-10 = refl;
   over-10 = refl;
+  held-17 = refl;
+  aborted-17 = refl;
+  full-17 = refl;
 }

@@ -19,5 +19,6 @@ pub mod Bridge
 pub mod Votes
 pub mod Capacity
 pub mod Laws
+pub mod HeldOff
 pub mod Tables
 pub mod Examples

@@ -1,10 +1,11 @@
 -- Document 01, 'Causes of refusal', at one shard: for each kind of call one table of tests and numbers in the paper's order, and the whole call.
 -- Arguments are raw: any number, any count, any slots. A record addressed to another shard is part of check 3.
 use Prim.Native.Nat.{ℕ, _+_}
-use mathlib.Core.Bool.{Bool, false, cond, not, _&&_}
+use mathlib.Core.Bool.{Bool, true, false, cond, not, _&&_}
 use mathlib.Core.List.{List, [], _∷_, _++_}
 use lib.Dec.{eqb, leb, ltb}
 use lib.ListN.{length, getD}
+use Rattle.transaction.specs.declared.Input.{Input}
 use Rattle.transaction.specs.declared.Transaction.{Transaction}
 use Rattle.transaction.specs.Lists.{any, total, firstOf}
 use Rattle.transaction.specs.Tokens.{takesPart}
@@ -17,12 +18,15 @@ use Rattle.model.specs.declared.Answer.the-variants.{Refused, Minted, Re
 use Rattle.model.specs.Steps.{
   Limits,
   Ledger,
+  inputsHere,
+  names,
   vote,
   newlyKnown,
   heardFrom,
   hearing,
   outcomeOf,
   outputsHere,
+  madeHere,
   isFor,
   entryOf,
   afterMint,
@@ -45,11 +49,15 @@ hasNumber t k = eqb (k .transaction .number) (t .number)
 abbrev pub isOther : Transaction → Known → Bool
 isOther t k = hasNumber t k && not (isFor t k)
 
+-- nothing is decided
+abbrev pub isUndecided : Outcome → Bool
+isUndecided Wait = true
+isUndecided Commit = false
+isUndecided Abort = false
+
 -- the number where nothing is decided, else 0
 abbrev pub ifUndecided : Outcome → ℕ → ℕ
-ifUndecided Wait n = n
-ifUndecided Commit n = 0
-ifUndecided Abort n = 0
+ifUndecided o n = cond (isUndecided o) n 0
 
 -- the outputs here of a known transaction, while it is undecided
 unfoldable pub reservedBy : ℕ → Known → ℕ
@@ -58,6 +66,14 @@ reservedBy me k = ifUndecided (outcomeOf k) (length (outputsHere me (k .transact
 -- the outputs here of all undecided transactions
 unfoldable pub reserved : ℕ → List Known → ℕ
 reserved me known = total (reservedBy me) known
+
+-- the input's token, by number and index alone, is an output here of the known transaction, and this is undecided
+abbrev pub awaits : ℕ → Input → Known → Bool
+awaits me x k = isUndecided (outcomeOf k) && any (names x) (madeHere me (k .transaction))
+
+-- 17: an input at this shard awaits a known transaction (the swap is close behind another, and is held off)
+unfoldable pub heldOff : ℕ → List Known → Transaction → Bool
+heldOff me known t = any (λ x. any (awaits me x) known) (inputsHere me t)
 
 -- a vote is heard from this sender, and it is the other one
 abbrev pub otherVerdict : ℕ → ℕ → Bool
@@ -95,21 +111,22 @@ abbrev pub tooFull : Limits → ℕ → Ledger → Transaction → Bool
 tooFull limits me ledger t =
     ltb (limits .tokens) (length (ledger .tokens) + reserved me (ledger .known) + length (outputsHere me t))
 
--- whether there is room for one more: 9, 10
-abbrev pub roomRefusals : Limits → ℕ → Ledger → Transaction → List (Bool × ℕ)
-roomRefusals limits me ledger t =
+-- whether a transaction that is not known can be entered now: 9, 10, 17
+abbrev pub entryRefusals : Limits → ℕ → Ledger → Transaction → List (Bool × ℕ)
+entryRefusals limits me ledger t =
     (leb (limits .transactions) (length (ledger .known)), 9)
     ∷ (tooFull limits me ledger t, 10)
+    ∷ (heldOff me (ledger .known) t, 17)
     ∷ []
 
--- the rest: 7, 8, 9, 10
+-- the rest: 7, 8, 9, 10, 17
 abbrev pub registerRest : Limits → ℕ → Ledger → Transaction → List (Bool × ℕ)
 registerRest limits me ledger t =
     (any (isOther t) (ledger .known), 7)
     ∷ (any (isFor t) (ledger .known), 8)
-    ∷ roomRefusals limits me ledger t
+    ∷ entryRefusals limits me ledger t
 
--- kind 1: 3, 4, 5, 6, 7, 8, 9, 10
+-- kind 1: 3, 4, 5, 6, 7, 8, 9, 10, 17
 unfoldable pub registerRefusals : Limits → ℕ → Ledger → ℕ → Transaction → List (Bool × ℕ)
 registerRefusals limits me ledger receiver t =
     registerForm limits me receiver t

@@ -1,2 +1,3 @@
 pub mod Decisions
 pub mod Finds
+pub mod Awaits

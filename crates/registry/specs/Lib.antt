@@ -1,2 +1,3 @@
 pub mod Voted
 pub mod Numbers
+pub mod Made

@@ -11,6 +11,7 @@ ghost use Rattle.registry.specs.Numbers.{isNumbered};
 ghost use Rattle.shard.specs.View.{number, view, Sound};
 use crate::rows::has_other_verdict;
 use crate::rows::is_full;
+use crate::rows::is_held_off;
 use crate::rows::is_other;
 use crate::rows::is_too_full;
 use crate::rows::is_unknown;
@@ -90,7 +91,7 @@ fn number_cause(s: &Words, place: usize, t: Transaction) -> u8
     7
 }
 
-// 7 to 10, from the place of the transaction's number.
+// 7 to 10 and 17, from the place of the transaction's number.
 fn register_rest(s: &Words, place: usize, t: Transaction) -> u8
     requires { ⌜ Sound (now s) × (place ≡ find (isNumbered (t .number)) (view (now s) .known)) ⌝ }
     ensures { λ r. ⌜ r ≡ firstOf (registerRest house (number (now (s .entry))) (view (now (s .entry))) t) ⌝ }
@@ -103,6 +104,9 @@ fn register_rest(s: &Words, place: usize, t: Transaction) -> u8
     }
     if is_too_full(s, t) {
         return 10;
+    }
+    if is_held_off(s, t) {
+        return 17;
     }
     0
 }

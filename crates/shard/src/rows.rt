@@ -7,7 +7,7 @@ ghost use lib.ListN.{length, getD};
 ghost use Rattle.transaction.specs.Lists.{any};
 ghost use Rattle.model.specs.Lists.{find};
 ghost use Rattle.model.specs.Steps.{house, entryOf, heardFrom};
-ghost use Rattle.model.specs.Shard.{hasNumber, isOther, otherVerdict, tooFull};
+ghost use Rattle.model.specs.Shard.{hasNumber, isOther, otherVerdict, tooFull, heldOff};
 ghost use Rattle.registry.specs.Numbers.{isNumbered};
 ghost use Rattle.shard.specs.View.{number, view, Sound};
 use layout::GENESIS_SLOTS;
@@ -19,6 +19,7 @@ use layout::counts::is_given;
 use layout::counts::known_count;
 use layout::counts::own_number;
 use layout::entries::heard_at;
+use registry::awaiting;
 use registry::finding::same_at;
 use registry::reserving::count_here;
 use registry::reserving::reserved_here;
@@ -84,6 +85,15 @@ pub(crate) fn is_too_full(s: &Words, t: Transaction) -> bool
     }
     let waiting = reserved_here(s, me);
     TOKEN_SLOTS < n + waiting + more
+}
+
+// 17: an input here names what an undecided transaction is to make here.
+pub(crate) fn is_held_off(s: &Words, t: Transaction) -> bool
+    requires { ⌜ Sound (now s) ⌝ }
+    ensures { λ r. ⌜ r ≡ heldOff (number (now (s .entry))) (view (now (s .entry)) .known) t ⌝ }
+{
+    let me = own_number(s);
+    awaiting::is_held_off(s, me, t)
 }
 
 fn is_other_verdict(heard: u8, verdict: u8) -> bool

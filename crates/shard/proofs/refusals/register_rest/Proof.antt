@@ -38,8 +38,14 @@ is-too-full-requires c κs = search needs
 returns-3 : tie.Need-returns-3
 returns-3 c = answer (search) (search (none, here, past, other-passes, known-passes))
 
+is-held-off-requires : tie.Need-is-held-off-requires
+is-held-off-requires c κs = search needs
+
 returns-4 : tie.Need-returns-4
 returns-4 c = answer (search) (search (none, here, past, other-passes, known-passes))
+
+returns-5 : tie.Need-returns-5
+returns-5 c = answer (search) (search (none, here, past, other-passes, known-passes) depth 8)
 
 pub register-rest-spec : {M : Type 1} → statement M
 register-rest-spec =
@@ -52,4 +58,6 @@ register-rest-spec =
     returns-2
     is-too-full-requires
     returns-3
-    returns-4)
+    is-held-off-requires
+    returns-4
+    returns-5)

@@ -1,0 +1,182 @@
+-- Laws of 17, a registration held off: it changes nothing; once the first transaction is decided here, its outputs hold nobody off; and a
+-- transaction whose inputs here are all made and free is never held off, and is voted yes.
+use Prim.Native.Nat.{ℕ}
+use mathlib.Core.Path.{_≡_, refl, ap, sym, _∙_}
+use mathlib.Core.Logic.{_≢_}
+use mathlib.Core.Bool.{Bool, true, false, cond, not, _&&_}
+use lib.Dec.{eqb}
+use mathlib.Core.Option.{Option, none, some}
+use mathlib.Core.List.{List, [], _∷_, _++_, List·Memᴰ}
+use Rattle.transaction.specs.declared.Input.{Input}
+use Rattle.transaction.specs.declared.Transaction.{Transaction}
+use Rattle.transaction.specs.Lists.{any, all, firstOf}
+use Rattle.model.specs.declared.Token.{Token}
+use Rattle.model.specs.declared.Known.{Known}
+use Rattle.model.specs.declared.Outcome.{Outcome}
+use Rattle.model.specs.declared.Outcome.the-variants.{Wait, Commit, Abort}
+use Rattle.model.specs.declared.Answer.{Answer}
+use Rattle.model.specs.declared.Answer.the-variants.{Refused, Minted, Registered, Heard, Again}
+use Rattle.model.specs.Steps.{Limits, Ledger, names, inputsHere, available, vote, newlyKnown, outcomeOf, madeHere, afterRegister}
+use Rattle.model.specs.Shard.{Call, register, isUndecided, awaits, heldOff, registerRefusals, unless, shardStep}
+use Rattle.model.specs.Cluster.{ledgerAt, atShard, clusterStep}
+use Rattle.model.specs.Model.{Entry, Model, step, play}
+use Rattle.model.specs.Demand.{Value, tokenAt, outcomeAt}
+use Rattle.model.proofs.Basics.{eqb-yes, eqb-apart, both, and-intro, not-is, not-yes, clash, any-at, any-no, all-at, some≢none, some-inj, orElse, CaseO, is-none, is-some, caseO}
+use Rattle.model.proofs.Lookups.{lookup-none}
+use Rattle.model.proofs.Entries.{look, mem-look}
+use Rattle.model.proofs.Holdings.{available-token, made-number}
+use Rattle.model.proofs.Invariant.{Core, made, gain, byCommit, onCommit, held-made}
+use Rattle.model.proofs.Steps.{play-inv}
+use Rattle.model.proofs.Decisions.{knows, final-at}
+use Rattle.model.proofs.Laws.{leaves, model-unchanged}
+
+-- the outcome is wait
+is-wait : (o : Outcome) → isUndecided o ≡ true → o ≡ Wait
+is-wait Wait e = refl
+is-wait Commit e = clash e refl
+is-wait Abort e = clash e refl
+
+-- ---- What an input awaits
+
+-- the known transaction that the input awaits: it is undecided, and has the number that the input names
+pub record Awaited (me : ℕ) (x : Input) (known : List Known) : Type 0 where
+  pub entry : Known
+  pub is-known : List·Memᴰ entry known
+  pub undecided : outcomeOf entry ≡ Wait
+  pub numbered : entry .transaction .number ≡ x .token .creator
+
+-- an input that names a token which the transaction makes here names it by its number
+made-name : (me : ℕ) (x : Input) (t : Transaction) → any (names x) (madeHere me t) ≡ true → t .number ≡ x .token .creator
+made-name me x t e = go (caseO (tokenAt (madeHere me t) (x .token .creator) (x .token .index)))
+  where
+    go : CaseO (tokenAt (madeHere me t) (x .token .creator) (x .token .index)) → t .number ≡ x .token .creator
+    go (is-none z) = clash e (lookup-none (names x) (madeHere me t) z)
+    go (is-some token z) = sym (made-number me t (x .token .creator) (x .token .index) z)
+
+-- what a test that holds has found
+awaited : (me : ℕ) (x : Input) (known : List Known) → any (awaits me x) known ≡ true → Awaited me x known
+awaited me x known e =
+    let r = any-at (awaits me x) known e in
+    let k : Known = r .0 in
+    let b = both (isUndecided (outcomeOf k)) (any (names x) (madeHere me (k .transaction))) (r .2) in
+    record {
+      entry = k;
+      is-known = r .1;
+      undecided = is-wait (outcomeOf k) (b .0);
+      numbered = made-name me x (k .transaction) (b .1);
+    }
+
+-- ---- 17 no longer fits
+
+-- a registration that 17 refuses changes nothing: the shards, the log and the genesis tokens stay as they were
+pub held-off-unchanged : (limits : Limits) (place : ℕ) (model : Model) (p : ℕ) (t : Transaction)
+    → step limits place model (register p t) .1 ≡ Refused 17 → step limits place model (register p t) .0 ≡ model
+held-off-unchanged limits place model p t e = model-unchanged limits place model (register p t) (ap leaves e)
+
+-- once the first transaction is decided at a shard, no input that names it awaits it there, at that time or later
+pub decided-awaited : (limits : Limits) (calls more : List Call) (p : ℕ) (first : Transaction) (x : Input)
+    → x .token .creator ≡ first .number → outcomeAt limits (play limits calls) p first ≢ Wait
+    → any (awaits p x) (ledgerAt limits (play limits (calls ++ more) .shards) p .known) ≡ false
+decided-awaited limits calls more p first x named decided = not-yes no
+  where
+    model : Model
+    model = play limits (calls ++ more)
+
+    known : List Known
+    known = ledgerAt limits (model .shards) p .known
+
+    no : any (awaits p x) known ≡ true → ⊥
+    no e =
+        let inv = play-inv limits (calls ++ more) in
+        let later : outcomeAt limits model p first ≢ Wait = λ z. decided (sym (final-at limits calls more p first decided) ∙ z) in
+        let k = knows limits model inv p first later in
+        let a = awaited p x known e in
+        let there : look known (first .number) ≡ some (a .entry) =
+        ap (look known) (sym (a .numbered ∙ named)) ∙ mem-look known (inv .at p .core .one-each) (a .is-known) in
+        let same : k .entry ≡ a .entry = some-inj (sym (k .is-known) ∙ there) in
+        later (k .is-outcome ∙ ap outcomeOf same ∙ a .undecided)
+
+-- ---- Inputs that are made and free
+
+-- a token that is held was not made by an undecided transaction
+held-awaited : {log : List Entry} {p : ℕ} {tokens : List Token} {genesis : ℕ → ℕ → Option Value} {known : List Known}
+    → Core log p tokens genesis known → (x : Input) {token : Token}
+    → tokenAt tokens (x .token .creator) (x .token .index) ≡ some token → any (awaits p x) known ≡ false
+unfolding made
+held-awaited {p = p} {genesis = genesis} {known = known} core x {token} held = not-yes no
+  where
+    m : ℕ
+    m = x .token .creator
+
+    no : any (awaits p x) known ≡ true → ⊥
+    no e =
+        let a = awaited p x known e in
+        let there : look known m ≡ some (a .entry) =
+        ap (look known) (sym (a .numbered)) ∙ mem-look known (core .one-each) (a .is-known) in
+        let nothing : made p genesis known m (x .token .index) ≡ none =
+        (λ j. orElse (core .zero-only m (x .token .index) (core .number m (a .entry) there) j) (byCommit p (there j) m (x .token .index)))
+        ∙ ap (λ (o : Outcome). onCommit o (gain p (a .entry .transaction) m (x .token .index))) (a .undecided) in
+        some≢none (held-made core m (x .token .index) held) nothing
+
+-- all inputs of the transaction at the shard are made and free
+abbrev pub Free : Limits → List Call → ℕ → Transaction → Type 0
+Free limits calls p t = vote p (ledgerAt limits (play limits calls .shards) p .tokens) t ≡ true
+
+-- then it is not held off
+pub free-passes : (limits : Limits) (calls : List Call) (p : ℕ) (t : Transaction) → Free limits calls p t
+    → heldOff p (ledgerAt limits (play limits calls .shards) p .known) t ≡ false
+unfolding vote heldOff
+free-passes limits calls p t free =
+    let ledger : Ledger = ledgerAt limits (play limits calls .shards) p in
+    let ok = play-inv limits calls .at p in
+    any-no (λ x. any (awaits p x) (ledger .known)) (inputsHere p t)
+    (λ x m e. clash e
+    (held-awaited (ok .core) x
+    (available-token (ledger .tokens) x (ok .no-twice) (all-at (available (ledger .tokens)) (inputsHere p t) free x m) .is-there)))
+
+-- a table in which no row of that number holds does not answer it
+never : (n : ℕ) → (n ≡ 0 → ⊥) → (rows : List (Bool × ℕ)) → all (λ row. not (eqb (row .1) n && row .0)) rows ≡ true → firstOf rows ≡ n → ⊥
+never n z [] h e = z (sym e)
+never n z (row ∷ rows) h e =
+    let r = both (not (eqb (row .1) n && row .0)) (all (λ row. not (eqb (row .1) n && row .0)) rows) h in
+    go (row .0) refl (r .0) (never n z rows (r .1)) e
+  where
+    go : (b : Bool) → row .0 ≡ b → not (eqb (row .1) n && row .0) ≡ true → (firstOf rows ≡ n → ⊥) → cond b (row .1) (firstOf rows) ≡ n → ⊥
+    go true y h rest q = clash (and-intro (eqb-yes q) y) (not-is h)
+    go false y h rest q = rest q
+
+-- what a registration is answered: its table's number, or the verdict
+module _ (cause : ℕ) (before after : Ledger) (verdict : Bool) (outcome : Outcome) where
+  abbrev answered : Bool → Ledger × Answer
+  answered passes = cond passes (after, Registered verdict outcome) (before, Refused cause)
+
+  refused-cause : (n : ℕ) (b : Bool) → answered b .1 ≡ Refused n → cause ≡ n
+  refused-cause n true e = let y : _≡_ {A = ℕ} 0 1 = cc in absurd (eqb-apart {m = 0} {n = 1} refl y)
+  refused-cause n false e = cc
+
+  registered-verdict : (v : Bool) (o : Outcome) (b : Bool) → answered b .1 ≡ Registered v o → verdict ≡ v
+  registered-verdict v o true e = cc
+  registered-verdict v o false e = let y : _≡_ {A = ℕ} 0 1 = cc in absurd (eqb-apart {m = 0} {n = 1} refl y)
+
+-- a transaction whose inputs here are all made and free when it is sent is not refused with 17, and where it is registered, it is voted yes
+module _ (limits : Limits) (calls : List Call) (p : ℕ) (t : Transaction) (free : Free limits calls p t) where
+  abbrev ledger : Ledger
+  ledger = ledgerAt limits (play limits calls .shards) p
+
+  abbrev cause : ℕ
+  cause = firstOf (registerRefusals limits p ledger p t)
+
+  abbrev outcome : Outcome
+  outcome = outcomeOf (newlyKnown p (ledger .tokens) t)
+
+  pub free-registers : clusterStep limits (play limits calls .shards) (register p t) .1 ≢ Refused 17
+  unfolding clusterStep atShard shardStep registerRefusals
+  free-registers e =
+      never 17 (λ z. eqb-apart {m = 17} {n = 0} refl z) (registerRefusals limits p ledger p t)
+      (ap (λ (b : Bool). not b && true) (free-passes limits calls p t free))
+      (refused-cause cause ledger (afterRegister p ledger t) (vote p (ledger .tokens) t) outcome 17 (eqb cause 0) e)
+
+  pub free-voted : (v : Bool) (o : Outcome) → clusterStep limits (play limits calls .shards) (register p t) .1 ≡ Registered v o → v ≡ true
+  unfolding clusterStep atShard shardStep
+  free-voted v o e =
+      sym (registered-verdict cause ledger (afterRegister p ledger t) (vote p (ledger .tokens) t) outcome v o (eqb cause 0) e) ∙ free

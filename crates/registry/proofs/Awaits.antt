@@ -1,0 +1,178 @@
+-- An input awaits the one known transaction of the number that it names.
+use Prim.Native.Nat.{ℕ, zero, suc, _+_, _≤_, _<_}
+use native.Mathlib.Omega.{arith}
+use mathlib.Core.Path.{_≡_, refl, sym, ap, _∙_}
+use mathlib.Core.Bool.{Bool, true, false, cond, not, _||_, _&&_, and-true, and-false, true≢false, false≢true}
+use mathlib.Core.List.{List, [], _∷_}
+use borrow.Author.Tests.{eq-eqb, ne-eqb, lt-ltb, le-ltb}
+use lib.Dec.{eqb, ltb, leb·suc-suc}
+use lib.ListN.{length, getD, take, length-take}
+use lib.Seq.{getD-take}
+use Rattle.transaction.specs.declared.Input.{Input}
+use Rattle.transaction.specs.declared.Output.{Output}
+use Rattle.transaction.specs.declared.Transaction.{Transaction}
+use Rattle.transaction.specs.Lists.{any, all}
+use Rattle.transaction.specs.Tokens.{usedInputs, usedOutputs, shardsOf, zeroInput, zeroOutput}
+use Rattle.transaction.proofs.Slots.{and-left, any-by}
+use Rattle.model.specs.declared.Token.{Token}
+use Rattle.model.specs.declared.Known.{Known}
+use Rattle.model.specs.declared.Outcome.the-variants.{Wait, Commit, Abort}
+use Rattle.model.specs.Lists.{find}
+use Rattle.model.specs.Steps.{inputHere, inputsHere, names, outputHere, tokenOf, tokensFrom, madeHere, decide, outcomeOf, nothingKnown}
+use Rattle.model.specs.Shard.{isUndecided, awaits, heldOff}
+use Rattle.model.proofs.Basics.{any-keep}
+use Rattle.layout.specs.Layout.{knownSlots, shardOf, ledgerOf, slotKnown}
+use Rattle.layout.proofs.Ledgers.{known-length, known-entry}
+use Rattle.registry.specs.Numbers.{isNumbered, OneEach}
+use Rattle.registry.specs.Voted.{voted}
+use Rattle.registry.specs.Made.{makesHere}
+use Rattle.registry.proofs.Finds.{AsksNumber, none-passes, passes-there, is-numbered}
+
+or-no : (b : Bool) → b || false ≡ b
+or-no true = refl
+or-no false = refl
+
+-- two tests in front of a third, held and not held together
+pub behind-both : (a b c : Bool) → a && b ≡ true → c ≡ a && (b && c)
+behind-both true true c e = refl
+behind-both true false c e = absurd (false≢true e)
+behind-both false b c e = absurd (false≢true e)
+
+pub behind-none : (a b c : Bool) → a && b ≡ false → false ≡ a && (b && c)
+behind-none true true c e = absurd (true≢false e)
+behind-none true false c e = refl
+behind-none false b c e = refl
+
+-- ---- Made tokens by number and index
+
+module _ (me n : ℕ) (x : Input) where
+  -- tokens from an index on: none of them has a lower one
+  below-from : (from : ℕ) (ys : List Output) → x .token .index < from → any (names x) (tokensFrom me n from ys) ≡ false
+  below-from from [] h = refl
+  below-from from (y ∷ ys) h = go (outputHere me y) (below-from (suc from) ys (omega arith))
+    where
+      rest : List Token
+      rest = tokensFrom me n (suc from) ys
+
+      go : (b : Bool) → any (names x) rest ≡ false → any (names x) (cond b (tokenOf n from y ∷ rest) rest) ≡ false
+      go true r = rw (ne-eqb from (x .token .index) (λ e. omega arith), and-false (eqb n (x .token .creator)), r) refl
+      go false r = r
+
+  -- the one that is so many places behind the first is named by its number and index
+  at-from : (from : ℕ) (ys : List Output) (j : ℕ) → x .token .index ≡ from + j
+      → any (names x) (tokensFrom me n from ys)
+      ≡ eqb n (x .token .creator) && (ltb j (length ys) && outputHere me (getD ys j zeroOutput))
+  at-from from [] j e = rw (le-ltb j 0 (omega arith)) (sym (and-false (eqb n (x .token .creator))))
+  at-from from (y ∷ ys) zero e =
+      rw (lt-ltb 0 (suc (length ys)) (omega arith)) (go (outputHere me y) (below-from (suc from) ys (omega arith)))
+    where
+      rest : List Token
+      rest = tokensFrom me n (suc from) ys
+
+      go : (b : Bool) → any (names x) rest ≡ false
+          → any (names x) (cond b (tokenOf n from y ∷ rest) rest) ≡ eqb n (x .token .creator) && (true && b)
+      go true r = rw (eq-eqb from (x .token .index) (omega arith), r) (or-no (eqb n (x .token .creator) && true))
+      go false r = r ∙ sym (and-false (eqb n (x .token .creator)))
+  at-from from (y ∷ ys) (suc j) e = rw (leb·suc-suc (suc j) (length ys)) (go (outputHere me y) (at-from (suc from) ys j (omega arith)))
+    where
+      rest : List Token
+      rest = tokensFrom me n (suc from) ys
+
+      go : (b : Bool) {v : Bool} → any (names x) rest ≡ v → any (names x) (cond b (tokenOf n from y ∷ rest) rest) ≡ v
+      go true r = rw (ne-eqb from (x .token .index) (λ z. omega arith), and-false (eqb n (x .token .creator))) r
+      go false r = r
+
+-- a token that the transaction makes here is named by its number and the index of an output here
+names-made : (me : ℕ) (x : Input) (t : Transaction)
+    → any (names x) (madeHere me t) ≡ eqb (t .number) (x .token .creator) && makesHere me t (x .token .index)
+unfolding madeHere
+names-made me x t = at-from me (t .number) x 0 (usedOutputs t) (x .token .index) (omega arith)
+
+-- the transaction's outputs by their index, in four slots
+module _ (me : ℕ) (t : Transaction) (long : length (t .outputs) ≡ 4) {index : ℕ} where
+  pub makes-far : 4 ≤ index → false ≡ makesHere me t index
+  makes-far far = rw (le-ltb index (length (usedOutputs t)) (omega (arith, length-take (t .«output_count») (t .outputs)))) refl
+
+  pub makes-unused : t .«output_count» ≤ index → false ≡ makesHere me t index
+  makes-unused unused = rw (le-ltb index (length (usedOutputs t)) (omega (arith, length-take (t .«output_count») (t .outputs)))) refl
+
+  pub makes-there : index < 4 → index < t .«output_count» → eqb (getD (t .outputs) index zeroOutput .shard) me ≡ makesHere me t index
+  makes-there near used =
+      rw (
+        lt-ltb index (length (usedOutputs t)) (omega (arith, length-take (t .«output_count») (t .outputs))),
+        getD-take (t .«output_count») (t .outputs) index zeroOutput used,
+      ) refl
+
+-- ---- The test
+
+-- nothing is decided exactly while some vote is missing
+undecided-is : (t : Transaction) (heard : List ℕ) → isUndecided (decide t heard) ≡ not (all (voted false heard) (shardsOf t))
+unfolding decide
+undecided-is t heard = go (all (voted false heard) (shardsOf t)) (all (voted true heard) (shardsOf t))
+  where
+    go : (h y : Bool) → isUndecided (cond h (cond y Commit Abort) Wait) ≡ not h
+    go true true = refl
+    go true false = refl
+    go false y = refl
+
+-- only a transaction of the number that the input names can pass
+asks-awaits : (me : ℕ) (x : Input) → AsksNumber (x .token .creator) (awaits me x)
+asks-awaits me x k e =
+    and-left (isNumbered (x .token .creator) k) (makesHere me (k .transaction) (x .token .index))
+    (sym (names-made me x (k .transaction)) ∙ right (isUndecided (outcomeOf k)) e)
+  where
+    right : (b : Bool) {c : Bool} → b && c ≡ true → c ≡ true
+    right true h = h
+    right false h = absurd (false≢true h)
+
+-- does the input await a known transaction
+module _ (ws : List ℕ) (most : shardOf ws .known ≤ knownSlots) (one : OneEach (ledgerOf ws .known)) (me : ℕ) (x : Input)
+    {place : ℕ} (found : place ≡ find (isNumbered (x .token .creator)) (ledgerOf ws .known)) where
+  -- where its number is not known, it does not
+  pub awaits-none : shardOf ws .known ≤ place → false ≡ any (awaits me x) (ledgerOf ws .known)
+  awaits-none h =
+      sym (none-passes (ledgerOf ws .known) one (x .token .creator) found (omega (arith, known-length ws most)) (awaits me x) (asks-awaits me x))
+
+  module _ (below : place < shardOf ws .known) {makes : Bool} (em : makes ≡ makesHere me (slotKnown ws place .transaction) (x .token .index)) where
+    k : Known
+    k = slotKnown ws place
+
+    there-is : any (awaits me x) (ledgerOf ws .known) ≡ awaits me x k
+    unfolding k
+    there-is =
+        passes-there (ledgerOf ws .known) one (x .token .creator) found (omega (arith, known-length ws most)) (awaits me x) (asks-awaits me x)
+        ∙ ap (awaits me x) (sym (known-entry ws place below most nothingKnown))
+
+    named : any (names x) (madeHere me (k .transaction)) ≡ makes
+    unfolding k
+    named =
+        names-made me x (slotKnown ws place .transaction)
+        ∙ rw (ap (isNumbered (x .token .creator)) (known-entry ws place below most nothingKnown)
+        ∙ is-numbered (ledgerOf ws .known) one (x .token .creator) found (omega (arith, known-length ws most))) (sym em)
+
+    -- where that one makes nothing of the index here, it does not
+    pub awaits-other : makes ≡ false → false ≡ any (awaits me x) (ledgerOf ws .known)
+    unfolding k
+    awaits-other none-made = rw (there-is, named, none-made) (sym (and-false (isUndecided (outcomeOf (slotKnown ws place)))))
+
+    -- else it does while some vote is missing
+    pub awaits-if : makes ≡ true → {heard : Bool} → heard ≡ all (voted false (slotKnown ws place .heard)) (shardsOf (slotKnown ws place .transaction))
+        → not heard ≡ any (awaits me x) (ledgerOf ws .known)
+    unfolding k
+    awaits-if is-made {heard} eh =
+        rw (there-is, named, is-made, undecided-is (slotKnown ws place .transaction) (slotKnown ws place .heard), ← eh) (sym (and-true (not heard)))
+
+-- some used input of four is here and does
+module _ (me : ℕ) (known : List Known) (t : Transaction) (long : length (t .inputs) ≡ 4) where
+  abbrev waits : Input → Bool
+  waits x = inputHere me x && any (awaits me x) known
+
+  abbrev slot : ℕ → Bool
+  slot i = ltb i (t .«input_count») && waits (getD (t .inputs) i zeroInput)
+
+  pub held-off-by : {a b c d : Bool} → a ≡ slot 0 → b ≡ slot 1 → c ≡ slot 2 → d ≡ slot 3 → a || b || c || d ≡ heldOff me known t
+  unfolding heldOff inputsHere
+  held-off-by ea eb ec ed =
+      rw (ea, eb, ec, ed)
+      (any-by zeroInput (t .inputs) long waits (t .«input_count») refl refl refl refl
+      ∙ sym (any-keep (λ x. any (awaits me x) known) (inputHere me) (usedInputs t)))
