@@ -195,6 +195,17 @@ number-behind n (t ∷ a) b s e =
     go true q e h = clash (eqb-yes e) (not-is q)
     go false q e h = h e
 
+-- a table in which no row of a number holds does not answer it
+pub never-answers : (n : ℕ) → (n ≡ 0 → ⊥) → (rows : List (Bool × ℕ)) → all (λ row. not (eqb (row .1) n && row .0)) rows ≡ true → firstOf rows ≡ n → ⊥
+never-answers n z [] h e = z (sym e)
+never-answers n z (row ∷ rows) h e =
+    let r = both (not (eqb (row .1) n && row .0)) (all (λ row. not (eqb (row .1) n && row .0)) rows) h in
+    go (row .0) refl (r .0) (never-answers n z rows (r .1)) e
+  where
+    go : (b : Bool) → row .0 ≡ b → not (eqb (row .1) n && row .0) ≡ true → (firstOf rows ≡ n → ⊥) → cond b (row .1) (firstOf rows) ≡ n → ⊥
+    go true y h rest q = clash (and-intro (eqb-yes q) y) (not-is h)
+    go false y h rest q = rest q
+
 -- ---- any, all and keep, by the elements
 
 -- an element of a list all of which pass

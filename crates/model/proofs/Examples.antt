@@ -133,6 +133,10 @@ torn-apart = mint 0 0 10 3 ∷ register 0 torn ∷ register 1 torn ∷ deliver 0
 onward : ℕ → ℕ → ℕ → ℕ → Transaction
 onward number creator index owner = make number (input 0 creator index owner 2 ∷ []) (output 0 11 2 ∷ [])
 
+-- two transactions of shards 0 and 1 that each take what the other is to make
+crossed : ℕ → ℕ → ℕ → ℕ → Transaction
+crossed number other from to = make number (input from other 0 10 3 ∷ []) (output to 10 3 ∷ [])
+
 -- limits of two tokens and two transactions
 small : Limits
 small = record { tokens = 2; transactions = 2; genesis = 2 }
@@ -231,11 +235,21 @@ pub record Examples : Type 0 where
   -- a full shard: 10 and 9 go first
   full-17 : playAnswers small (mint 0 0 10 3 ∷ register 0 both ∷ register 0 (onward 6 5 1 20) ∷ register 0 (pass 0 1) ∷ register 0 (onward 6 5 1 20) ∷ [])
       ≡ Minted ∷ Registered true Wait ∷ Refused 10 ∷ Registered false Wait ∷ Refused 9 ∷ []
+  -- two that each take what the other is to make: known at one shard each, they are held off at the other, and neither can ever be decided
+  crossed-17 : playAnswers house (
+      register 0 (crossed 6 7 1 0)
+      ∷ register 1 (crossed 7 6 0 1)
+      ∷ register 1 (crossed 6 7 1 0)
+      ∷ register 0 (crossed 7 6 0 1)
+      ∷ deliver 1 0 1 (crossed 6 7 1 0)
+      ∷ []
+      )
+      ≡ Registered true Wait ∷ Registered true Wait ∷ Refused 17 ∷ Refused 17 ∷ Refused 11 ∷ []
 
 -- each of them by computation
 pub examples : Examples
 unfolding input output make tokensAfter token both known-at-both votes alone wrong half other5 near5 pass torn
-    torn-apart onward small takesPart sameToken sameInput sameOutput sameTransaction indexFits valueFits inputFits outputFits
+    torn-apart onward crossed small takesPart sameToken sameInput sameOutput sameTransaction indexFits valueFits inputFits outputFits
     countsFit fieldsFit sameName namedTwice balanced mintFits inputsHere available availableHere pledges vote newlyKnown
     decide outputsHere madeHere commit afterMint afterRegister afterVote placeOf entryOf reservedBy reserved heldOff
     mintRefusals registerRefusals deliverForm deliverRefusals hear shardStep gave notGiven atShard clusterStep logAfter
@@ -272,4 +286,5 @@ examples = record {
   held-17 = refl;
   aborted-17 = refl;
   full-17 = refl;
+  crossed-17 = refl;
 }

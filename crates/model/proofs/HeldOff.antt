@@ -21,7 +21,7 @@ use Rattle.model.specs.Shard.{Call, register, isUndecided, awaits, heldO
 use Rattle.model.specs.Cluster.{ledgerAt, atShard, clusterStep}
 use Rattle.model.specs.Model.{Entry, Model, step, play}
 use Rattle.model.specs.Demand.{Value, tokenAt, outcomeAt}
-use Rattle.model.proofs.Basics.{eqb-yes, eqb-apart, both, and-intro, not-is, not-yes, clash, any-at, any-no, all-at, some≢none, some-inj, orElse, CaseO, is-none, is-some, caseO}
+use Rattle.model.proofs.Basics.{eqb-apart, both, not-yes, clash, any-at, any-no, all-at, some≢none, some-inj, orElse, CaseO, is-none, is-some, caseO, never-answers}
 use Rattle.model.proofs.Lookups.{lookup-none}
 use Rattle.model.proofs.Entries.{look, mem-look}
 use Rattle.model.proofs.Holdings.{available-token, made-number}
@@ -74,10 +74,10 @@ pub held-off-unchanged : (limits : Limits) (place : ℕ) (model : Model) (p : �
 held-off-unchanged limits place model p t e = model-unchanged limits place model (register p t) (ap leaves e)
 
 -- once the first transaction is decided at a shard, no input that names it awaits it there, at that time or later
-pub decided-awaited : (limits : Limits) (calls more : List Call) (p : ℕ) (first : Transaction) (x : Input)
+pub decided-not-awaited : (limits : Limits) (calls more : List Call) (p : ℕ) (first : Transaction) (x : Input)
     → x .token .creator ≡ first .number → outcomeAt limits (play limits calls) p first ≢ Wait
     → any (awaits p x) (ledgerAt limits (play limits (calls ++ more) .shards) p .known) ≡ false
-decided-awaited limits calls more p first x named decided = not-yes no
+decided-not-awaited limits calls more p first x named decided = not-yes no
   where
     model : Model
     model = play limits (calls ++ more)
@@ -99,11 +99,11 @@ decided-awaited limits calls more p first x named decided = not-yes no
 -- ---- Inputs that are made and free
 
 -- a token that is held was not made by an undecided transaction
-held-awaited : {log : List Entry} {p : ℕ} {tokens : List Token} {genesis : ℕ → ℕ → Option Value} {known : List Known}
+held-not-awaited : {log : List Entry} {p : ℕ} {tokens : List Token} {genesis : ℕ → ℕ → Option Value} {known : List Known}
     → Core log p tokens genesis known → (x : Input) {token : Token}
     → tokenAt tokens (x .token .creator) (x .token .index) ≡ some token → any (awaits p x) known ≡ false
 unfolding made
-held-awaited {p = p} {genesis = genesis} {known = known} core x {token} held = not-yes no
+held-not-awaited {p = p} {genesis = genesis} {known = known} core x {token} held = not-yes no
   where
     m : ℕ
     m = x .token .creator
@@ -131,19 +131,8 @@ free-passes limits calls p t free =
     let ok = play-inv limits calls .at p in
     any-no (λ x. any (awaits p x) (ledger .known)) (inputsHere p t)
     (λ x m e. clash e
-    (held-awaited (ok .core) x
+    (held-not-awaited (ok .core) x
     (available-token (ledger .tokens) x (ok .no-twice) (all-at (available (ledger .tokens)) (inputsHere p t) free x m) .is-there)))
-
--- a table in which no row of that number holds does not answer it
-never : (n : ℕ) → (n ≡ 0 → ⊥) → (rows : List (Bool × ℕ)) → all (λ row. not (eqb (row .1) n && row .0)) rows ≡ true → firstOf rows ≡ n → ⊥
-never n z [] h e = z (sym e)
-never n z (row ∷ rows) h e =
-    let r = both (not (eqb (row .1) n && row .0)) (all (λ row. not (eqb (row .1) n && row .0)) rows) h in
-    go (row .0) refl (r .0) (never n z rows (r .1)) e
-  where
-    go : (b : Bool) → row .0 ≡ b → not (eqb (row .1) n && row .0) ≡ true → (firstOf rows ≡ n → ⊥) → cond b (row .1) (firstOf rows) ≡ n → ⊥
-    go true y h rest q = clash (and-intro (eqb-yes q) y) (not-is h)
-    go false y h rest q = rest q
 
 -- what a registration is answered: its table's number, or the verdict
 module _ (cause : ℕ) (before after : Ledger) (verdict : Bool) (outcome : Outcome) where
@@ -172,7 +161,7 @@ module _ (limits : Limits) (calls : List Call) (p : ℕ) (t : Transaction) (free
   pub free-registers : clusterStep limits (play limits calls .shards) (register p t) .1 ≢ Refused 17
   unfolding clusterStep atShard shardStep registerRefusals
   free-registers e =
-      never 17 (λ z. eqb-apart {m = 17} {n = 0} refl z) (registerRefusals limits p ledger p t)
+      never-answers 17 (λ z. eqb-apart {m = 17} {n = 0} refl z) (registerRefusals limits p ledger p t)
       (ap (λ (b : Bool). not b && true) (free-passes limits calls p t free))
       (refused-cause cause ledger (afterRegister p ledger t) (vote p (ledger .tokens) t) outcome 17 (eqb cause 0) e)
 

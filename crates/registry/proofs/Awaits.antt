@@ -2,7 +2,7 @@
 use Prim.Native.Nat.{ℕ, zero, suc, _+_, _≤_, _<_}
 use native.Mathlib.Omega.{arith}
 use mathlib.Core.Path.{_≡_, refl, sym, ap, _∙_}
-use mathlib.Core.Bool.{Bool, true, false, cond, not, _||_, _&&_, and-true, and-false, true≢false, false≢true}
+use mathlib.Core.Bool.{Bool, true, false, cond, not, _||_, _&&_, and-assoc, and-true, and-false, or-false, false≢true}
 use mathlib.Core.List.{List, [], _∷_}
 use borrow.Author.Tests.{eq-eqb, ne-eqb, lt-ltb, le-ltb}
 use lib.Dec.{eqb, ltb, leb·suc-suc}
@@ -27,21 +27,6 @@ use Rattle.registry.specs.Numbers.{isNumbered, OneEach}
 use Rattle.registry.specs.Voted.{voted}
 use Rattle.registry.specs.Made.{makesHere}
 use Rattle.registry.proofs.Finds.{AsksNumber, none-passes, passes-there, is-numbered}
-
-or-no : (b : Bool) → b || false ≡ b
-or-no true = refl
-or-no false = refl
-
--- two tests in front of a third, held and not held together
-pub behind-both : (a b c : Bool) → a && b ≡ true → c ≡ a && (b && c)
-behind-both true true c e = refl
-behind-both true false c e = absurd (false≢true e)
-behind-both false b c e = absurd (false≢true e)
-
-pub behind-none : (a b c : Bool) → a && b ≡ false → false ≡ a && (b && c)
-behind-none true true c e = absurd (true≢false e)
-behind-none true false c e = refl
-behind-none false b c e = refl
 
 -- ---- Made tokens by number and index
 
@@ -71,7 +56,7 @@ module _ (me n : ℕ) (x : Input) where
 
       go : (b : Bool) → any (names x) rest ≡ false
           → any (names x) (cond b (tokenOf n from y ∷ rest) rest) ≡ eqb n (x .token .creator) && (true && b)
-      go true r = rw (eq-eqb from (x .token .index) (omega arith), r) (or-no (eqb n (x .token .creator) && true))
+      go true r = rw (eq-eqb from (x .token .index) (omega arith), r) (or-false (eqb n (x .token .creator) && true))
       go false r = r ∙ sym (and-false (eqb n (x .token .creator)))
   at-from from (y ∷ ys) (suc j) e = rw (leb·suc-suc (suc j) (length ys)) (go (outputHere me y) (at-from (suc from) ys j (omega arith)))
     where
@@ -133,46 +118,47 @@ module _ (ws : List ℕ) (most : shardOf ws .known ≤ knownSlots) (one : OneEac
   awaits-none h =
       sym (none-passes (ledgerOf ws .known) one (x .token .creator) found (omega (arith, known-length ws most)) (awaits me x) (asks-awaits me x))
 
-  module _ (below : place < shardOf ws .known) {makes : Bool} (em : makes ≡ makesHere me (slotKnown ws place .transaction) (x .token .index)) where
-    k : Known
-    k = slotKnown ws place
+  -- the known transaction there
+  abbrev there : Known
+  there = slotKnown ws place
 
-    there-is : any (awaits me x) (ledgerOf ws .known) ≡ awaits me x k
-    unfolding k
+  module _ (below : place < shardOf ws .known) {makes : Bool} (em : makes ≡ makesHere me (there .transaction) (x .token .index)) where
+    there-is : any (awaits me x) (ledgerOf ws .known) ≡ awaits me x there
     there-is =
         passes-there (ledgerOf ws .known) one (x .token .creator) found (omega (arith, known-length ws most)) (awaits me x) (asks-awaits me x)
         ∙ ap (awaits me x) (sym (known-entry ws place below most nothingKnown))
 
-    named : any (names x) (madeHere me (k .transaction)) ≡ makes
-    unfolding k
+    named : any (names x) (madeHere me (there .transaction)) ≡ makes
     named =
-        names-made me x (slotKnown ws place .transaction)
+        names-made me x (there .transaction)
         ∙ rw (ap (isNumbered (x .token .creator)) (known-entry ws place below most nothingKnown)
         ∙ is-numbered (ledgerOf ws .known) one (x .token .creator) found (omega (arith, known-length ws most))) (sym em)
 
     -- where that one makes nothing of the index here, it does not
     pub awaits-other : makes ≡ false → false ≡ any (awaits me x) (ledgerOf ws .known)
-    unfolding k
-    awaits-other none-made = rw (there-is, named, none-made) (sym (and-false (isUndecided (outcomeOf (slotKnown ws place)))))
+    awaits-other none-made = rw (there-is, named, none-made) (sym (and-false (isUndecided (outcomeOf there))))
 
     -- else it does while some vote is missing
-    pub awaits-if : makes ≡ true → {heard : Bool} → heard ≡ all (voted false (slotKnown ws place .heard)) (shardsOf (slotKnown ws place .transaction))
+    pub awaits-if : makes ≡ true → {heard : Bool} → heard ≡ all (voted false (there .heard)) (shardsOf (there .transaction))
         → not heard ≡ any (awaits me x) (ledgerOf ws .known)
-    unfolding k
     awaits-if is-made {heard} eh =
-        rw (there-is, named, is-made, undecided-is (slotKnown ws place .transaction) (slotKnown ws place .heard), ← eh) (sym (and-true (not heard)))
+        rw (there-is, named, is-made, undecided-is (there .transaction) (there .heard), ← eh) (sym (and-true (not heard)))
 
 -- some used input of four is here and does
 module _ (me : ℕ) (known : List Known) (t : Transaction) (long : length (t .inputs) ≡ 4) where
   abbrev waits : Input → Bool
-  waits x = inputHere me x && any (awaits me x) known
+  waits x = any (awaits me x) known
 
   abbrev slot : ℕ → Bool
-  slot i = ltb i (t .«input_count») && waits (getD (t .inputs) i zeroInput)
+  slot i = let x = getD (t .inputs) i zeroInput in ltb i (t .«input_count») && inputHere me x && waits x
 
   pub held-off-by : {a b c d : Bool} → a ≡ slot 0 → b ≡ slot 1 → c ≡ slot 2 → d ≡ slot 3 → a || b || c || d ≡ heldOff me known t
   unfolding heldOff inputsHere
   held-off-by ea eb ec ed =
-      rw (ea, eb, ec, ed)
-      (any-by zeroInput (t .inputs) long waits (t .«input_count») refl refl refl refl
-      ∙ sym (any-keep (λ x. any (awaits me x) known) (inputHere me) (usedInputs t)))
+      rw (ea ∙ each 0, eb ∙ each 1, ec ∙ each 2, ed ∙ each 3)
+      (any-by zeroInput (t .inputs) long (λ x. inputHere me x && waits x) (t .«input_count») refl refl refl refl
+      ∙ sym (any-keep waits (inputHere me) (usedInputs t)))
+    where
+      each : (i : ℕ) → slot i ≡ ltb i (t .«input_count») && (inputHere me (getD (t .inputs) i zeroInput) && waits (getD (t .inputs) i zeroInput))
+      each i =
+          and-assoc (ltb i (t .«input_count»)) (inputHere me (getD (t .inputs) i zeroInput)) (waits (getD (t .inputs) i zeroInput))

@@ -49,7 +49,7 @@ fn awaits_any(s: &Words, me: u8, x: Input) -> bool
 // It is used, it is at this shard, and it awaits a known transaction.
 fn awaits_here(s: &Words, me: u8, used: bool, x: Input) -> bool
     requires { ⌜ (shardOf (now s) .known ≤ knownSlots) × OneEach (ledgerOf (now s) .known) ⌝ }
-    ensures { λ r. ⌜ r ≡ (used && (inputHere me x && any (awaits me x) (ledgerOf (now (s .entry)) .known))) ⌝ }
+    ensures { λ r. ⌜ r ≡ (used && inputHere me x && any (awaits me x) (ledgerOf (now (s .entry)) .known)) ⌝ }
 {
     let token = x.token;
     if used & (token.shard == me) {

@@ -1,6 +1,5 @@
-use Prim.Native.Nat.{_<_}
-use mathlib.Core.Path.{_≡_, sym, _∙_, ap}
-use lib.Dec.{eqb}
+use native.Mathlib.Omega.{arith}
+use mathlib.Core.Path.{_≡_}
 use lib.ListN.{length}
 use Rattle.transaction.specs.declared.Transaction.{Transaction}
 use Rattle.layout.specs.Layout.{slotKnown}
@@ -32,13 +31,13 @@ returns c =
     let entry : tie.Start = search in
     let me = entry .args .me in
     rw (c .output-shard-at .ensures)
-    (makes-there me (known entry) (long entry) (near .if1 .taken) (rw (← counted .output-count-at .ensures) (used .if2 .taken)))
+    (makes-there me (known entry) (long entry) (near .if1 .taken) (omega (arith, counted .output-count-at .ensures, used .if2 .taken)))
 
 returns-2 : tie.Need-returns-2
 returns-2 c =
     let counted : tie.After-output-count-at = search in
     let entry : tie.Start = search in
-    makes-unused (entry .args .me) (known entry) (long entry) (rw (← counted .output-count-at .ensures) (c .if2 .left))
+    makes-unused (entry .args .me) (known entry) (long entry) (omega (arith, counted .output-count-at .ensures, c .if2 .left))
 
 returns-3 : tie.Need-returns-3
 returns-3 c =
