@@ -40,6 +40,7 @@ static const char *const CAUSES[] = {
     "kind 3: this opening position was given",
     "writer: lent bytes fewer than the record",
     "round, kind 2: sender has not given this vote on this swap",
+    "kind 1: takes what an undecided swap is to make here",
 };
 
 static const char *const OUTCOMES[] = {"WAIT", "COMMIT", "ABORT"};

@@ -187,8 +187,14 @@ enum plankeeper_outcome {
 };
 
 /* The causes of refusal. A call is refused with the first that fits, in this order: 1 to 6; then
- * a registration 7, 8, 9, 10; a vote 16 (in a cluster only), 11, 7, 12; a mint 13, 14. A writer
- * looks for 3, 4, 5, 15. No bytes at all are 2. A refused call changes nothing.
+ * a registration 7, 8, 9, 10, 17; a vote 16 (in a cluster only), 11, 7, 12; a mint 13, 14. A
+ * writer looks for 3, 4, 5, 15. No bytes at all are 2. A refused call changes nothing.
+ *
+ * 17 holds a transaction off: it takes a token, whoever is named as its owner and whatever its
+ * amount, that another transaction is to make at this shard, which knows that one and has not
+ * decided it. Send it again once the other is decided there (plankeeper_outcome_of tells): after a
+ * commit the token is there, after an abort it never comes and the vote is no.
+ * Two transactions that each take what the other is to make may wait for each other for good.
  *
  * Who gives it: r plankeeper_read; w the writers (plankeeper_write_...), of records that have the
  * field; m mint, g register, v votes (plankeeper_deliver, plankeeper_shard_hear), in a cluster and
@@ -213,6 +219,7 @@ enum plankeeper_outcome {
  *     14      m      kind 3: this opening position was given
  *     15    w        writer: lent bytes fewer than the record
  *     16          v  round, kind 2: sender has not given this vote on this swap
+ *     17        g    kind 1: takes what an undecided swap is to make here
  */
 enum plankeeper_refusal {
     PLANKEEPER_REFUSED_UNKNOWN_KIND = 1,
@@ -230,7 +237,8 @@ enum plankeeper_refusal {
     PLANKEEPER_REFUSED_MINT_TOO_LATE = 13,
     PLANKEEPER_REFUSED_INDEX_GIVEN = 14,
     PLANKEEPER_REFUSED_BUFFER_TOO_SHORT = 15,
-    PLANKEEPER_REFUSED_VOTE_NOT_GIVEN = 16
+    PLANKEEPER_REFUSED_VOTE_NOT_GIVEN = 16,
+    PLANKEEPER_REFUSED_HELD_OFF = 17
 };
 
 /* The answers to calls that are carried out; a call that is refused is answered with the
@@ -289,8 +297,9 @@ uint32_t plankeeper_mint(plankeeper *cluster, uint32_t receiver, uint32_t index,
                          uint32_t amount);
 
 /* Registers the transaction at the receiving shard: it pledges those of the inputs there that are
- * available, and votes yes if all of them are. Returns one of PLANKEEPER_NO_... and
- * PLANKEEPER_YES_..., or a refusal. */
+ * available, and votes yes if all of them are. One that comes too close behind another is held off
+ * (17) and has to be sent again. Returns one of PLANKEEPER_NO_... and PLANKEEPER_YES_..., or a
+ * refusal. */
 uint32_t plankeeper_register(plankeeper *cluster, uint32_t receiver,
                              const uint32_t transaction[PLANKEEPER_TRANSACTION_WORDS]);
 

@@ -1,4 +1,4 @@
-//! What a planner prints, from document 01 alone.
+//! What a planner prints, from documents 01 and 02 alone.
 
 use std::fmt::Write;
 

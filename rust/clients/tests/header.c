@@ -342,6 +342,25 @@ static void refuse_when_full(void)
     REFUSES(plankeeper_register(cluster, 0, t), TRANSACTIONS_FULL);
 }
 
+/* One that takes what another is to make at a shard, until that has decided the other. */
+static void refuse_close_behind(void)
+{
+    plankeeper *cluster = fresh_cluster();
+    transaction first, second;
+    move(first, 1, 0, 0, 1);
+    move(second, 2, 1, 0, 1);
+    second[PLANKEEPER_INPUT_CREATOR(0)] = 1;
+    EQUAL(plankeeper_mint(cluster, 0, 0, 9, 1), PLANKEEPER_OPENED);
+    EQUAL(plankeeper_register(cluster, 0, first), PLANKEEPER_YES_WAIT);
+    EQUAL(plankeeper_register(cluster, 1, first), PLANKEEPER_YES_WAIT);
+    memcpy(cluster_copy, cluster_words, sizeof cluster_words);
+    REFUSES(plankeeper_register(cluster, 1, second), HELD_OFF);
+    EQUAL(plankeeper_outcome_of(cluster, 1, 1), PLANKEEPER_WAIT);
+    EQUAL(plankeeper_outcome_of(cluster, 1, 2), PLANKEEPER_UNKNOWN);
+    EQUAL(plankeeper_deliver(cluster, 1, 0, YES, first), PLANKEEPER_HEARD_COMMIT);
+    EQUAL(plankeeper_register(cluster, 1, second), PLANKEEPER_YES_COMMIT);
+}
+
 /* ---- A lone shard */
 
 static void check_shard(const plankeeper_shard *shard, const uint32_t *t)
@@ -533,7 +552,7 @@ static void take_answers_apart(void)
     };
     static const int KINDS[4] = {REGISTERED, REGISTERED, HEARD, AGAIN};
     uint32_t number, row, outcome;
-    for (number = 1; number <= PLANKEEPER_REFUSED_VOTE_NOT_GIVEN; number++)
+    for (number = 1; number <= PLANKEEPER_REFUSED_HELD_OFF; number++)
         check_kind(number, REFUSED);
     check_kind(PLANKEEPER_OPENED, OPENED);
     for (row = 0; row < 4; row++)
@@ -551,6 +570,7 @@ int main(void)
     play_others();
     refuse_in_the_example();
     refuse_when_full();
+    refuse_close_behind();
     play_shard();
     write_records();
     write_every_slot();

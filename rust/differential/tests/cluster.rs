@@ -17,10 +17,11 @@ fn random_weeks_of_a_cluster() {
     let (tally, calls) = count_weeks(WEEKS, cluster, |cluster, tally, week| {
         let records = cluster_week(&mut Rng::new(SEED, week));
         let mut player = Player::cluster(week, cluster);
+        let mut events = tally.week();
         for record in &records {
             let played = player.call(record);
             let after = player.reference().shards();
-            tally.call(record, played.answer, played.before, after);
+            events.call(record, played.answer, played.before, after);
         }
         player.compare_states();
         records.len()
@@ -28,6 +29,7 @@ fn random_weeks_of_a_cluster() {
     assert!(calls >= CALLS, "{calls} calls only");
     let title = format!("a cluster, {calls} calls in {WEEKS} weeks");
     tally.report(&title, &given_by(&[Giver::Cluster]), LEAST);
+    tally.check(&title, &["REFUSED 17"], 10 * LEAST);
     tally.check(&title, &SHARD_EVENTS, LEAST);
     tally.check(&title, &CLUSTER_EVENTS, LEAST);
     tally.check_never(&title, &never_given_by(&[Giver::Cluster]));

@@ -37,37 +37,29 @@ struct Followed {
     whole: [bool; 2],
 }
 
-/// Plays an order and holds the engine's states to the clauses after every
-/// call. The repeats come behind so many calls.
-fn follow(
-    player: &mut ClusterPlayer,
-    records: &[Record],
-    calls: usize,
-    tally: &mut Tally,
-) -> Followed {
+/// Plays an order's calls and its repeats, and holds the engine's states to the
+/// clauses after every call.
+fn follow(player: &mut ClusterPlayer, parts: [&[Record]; 2], tally: &mut Tally) -> Followed {
     let mut clauses = Clauses::new();
-    let (mut early, mut whole) = (false, false);
-    for (record, call) in records.iter().zip(1..) {
-        let answer = player.call(record).answer;
-        tally.add(label(answer));
-        let views = array::from_fn(|shard| View {
-            tokens: &player.states()[shard].tokens,
-            known: &player.states()[shard].known,
-        });
-        clauses.step(record, answer.is_err(), &views);
-        // A repeat adds nothing, and neither does a refused call.
-        if !changes_nothing(answer) {
-            whole = clauses.serial();
+    let mut whole = false;
+    let whole = parts.map(|records| {
+        for record in records {
+            let answer = player.call(record).answer;
+            tally.add(label(answer));
+            let views = array::from_fn(|shard| View {
+                tokens: &player.states()[shard].tokens,
+                known: &player.states()[shard].known,
+            });
+            clauses.step(record, answer.is_err(), &views);
+            // A repeat adds nothing, and neither does a refused call.
+            if !changes_nothing(answer) {
+                whole = clauses.serial();
+            }
         }
-        if call == calls {
-            early = whole;
-        }
-    }
+        whole
+    });
     player.compare_states();
-    Followed {
-        clauses,
-        whole: [early, whole],
-    }
+    Followed { clauses, whole }
 }
 
 /// Plays every order of the scenario on the engine and on the reference.
@@ -76,9 +68,9 @@ fn play(scenario: &Scenario, cluster: &mut Cluster) -> Played {
     let mut tally = Tally::default();
     let mut ends: BTreeMap<Vec<u32>, u64> = BTreeMap::new();
     let mut whole_orders = 0;
-    let orders = scenario.orders(|order, records| {
+    let orders = scenario.orders(|order, calls, repeats| {
         let mut player = Player::cluster(order, cluster);
-        let followed = follow(&mut player, records, scenario.calls(), &mut tally);
+        let followed = follow(&mut player, [calls, repeats], &mut tally);
         let [early, whole] = followed.whole;
         whole_orders += u64::from(early);
         assert!(whole, "order {order} leaves a transaction undecided");
@@ -120,6 +112,7 @@ fn every_order_of_every_scenario() {
     }
     let title = format!("all scenarios, {orders} orders");
     all.report(&title, &carried_out(), 1000);
-    all.check(&title, &["REFUSED 7", "REFUSED 11", "REFUSED 16"], 1000);
-    assert_eq!(orders, 497_649, "orders");
+    let refused = ["REFUSED 7", "REFUSED 11", "REFUSED 16", "REFUSED 17"];
+    all.check(&title, &refused, 1000);
+    assert_eq!(orders, 537_969, "orders");
 }

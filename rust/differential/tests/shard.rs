@@ -23,10 +23,11 @@ fn play(
     records: &[Record],
 ) -> usize {
     let mut player = Player::shard(week, &mut shards[usize::from(number)]);
+    let mut events = tally.week();
     for record in records {
         let played = player.call(record);
         let after = player.reference().shards();
-        tally.call(record, played.answer, played.before, after);
+        events.call(record, played.answer, played.before, after);
     }
     records.len()
 }

@@ -52,6 +52,33 @@ impl<M: Memory> Ledger<M> {
     /// Asks the receiving shard to register the transaction (document 01:
     /// registration). It pledges the inputs that it holds and that are
     /// available, and votes yes if all its inputs are.
+    ///
+    /// A transaction may come too close behind another: it takes what the other
+    /// is to make at this shard, which knows the other and has not decided it.
+    /// Then it is held off. Nothing has changed; ask again once the other is
+    /// decided there.
+    ///
+    /// ```
+    /// use plankeeper::{Cluster, Input, Output, Refusal, TokenId, Transaction, Verdict};
+    ///
+    /// let take = |shard, creator| Input {
+    ///     token: TokenId { shard, creator, index: 0 },
+    ///     owner: 10,
+    ///     amount: 3,
+    /// };
+    /// let give = |shard| Output { shard, owner: 10, amount: 3 };
+    /// let first = Transaction::new(5).input(take(0, 0)).output(give(1));
+    /// let second = Transaction::new(6).input(take(1, 5)).output(give(2));
+    ///
+    /// let mut cluster = Cluster::new();
+    /// cluster.mint(0, 0, 10, 3)?;
+    /// cluster.register(0, &first)?;
+    /// cluster.register(1, &first)?;
+    /// assert_eq!(cluster.register(1, &second), Err(Refusal::HeldOff));
+    /// cluster.deliver(1, 0, Verdict::Yes, &first)?;
+    /// assert_eq!(cluster.register(1, &second)?.to_string(), "YES WAIT");
+    /// # Ok::<(), Refusal>(())
+    /// ```
     #[inline]
     pub fn register(&mut self, receiver: u8, transaction: &Transaction) -> Result<Answer, Refusal> {
         let words = transaction.words();

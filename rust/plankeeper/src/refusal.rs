@@ -3,8 +3,9 @@
 use std::error::Error;
 use std::fmt::{self, Display, Formatter};
 
-/// Why a record or a call was refused: the sixteen causes of document 01's
-/// table. A refused call has changed nothing.
+/// Why a record or a call was refused: the seventeen causes of document 01's
+/// table, the last of which joined it later. A refused call has changed
+/// nothing.
 ///
 /// Shown as text it is the table's sentence, which speaks that document's
 /// words: a pantry is a shard, a swap a transaction, an opening a genesis
@@ -55,11 +56,14 @@ pub enum Refusal {
     /// 16, vote in a cluster: the sender has not given this vote on this
     /// transaction.
     VoteNotGiven = 16,
+    /// 17, register: a transaction known here and not decided yet is to make
+    /// one of the inputs here. Hand it in again once that one is decided here.
+    HeldOff = 17,
 }
 
 impl Refusal {
     /// Every cause, in the order of the numbers.
-    pub const ALL: [Refusal; 16] = [
+    pub const ALL: [Refusal; 17] = [
         Refusal::UnknownKind,
         Refusal::TooShort,
         Refusal::OutOfRange,
@@ -76,6 +80,7 @@ impl Refusal {
         Refusal::IndexGiven,
         Refusal::BufferTooShort,
         Refusal::VoteNotGiven,
+        Refusal::HeldOff,
     ];
 
     /// The cause's number in document 01's table.
@@ -113,6 +118,7 @@ impl Display for Refusal {
             Refusal::IndexGiven => "kind 3: this opening position was given",
             Refusal::BufferTooShort => "writer: lent bytes fewer than the record",
             Refusal::VoteNotGiven => "round, kind 2: sender has not given this vote on this swap",
+            Refusal::HeldOff => "kind 1: takes what an undecided swap is to make here",
         })
     }
 }

@@ -1,6 +1,6 @@
 //! Independent implementation of the record codec, of one shard's ledger, of the
-//! cluster of eight and of the listing, written from document 01 alone. The
-//! proved engine is compared with it through the C boundary, and the proved
+//! cluster of eight and of the listing, written from documents 01 and 02 alone.
+//! The proved engine is compared with it through the C boundary, and the proved
 //! program through its output.
 //!
 //! The code speaks the field's language: a pantry is a shard, a round a

@@ -1,5 +1,5 @@
 /// Why a record or call was refused; the numbers are document 01's causes of
-/// refusal.
+/// refusal, and document 02's from 17 on.
 #[derive(Clone, Copy, Debug, PartialEq, Eq)]
 #[repr(u8)]
 pub enum Refusal {
@@ -37,10 +37,12 @@ pub enum Refusal {
     /// Vote, in the cluster: the sender has not given this vote on this
     /// transaction.
     VoteNotGiven = 16,
+    /// Register: an undecided transaction known here is to make an input here.
+    HeldOff = 17,
 }
 
 impl Refusal {
-    /// The cause's number in document 01.
+    /// The cause's number in the documents.
     pub fn number(self) -> u8 {
         self as u8
     }
@@ -64,6 +66,7 @@ impl Refusal {
             14 => Self::IndexGiven,
             15 => Self::BufferTooShort,
             16 => Self::VoteNotGiven,
+            17 => Self::HeldOff,
             _ => return None,
         })
     }

@@ -217,7 +217,9 @@ impl Shard {
         Ok(Done::Minted)
     }
 
-    /// Pledges the inputs here and votes (document 01: registration).
+    /// Pledges the inputs here and votes (document 01: registration). One that
+    /// follows close behind another is held off, to be sent again later
+    /// (document 02, slip 1).
     pub fn register(&mut self, receiver: u8, transaction: &Transaction) -> Answer {
         if receiver != self.number {
             return Err(OutOfRange);
@@ -236,6 +238,9 @@ impl Shard {
         let new = outputs_at(self.number, transaction).count();
         if self.tokens.len() + self.reserved() + new > self.limits.tokens {
             return Err(TokensFull);
+        }
+        if self.holds_off(transaction) {
+            return Err(HeldOff);
         }
 
         let verdict = self.pledge(transaction);
@@ -336,6 +341,26 @@ impl Shard {
             .filter(|known| known.outcome() == Outcome::Wait)
             .map(|known| outputs_at(self.number, &known.transaction).count())
             .sum()
+    }
+
+    /// Whether an input is a token that may still be made here. Its owner and
+    /// amount play no part: whatever they are, the registration waits for the
+    /// other transaction's decision.
+    fn holds_off(&self, transaction: &Transaction) -> bool {
+        let mut inputs = transaction.used_inputs().iter();
+        inputs.any(|input| self.may_be_made(input.token))
+    }
+
+    /// Whether the token is an output here of an undecided transaction.
+    fn may_be_made(&self, token: TokenId) -> bool {
+        let Some(place) = self.find(token.creator) else {
+            return false;
+        };
+        let creator = &self.known[place];
+        let mut outputs = outputs_at(self.number, &creator.transaction);
+        token.shard == self.number
+            && creator.outcome() == Outcome::Wait
+            && outputs.any(|(index, _)| index == token.index)
     }
 
     /// Pledges every available input here, also beside one that is not, and

@@ -191,8 +191,8 @@ fn shards_that_take_part() {
 }
 
 #[test]
-fn refusals_have_the_numbers_of_document_01() {
+fn refusals_have_the_numbers_of_the_documents() {
     let known = (0..=255).filter_map(Refusal::from_number);
     let numbers: Vec<u8> = known.map(Refusal::number).collect();
-    assert_eq!(numbers, (1..=16).collect::<Vec<u8>>());
+    assert_eq!(numbers, (1..=17).collect::<Vec<u8>>());
 }

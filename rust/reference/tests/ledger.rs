@@ -1,6 +1,8 @@
 //! The reference's ledgers held to document 01: its worked example, its edges,
-//! its order of refusals and its limits.
+//! its order of refusals and its limits. Document 02's have tests of their own.
 
+#[path = "common/answers.rs"]
+mod answers;
 #[path = "common/records.rs"]
 mod records;
 
@@ -11,6 +13,7 @@ use reference::{
 
 use Outcome::{Abort, Commit, Wait};
 use Verdict::{No, Yes};
+use answers::registered;
 use records::{mint, register, transaction};
 
 fn vote(sender: u8, receiver: u8, verdict: u8, transaction: Transaction) -> Record {
@@ -30,10 +33,6 @@ fn token(creator: u32, index: u8, owner: u32, amount: u32, pledge: Option<u32>) 
         amount,
         pledge,
     }
-}
-
-fn registered(verdict: Verdict, outcome: Outcome) -> Answer {
-    Ok(Done::Registered { verdict, outcome })
 }
 
 fn example() -> [Record; 7] {
@@ -328,9 +327,13 @@ fn outputs_are_available_after_the_commit_only() {
     assert_eq!(cluster.register(1, &own), registered(No, Abort));
     let first = transaction(5, &[(0, 0, 0, 10, 3)], &[(1, 10, 3)]);
     let second = |number| transaction(number, &[(1, 5, 0, 10, 3)], &[(1, 10, 3)]);
-    cluster.register(1, &first).unwrap();
     assert_eq!(cluster.register(1, &second(6)), registered(No, Abort));
+    cluster.register(1, &first).unwrap();
+    // The first is known now: what takes its output is held off.
+    let held_off = Err(Refusal::HeldOff);
+    assert_eq!(cluster.register(1, &second(7)), held_off);
     cluster.register(0, &first).unwrap();
+    assert_eq!(cluster.register(1, &second(7)), held_off);
     cluster.deliver(1, 0, 1, &first).unwrap();
     assert_eq!(cluster.register(1, &second(7)), registered(Yes, Commit));
 }

@@ -312,6 +312,34 @@ fn three_pantries() {
     );
 }
 
+/// A swap close behind another. The pantry is shown, as for every refusal from 6
+/// on.
+#[test]
+fn held_off() {
+    let first = transaction(5, &[(0, 0, 0, 10, 3)], &[(1, 20, 3)]);
+    let second = transaction(6, &[(1, 5, 0, 20, 3)], &[(1, 30, 3)]);
+    shows(
+        &bytes(&[
+            mint(0, 0, 10, 3),
+            register(0, first),
+            register(1, first),
+            register(1, second),
+            vote(1, 0, 1, first),
+            register(1, second),
+        ]),
+        &[
+            "1 0 OPENED",
+            "2 0 YES WAIT",
+            "3 1 YES WAIT",
+            "4 1 REFUSED 17",
+            "5 1 HEARD COMMIT",
+            "6 1 YES COMMIT",
+            // 3 at pantry 0, which has not heard pantry 1, and 3 at pantry 1.
+            "TOTAL 6",
+        ],
+    );
+}
+
 #[test]
 fn the_32nd_and_the_33rd_swap() {
     let give = |number| transaction(number, &[(1, 0, 0, 10, 3)], &[(0, 10, 3)]);

@@ -42,7 +42,8 @@ pub struct Cause {
     pub reply: Reply,
     /// Its name in the header, without what all names have in front.
     pub name: &'static str,
-    /// Document 01's sentence, to the letter.
+    /// Document 01's sentence, to the letter; from 17 on what document 02 asks
+    /// for, in the same words.
     pub sentence: &'static str,
 }
 
@@ -102,7 +103,8 @@ macro_rules! cause {
 
 /// Every cause of refusal, in the order of the numbers. The reader checks 1 to
 /// 5, the writers 3 to 5 and 15, a call from 3 on; a mint has no transaction,
-/// so neither 4 nor 5 nor 6. In a cluster 16 goes before 12. A row is a line.
+/// so neither 4 nor 5 nor 6. In a cluster 16 goes before 12. A registration
+/// looks for 17 last. A row is a line.
 #[rustfmt::skip]
 pub const CAUSES: &[Cause] = &[
     cause!(1, UnknownKind, "r", "UNKNOWN_KIND", "kind not 1 to 3"),
@@ -121,6 +123,7 @@ pub const CAUSES: &[Cause] = &[
     cause!(14, IndexGiven, "m", "INDEX_GIVEN", "kind 3: this opening position was given"),
     cause!(15, BufferTooShort, "w", "BUFFER_TOO_SHORT", "writer: lent bytes fewer than the record"),
     cause!(16, VoteNotGiven, "c", "VOTE_NOT_GIVEN", "round, kind 2: sender has not given this vote on this swap"),
+    cause!(17, HeldOff, "g", "HELD_OFF", "kind 1: takes what an undecided swap is to make here"),
 ];
 
 impl Giver {

@@ -112,6 +112,9 @@ impl Week<'_, ClusterStyle, Cluster> {
         if choice < self.style.new + self.style.due {
             return self.due_vote();
         }
+        if self.rng.once_in(6) && self.send_again() {
+            return;
+        }
         let transaction = self.transaction();
         match self.rng.below(40) {
             0..18 => self.missing_registration(),
@@ -261,13 +264,7 @@ impl Week<'_, ClusterStyle, Cluster> {
 
     fn new_transaction(&mut self) -> Transaction {
         let number = self.number();
-        // Few inputs where tokens are few.
-        let most = if self.style.mints < 4 { 2 } else { SLOTS };
-        let mut inputs = Vec::with_capacity(SLOTS);
-        for _ in 0..=self.rng.below(most) {
-            let input = self.input(number);
-            add_input(&mut inputs, input);
-        }
+        let inputs = self.inputs(number);
         let mut shards = self.shards.clone();
         if self.rng.once_in(4) {
             shards.push(self.rng.below(8) as u8);
@@ -285,6 +282,22 @@ impl Week<'_, ClusterStyle, Cluster> {
             }
         }
         transaction
+    }
+
+    /// One to four tokens; or one output of another transaction and nothing
+    /// else, so that this one can be committed as soon as that is.
+    fn inputs(&mut self, number: u32) -> Vec<Input> {
+        if !self.transactions.is_empty() && self.rng.once_in(8) {
+            return vec![self.output_of_another()];
+        }
+        // Few inputs where tokens are few.
+        let most = if self.style.mints < 4 { 2 } else { SLOTS };
+        let mut inputs = Vec::with_capacity(SLOTS);
+        for _ in 0..=self.rng.below(most) {
+            let input = self.input(number);
+            add_input(&mut inputs, input);
+        }
+        inputs
     }
 
     fn number(&mut self) -> u32 {
@@ -335,17 +348,7 @@ impl Week<'_, ClusterStyle, Cluster> {
     /// An output that may not be made yet.
     fn output_of_another(&mut self) -> Input {
         let creator = self.transaction();
-        let index = self.rng.below(creator.output_count.into());
-        let output = creator.outputs[index];
-        Input {
-            token: TokenId {
-                shard: output.shard,
-                creator: creator.number,
-                index: index as u8,
-            },
-            owner: output.owner,
-            amount: output.amount,
-        }
+        self.output_of(&creator)
     }
 
     /// A token that never was, or the transaction's own output.

@@ -1,19 +1,25 @@
 //! What happened at a call, beside its answer.
 
-use reference::{Answer, Done, Outcome, Record, Shard, Token, Transaction, Verdict};
+use reference::{
+    Answer, Done, Input, Outcome, Output, Record, Refusal, Shard, Token, Transaction, Verdict,
+};
 
 use crate::answers::label;
 use crate::tally::Tally;
 use crate::transactions::{known, receiver};
 
 /// Kinds of events at a shard.
-pub const SHARD_EVENTS: [&str; 13] = [
+pub const SHARD_EVENTS: [&str; 17] = [
     "no, with a pledge",
     "no, without a pledge",
     "no, token not held",
     "no, other owner",
     "no, other amount",
     "no, token pledged",
+    "no, not to be made here",
+    "held off by the name alone",
+    "held off, later committed",
+    "held off, later aborted",
     "yes, with outputs only",
     "own vote again",
     "made token destroyed",
@@ -50,6 +56,14 @@ fn pledged(shard: &Shard) -> usize {
     tokens.filter(|token| token.pledge.is_some()).count()
 }
 
+/// Counts a week's answers and events, call by call.
+pub struct Events<'a> {
+    /// Counts them.
+    pub tally: &'a mut Tally,
+    /// The transactions held off so far, each with its shard.
+    held_off: Vec<(u8, Transaction)>,
+}
+
 /// A registration or a vote that was carried out.
 struct Carried<'a> {
     transaction: &'a Transaction,
@@ -61,6 +75,16 @@ struct Carried<'a> {
 }
 
 impl Tally {
+    /// Counts a week from its first call on.
+    pub fn week(&mut self) -> Events<'_> {
+        Events {
+            tally: self,
+            held_off: Vec::new(),
+        }
+    }
+}
+
+impl Events<'_> {
     /// Counts the answer, and what happened: what was noted before the call,
     /// and the lone shard or all eight after it.
     pub fn call(
@@ -70,11 +94,18 @@ impl Tally {
         before: Option<Before>,
         shards: &[Shard],
     ) {
-        self.add(label(answer));
-        let (Ok(done), Some(before)) = (answer, before) else {
+        self.tally.add(label(answer));
+        let Some(before) = before else {
             return;
         };
         let shard = &shards[before.place];
+        let done = match (answer, record) {
+            (Ok(done), _) => done,
+            (Err(Refusal::HeldOff), Record::Register { transaction, .. }) => {
+                return self.hold_off(shard, transaction);
+            }
+            _ => return,
+        };
         let carried = |transaction| Carried {
             transaction,
             done,
@@ -91,27 +122,37 @@ impl Tally {
             } => self.vote(&carried(transaction), *sender),
         }
         match shard.tokens().len() {
-            127 => self.add("127 tokens held"),
-            128 => self.add("128 tokens held"),
+            127 => self.tally.add("127 tokens held"),
+            128 => self.tally.add("128 tokens held"),
             _ => {}
         }
         if shard.known().len() == 32 {
-            self.add("32 transactions known");
+            self.tally.add("32 transactions known");
         }
+    }
+
+    /// A registration was held off, and has left the shard as it was.
+    fn hold_off(&mut self, shard: &Shard, transaction: &Transaction) {
+        let mut inputs = inputs_at(shard.number(), transaction);
+        if !inputs.any(|input| is_to_be_made(shard, input)) {
+            self.tally.add("held off by the name alone");
+        }
+        self.held_off.push((shard.number(), *transaction));
     }
 
     fn register(&mut self, call: &Carried, before: Before) {
         let Done::Registered { verdict, outcome } = call.done else {
             return;
         };
-        let mut inputs = call.transaction.used_inputs().iter();
-        let takes = inputs.any(|input| input.token.shard == call.shard.number());
+        let takes = inputs_at(call.shard.number(), call.transaction)
+            .next()
+            .is_some();
         match verdict {
             Verdict::Yes if takes => {}
-            Verdict::Yes => self.add("yes, with outputs only"),
+            Verdict::Yes => self.tally.add("yes, with outputs only"),
             Verdict::No => {
                 let more = pledged(call.shard) > before.pledged;
-                self.add(if more {
+                self.tally.add(if more {
                     "no, with a pledge"
                 } else {
                     "no, without a pledge"
@@ -123,17 +164,22 @@ impl Tally {
     }
 
     fn causes_of_no(&mut self, call: &Carried) {
-        let inputs = call.transaction.used_inputs().iter();
-        for input in inputs.filter(|input| input.token.shard == call.shard.number()) {
+        for input in inputs_at(call.shard.number(), call.transaction) {
             let named = |token: &&Token| {
                 token.creator == input.token.creator && token.index == input.token.index
             };
             match call.shard.tokens().iter().find(named) {
-                None => self.add("no, token not held"),
-                Some(token) if token.owner != input.owner => self.add("no, other owner"),
-                Some(token) if token.amount != input.amount => self.add("no, other amount"),
+                None => {
+                    self.tally.add("no, token not held");
+                    let waits = undecided(call.shard, input.token.creator);
+                    if waits.is_some_and(|creator| creator != call.transaction) {
+                        self.tally.add("no, not to be made here");
+                    }
+                }
+                Some(token) if token.owner != input.owner => self.tally.add("no, other owner"),
+                Some(token) if token.amount != input.amount => self.tally.add("no, other amount"),
                 Some(token) if token.pledge != Some(call.transaction.number) => {
-                    self.add("no, token pledged");
+                    self.tally.add("no, token pledged");
                 }
                 Some(_) => {}
             }
@@ -142,10 +188,10 @@ impl Tally {
 
     fn vote(&mut self, call: &Carried, sender: u8) {
         match call.done {
-            Done::Again(_) if sender == call.shard.number() => self.add("own vote again"),
+            Done::Again(_) if sender == call.shard.number() => self.tally.add("own vote again"),
             Done::Heard(outcome) => {
                 if call.overtakes(sender) {
-                    self.add("vote overtaking another");
+                    self.tally.add("vote overtaking another");
                 }
                 self.decide(call, outcome);
             }
@@ -154,23 +200,32 @@ impl Tally {
     }
 
     fn decide(&mut self, call: &Carried, outcome: Outcome) {
-        if outcome != Outcome::Commit {
-            return;
+        let decided = (call.shard.number(), *call.transaction);
+        let held_off = self.held_off.contains(&decided);
+        match outcome {
+            Outcome::Commit if held_off => self.tally.add("held off, later committed"),
+            Outcome::Abort if held_off => self.tally.add("held off, later aborted"),
+            _ => {}
         }
-        let here = call.shard.number();
-        let mut inputs = call.transaction.used_inputs().iter();
-        if inputs.any(|input| input.token.shard == here && input.token.creator != 0) {
-            self.add("made token destroyed");
+        if outcome == Outcome::Commit {
+            self.commit(call);
+        }
+    }
+
+    fn commit(&mut self, call: &Carried) {
+        let mut inputs = inputs_at(call.shard.number(), call.transaction);
+        if inputs.any(|input| input.token.creator != 0) {
+            self.tally.add("made token destroyed");
         }
         // More tokens than there is space for were here in all.
         let genesis = call.shard.given().iter().filter(|&&given| given).count();
         if genesis + made(call.shard) > 128 {
-            self.add("freed space used again");
+            self.tally.add("freed space used again");
         }
         let number = call.transaction.number;
         let mut others = call.shards.iter().flat_map(committed);
         if others.any(|other| other.number == number && other != call.transaction) {
-            self.add("two commits of one number");
+            self.tally.add("two commits of one number");
         }
     }
 }
@@ -189,6 +244,34 @@ impl Carried<'_> {
             waits.is_some_and(|known| known.heard[usize::from(sender)].is_none())
         })
     }
+}
+
+/// The transaction's inputs at the shard of this number.
+fn inputs_at(number: u8, transaction: &Transaction) -> impl Iterator<Item = &Input> {
+    let inputs = transaction.used_inputs().iter();
+    inputs.filter(move |input| input.token.shard == number)
+}
+
+/// The undecided transaction that the shard knows by this number.
+fn undecided(shard: &Shard, number: u32) -> Option<&Transaction> {
+    let mut known = shard.known().iter();
+    let known = known.find(|known| known.transaction.number == number)?;
+    (known.outcome() == Outcome::Wait).then_some(&known.transaction)
+}
+
+/// Whether an undecided transaction is to make just what the input says, owner
+/// and amount included.
+fn is_to_be_made(shard: &Shard, input: &Input) -> bool {
+    let Some(creator) = undecided(shard, input.token.creator) else {
+        return false;
+    };
+    let output = Output {
+        shard: input.token.shard,
+        owner: input.owner,
+        amount: input.amount,
+    };
+    let index = usize::from(input.token.index);
+    creator.used_outputs().get(index) == Some(&output)
 }
 
 /// The transactions that the shard has committed.

@@ -3,7 +3,7 @@
 use std::collections::{HashMap, VecDeque};
 use std::hash::{BuildHasher, BuildHasherDefault, DefaultHasher};
 
-use reference::{Cluster, Input, LIMITS, Output, Record, TokenId, Transaction, Verdict};
+use reference::{Cluster, Input, LIMITS, Output, Record, Refusal, TokenId, Transaction, Verdict};
 
 use crate::transactions::known;
 
@@ -28,7 +28,7 @@ pub struct Scenario {
     /// For messages.
     pub name: &'static str,
     /// The numbers of the committed transactions in serial order, for every
-    /// end that some order reaches, as document 01 has it.
+    /// end that some order reaches, as documents 01 and 02 have it.
     pub ends: &'static [&'static [u32]],
     mints: Vec<Record>,
     transactions: Vec<Transaction>,
@@ -43,6 +43,9 @@ pub struct Scenario {
 enum Orders {
     /// Every order: a delivery may come too early, and is refused.
     All,
+    /// As `All`, and after each step every registration that was held off
+    /// before it is sent again.
+    HeldOffAgain,
     /// A transaction's last shard registers it after its others.
     LastShardLate,
     /// A delivery comes after both its shards have registered.
@@ -118,6 +121,10 @@ pub fn scenarios() -> Vec<Scenario> {
             &[0],
             &[(5, &[genesis(0)], &[1]), (6, &[(1, 5, 0)], &[2])],
             Orders::All,
+            // 5 always commits: nobody else wants its token. 6 is voted no where
+            // shard 1 registers it before it knows 5. Else it is held off there
+            // until 5 has made the token, if only by the repeats. Then shard 1
+            // registers it after both registrations of 5, so that 5 goes first.
             &[&[5], &[5, 6]],
         ),
         Scenario::new(
@@ -128,6 +135,18 @@ pub fn scenarios() -> Vec<Scenario> {
                 (6, &[(6, 5, 0), (3, 5, 1)], &[3, 6]),
             ],
             Orders::All,
+            // Likewise, with an input at each shard: 6 commits where both know 5
+            // before it comes to them.
+            &[&[5], &[5, 6]],
+        ),
+        Scenario::new(
+            "a chain across two shards, sent again after each step while held off",
+            &[0],
+            &[(5, &[genesis(0)], &[1]), (6, &[(1, 5, 0)], &[0])],
+            Orders::HeldOffAgain,
+            // Likewise. Held off at shard 1, 6 comes through behind the very
+            // step that decides 5 there. Shard 0 has no input of 6 and never
+            // holds it off, and may commit it while it waits for 5.
             &[&[5], &[5, 6]],
         ),
         Scenario::new(
@@ -232,17 +251,18 @@ impl Scenario {
         }
     }
 
-    /// Calls `visit` with every order's number and its calls: the mints, the
-    /// steps in that order, then, if some may have been too early, all
-    /// deliveries again, so that every transaction comes to be decided at all
-    /// its shards. A delivery carries the vote its sender has given; one that
-    /// is too early carries any, is refused and stays so until the end.
-    pub fn orders(&self, mut visit: impl FnMut(u64, &[Record])) -> u64 {
+    /// Calls `visit` with every order's number, its calls and its repeats: the
+    /// mints and the steps in that order; then, if some may have been too early,
+    /// all steps again, one transaction's behind the other's, so that every
+    /// transaction comes to be decided at all its shards. A delivery carries the
+    /// vote its sender has given; one that is too early carries any, is refused
+    /// and stays so until the repeats, and so does a registration that is held
+    /// off, unless it is sent again after each step.
+    pub fn orders(&self, mut visit: impl FnMut(u64, &[Record], &[Record])) -> u64 {
         let mut number = 0;
-        let mut records = Vec::new();
         let mut visit = |order: &[usize]| {
-            self.play(number, order, &mut records);
-            visit(number, &records);
+            let (calls, repeats) = self.play(number, order);
+            visit(number, &calls, &repeats);
             number += 1;
         };
         if self.orders == Orders::EveryTransition {
@@ -251,11 +271,6 @@ impl Scenario {
             self.place(&mut Vec::new(), &mut visit);
         }
         number
-    }
-
-    /// How many of an order's calls come before the deliveries are repeated.
-    pub fn calls(&self) -> usize {
-        self.mints.len() + self.steps.len()
     }
 
     /// The steps that may come next.
@@ -334,19 +349,34 @@ impl Scenario {
         answer.expect("no step is too early in these orders");
     }
 
-    fn play(&self, number: u64, order: &[usize], records: &mut Vec<Record>) {
+    /// The calls of this order, and the repeats.
+    fn play(&self, number: u64, order: &[usize]) -> (Vec<Record>, Vec<Record>) {
         let mut cluster = self.cluster();
-        records.clear();
-        records.extend(&self.mints);
-        let late = matches!(self.orders, Orders::All | Orders::LastShardLate);
-        let again = |step: &&Step| late && matches!(step, Step::Deliver { .. });
-        let steps = order.iter().map(|&place| &self.steps[place]);
-        for step in steps.chain(self.steps.iter().filter(again)) {
-            let record = self.record(step, number.is_multiple_of(2), &cluster);
-            // Some are refused; which, is for the comparison to see.
-            let _ = cluster.play(&record);
+        let mut call = |place: usize, records: &mut Vec<Record>| {
+            let early = number.is_multiple_of(2);
+            let record = self.record(&self.steps[place], early, &cluster);
             records.push(record);
+            // Some are refused; which, is for the comparison to see.
+            cluster.play(&record)
+        };
+        let mut calls = self.mints.clone();
+        let mut held_off: Vec<usize> = Vec::new();
+        for &place in order {
+            let answer = call(place, &mut calls);
+            if self.orders == Orders::HeldOffAgain {
+                held_off.retain(|&place| call(place, &mut calls) == Err(Refusal::HeldOff));
+            }
+            if answer == Err(Refusal::HeldOff) {
+                held_off.push(place);
+            }
         }
+        let mut repeats = Vec::new();
+        if self.orders.may_be_early() {
+            for place in 0..self.steps.len() {
+                let _ = call(place, &mut repeats);
+            }
+        }
+        (calls, repeats)
     }
 
     fn record(&self, step: &Step, early: bool, cluster: &Cluster) -> Record {
@@ -377,6 +407,11 @@ impl Scenario {
 }
 
 impl Orders {
+    /// Whether a step may come too early.
+    fn may_be_early(self) -> bool {
+        !matches!(self, Orders::NoneEarly | Orders::EveryTransition)
+    }
+
     /// Whether `step` has to come after `other`.
     fn need(self, step: &Step, other: &Step, transactions: &[Transaction]) -> bool {
         let &Step::Register {

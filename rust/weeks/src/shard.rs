@@ -1,6 +1,6 @@
 //! Random weeks of a lone shard.
 
-use reference::{Input, LIMITS, Record, SLOTS, Shard, TokenId, Transaction, Verdict};
+use reference::{Input, LIMITS, Outcome, Record, SLOTS, Shard, TokenId, Transaction, Verdict};
 
 use crate::rng::Rng;
 use crate::transactions::{add_input, transfer, variant};
@@ -98,6 +98,9 @@ impl Week<'_, ShardStyle, Shard> {
     }
 
     fn step(&mut self) {
+        if self.rng.once_in(6) && self.send_again() {
+            return;
+        }
         match self.rng.below(100) {
             0..27 => {
                 let new = self.new_transaction();
@@ -257,6 +260,25 @@ impl Week<'_, ShardStyle, Shard> {
     fn new_transaction(&mut self) -> Transaction {
         let number = self.number();
         let local = self.rng.below(8) < self.style.local;
+        let inputs = self.inputs(number, local);
+        let shards: [u8; 8] = std::array::from_fn(|part| {
+            if local || part < self.style.here {
+                self.here()
+            } else {
+                self.rng.below(8) as u8
+            }
+        });
+        transfer(self.rng, number, &inputs, &shards)
+    }
+
+    /// One to four tokens; or one output of another transaction and nothing
+    /// else, so that this one can be committed as soon as that is.
+    fn inputs(&mut self, number: u32, local: bool) -> Vec<Input> {
+        if self.rng.once_in(5)
+            && let Some(input) = self.output_to_come()
+        {
+            return vec![input];
+        }
         let mut inputs = Vec::with_capacity(SLOTS);
         for _ in 0..=self.rng.below(SLOTS) {
             let input = if local || self.rng.once_in(2) {
@@ -266,14 +288,7 @@ impl Week<'_, ShardStyle, Shard> {
             };
             add_input(&mut inputs, input);
         }
-        let shards: [u8; 8] = std::array::from_fn(|part| {
-            if local || part < self.style.here {
-                self.here()
-            } else {
-                self.rng.below(8) as u8
-            }
-        });
-        transfer(self.rng, number, &inputs, &shards)
+        inputs
     }
 
     fn number(&mut self) -> u32 {
@@ -289,6 +304,11 @@ impl Week<'_, ShardStyle, Shard> {
         if choice == 0 || self.ledger.tokens().is_empty() {
             return self.missing_input(number);
         }
+        if (3..6).contains(&choice)
+            && let Some(input) = self.output_to_come()
+        {
+            return input;
+        }
         let tokens = self.ledger.tokens();
         let mut token = tokens[self.rng.below(tokens.len())];
         for _ in 0..4 {
@@ -302,6 +322,22 @@ impl Week<'_, ShardStyle, Shard> {
             _ => Wrong::Nothing,
         };
         self.held(self.here(), token, wrong)
+    }
+
+    /// An output of an undecided transaction, as if it were made here.
+    fn output_to_come(&mut self) -> Option<Input> {
+        let known = self.ledger.known().iter();
+        let undecided: Vec<Transaction> = known
+            .filter(|known| known.outcome() == Outcome::Wait)
+            .map(|known| known.transaction)
+            .collect();
+        if undecided.is_empty() {
+            return None;
+        }
+        let creator = self.rng.pick(&undecided);
+        let mut input = self.output_of(&creator);
+        input.token.shard = self.here();
+        Some(input)
     }
 
     /// A token that may be gone, is still to be made, or never was.

@@ -1,6 +1,6 @@
 //! What the random weeks of a shard and of a cluster have in common.
 
-use reference::{Input, Record, Shard, Token, TokenId, Transaction};
+use reference::{Input, Record, Refusal, SLOTS, Shard, Token, TokenId, Transaction};
 
 use crate::ledger::Playable;
 use crate::rng::Rng;
@@ -30,6 +30,8 @@ pub(crate) struct Week<'a, S, L> {
     pub transactions: Vec<Transaction>,
     /// Inputs that named a token, for tokens that may be gone.
     pub tokens: Vec<Input>,
+    /// Registrations that were held off and have not come again.
+    held_off: Vec<Record>,
     /// The last number given.
     pub last: u32,
     pub records: Vec<Record>,
@@ -54,6 +56,7 @@ impl<'a, S, L: Playable> Week<'a, S, L> {
             shards,
             transactions: Vec::new(),
             tokens: Vec::new(),
+            held_off: Vec::new(),
             last,
             records: Vec::with_capacity(plan.calls),
         }
@@ -74,9 +77,22 @@ impl<'a, S, L: Playable> Week<'a, S, L> {
                 damage(self.rng, &mut record);
             }
         }
-        // Nothing depends on the answer, only on what the ledger keeps.
-        let _ = self.ledger.play(&record);
+        // Nothing else depends on the answer, only on what the ledger keeps.
+        if self.ledger.play(&record) == Err(Refusal::HeldOff) {
+            self.held_off.push(record);
+        }
         self.records.push(record);
+    }
+
+    /// Makes a call again that was held off. Tells whether there was one.
+    pub fn send_again(&mut self) -> bool {
+        if self.held_off.is_empty() {
+            return false;
+        }
+        let place = self.rng.below(self.held_off.len());
+        let record = self.held_off.swap_remove(place);
+        self.send(record);
+        true
     }
 
     /// A mint of any owner and amount.
@@ -127,6 +143,29 @@ impl<'a, S, L: Playable> Week<'a, S, L> {
             Wrong::Nothing => {}
             Wrong::Owner => input.owner = owner(self.rng),
             Wrong::Amount => input.amount = self.amount(),
+        }
+        input
+    }
+
+    /// The input of an output, made or not; now and then with something wrong.
+    pub fn output_of(&mut self, creator: &Transaction) -> Input {
+        let index = self.rng.below(creator.output_count.into());
+        let output = creator.outputs[index];
+        let mut input = Input {
+            token: TokenId {
+                shard: output.shard,
+                creator: creator.number,
+                index: index as u8,
+            },
+            owner: output.owner,
+            amount: output.amount,
+        };
+        match self.rng.below(24) {
+            0 => input.owner = owner(self.rng),
+            1 => input.amount = self.amount(),
+            2 => input.token.index = self.rng.below(SLOTS) as u8,
+            3 => input.token.shard = self.rng.pick(&self.shards),
+            _ => {}
         }
         input
     }

@@ -16,7 +16,9 @@ use weeks::{
 const WEEKS: u64 = 3000;
 
 /// What the clauses have to be tried on.
-const MET: [&str; 8] = [
+const MET: [&str; 10] = [
+    "REFUSED 17",
+    "held off, later committed",
     "HEARD COMMIT",
     "HEARD ABORT",
     "AGAIN COMMIT",
@@ -34,16 +36,17 @@ fn random_weeks_keep_the_clauses() {
         let records = cluster_week(&mut Rng::new(SEED, week));
         let mut cluster = Cluster::new(LIMITS);
         let mut clauses = Clauses::new();
+        let mut events = tally.week();
         let mut commits = 0;
         for (call, record) in (0..).zip(&records) {
             let handed = record;
             let _case = Case { week, call, handed };
             let before = Before::of(cluster.shards(), record);
             let answer = cluster.play(record);
-            tally.call(record, answer, before, cluster.shards());
+            events.call(record, answer, before, cluster.shards());
             clauses.step(record, answer.is_err(), &views(&cluster));
             if call % 16 == 0 || call + 1 == records.len() as u64 {
-                tally.add(if clauses.serial() {
+                events.tally.add(if clauses.serial() {
                     "serial ledger, all decided"
                 } else {
                     "serial ledger, some undecided"
@@ -60,11 +63,11 @@ fn random_weeks_keep_the_clauses() {
 fn every_order_keeps_the_clauses() {
     for scenario in scenarios() {
         let mut tally = Tally::default();
-        let orders = scenario.orders(|order, records| {
+        let orders = scenario.orders(|order, calls, repeats| {
             let mut cluster = Cluster::new(LIMITS);
             let mut clauses = Clauses::new();
             let mut whole = false;
-            for (call, record) in (0..).zip(records) {
+            for (call, record) in (0..).zip(calls.iter().chain(repeats)) {
                 let _case = Case {
                     week: order,
                     call,

@@ -11,7 +11,7 @@ fn numbers() {
         assert_eq!(Refusal::from_number(number), Some(refusal));
     }
     let none = (0..=255).filter(|&number| Refusal::from_number(number).is_none());
-    assert!(none.eq([0].into_iter().chain(17..=255)));
+    assert!(none.eq([0].into_iter().chain(18..=255)));
 }
 
 #[test]

@@ -85,6 +85,27 @@ fn transactions() -> [Transaction; 4] {
     ]
 }
 
+/// Takes the first token that the transaction of that number makes, at this
+/// shard, and makes another there.
+fn successor(number: u32, creator: u32, shard: u8) -> Transaction {
+    let token = TokenId {
+        shard,
+        creator,
+        index: 0,
+    };
+    let input = Input {
+        token,
+        owner: OWNER + 1,
+        amount: AMOUNT,
+    };
+    let output = Output {
+        shard,
+        owner: OWNER,
+        amount: AMOUNT,
+    };
+    Transaction::new(number).input(input).output(output)
+}
+
 /// The record's bytes, whatever its fields hold: the writers refuse what tests
 /// have to try.
 pub fn encode(record: &Record) -> Vec<u8> {
@@ -123,6 +144,8 @@ pub fn encode(record: &Record) -> Vec<u8> {
 /// Every answer that a cluster can give to a call by fields.
 pub fn cluster_story() -> Vec<Told> {
     let [here, late, both, three] = transactions();
+    // What shard 2 is to hold after `both`.
+    let behind = successor(10, 7, 2);
     let mut told = vec![
         (mint(1, 0), 100),
         (mint(1, 1), 100),
@@ -143,7 +166,9 @@ pub fn cluster_story() -> Vec<Told> {
         (yes(1, 2, both), 11),
         (register(2, both), 210),
         (yes(2, 1, both), 301),
+        (register(2, behind), 17),
         (yes(1, 2, both), 301),
+        (register(2, behind), 211),
         (yes(3, 2, both), 6),
         (register(1, three), 200),
         (register(2, three), 210),
@@ -163,6 +188,8 @@ pub fn cluster_story() -> Vec<Told> {
 /// shard 7.
 pub fn shard_stories() -> [(u8, Vec<Told>); 2] {
     let [here, late, both, three] = transactions();
+    // What shard 1 would hold if `three` were committed.
+    let behind = successor(10, 8, 1);
     let mut told = vec![
         (mint(1, 0), 100),
         (mint(1, 1), 100),
@@ -185,7 +212,9 @@ pub fn shard_stories() -> [(u8, Vec<Told>); 2] {
         (register(2, both), 3),
         (register(1, three), 200),
         (yes(2, 1, three), 300),
+        (register(1, behind), 17),
         (yes(3, 1, three), 302),
+        (register(1, behind), 202),
     ];
     told.extend(refused_forms());
     [(1, told), (7, full_shard())]
