@@ -1,4 +1,4 @@
--- Document 01's example, and cases of 'Swaps at the edge' about registrations and votes, played through the model: each a fact by computation.
+-- Document 01's example, cases of 'Swaps at the edge' about registrations and votes, and document 02's, played through the model: facts by computation.
 use Prim.Native.Nat.{ℕ}
 use mathlib.Core.Path.{_≡_, refl}
 use mathlib.Core.Bool.{true, false}

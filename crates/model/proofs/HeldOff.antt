@@ -6,7 +6,7 @@ use mathlib.Core.Logic.{_≢_}
 use mathlib.Core.Bool.{Bool, true, false, cond, not, _&&_}
 use lib.Dec.{eqb}
 use mathlib.Core.Option.{Option, none, some}
-use mathlib.Core.List.{List, [], _∷_, _++_, List·Memᴰ}
+use mathlib.Core.List.{List, _++_, List·Memᴰ}
 use Rattle.transaction.specs.declared.Input.{Input}
 use Rattle.transaction.specs.declared.Transaction.{Transaction}
 use Rattle.transaction.specs.Lists.{any, all, firstOf}
@@ -15,13 +15,29 @@ use Rattle.model.specs.declared.Known.{Known}
 use Rattle.model.specs.declared.Outcome.{Outcome}
 use Rattle.model.specs.declared.Outcome.the-variants.{Wait, Commit, Abort}
 use Rattle.model.specs.declared.Answer.{Answer}
-use Rattle.model.specs.declared.Answer.the-variants.{Refused, Minted, Registered, Heard, Again}
+use Rattle.model.specs.declared.Answer.the-variants.{Refused, Registered}
 use Rattle.model.specs.Steps.{Limits, Ledger, names, inputsHere, available, vote, newlyKnown, outcomeOf, madeHere, afterRegister}
-use Rattle.model.specs.Shard.{Call, register, isUndecided, awaits, heldOff, registerRefusals, unless, shardStep}
+use Rattle.model.specs.Shard.{Call, register, isUndecided, awaits, heldOff, registerRefusals, shardStep}
 use Rattle.model.specs.Cluster.{ledgerAt, atShard, clusterStep}
 use Rattle.model.specs.Model.{Entry, Model, step, play}
 use Rattle.model.specs.Demand.{Value, tokenAt, outcomeAt}
-use Rattle.model.proofs.Basics.{eqb-apart, both, not-yes, clash, any-at, any-no, all-at, some≢none, some-inj, orElse, CaseO, is-none, is-some, caseO, never-answers}
+use Rattle.model.proofs.Basics.{
+  eqb-apart,
+  both,
+  not-yes,
+  clash,
+  any-at,
+  any-no,
+  all-at,
+  some≢none,
+  some-inj,
+  orElse,
+  CaseO,
+  is-none,
+  is-some,
+  caseO,
+  never-answers,
+}
 use Rattle.model.proofs.Lookups.{lookup-none}
 use Rattle.model.proofs.Entries.{look, mem-look}
 use Rattle.model.proofs.Holdings.{available-token, made-number}
