@@ -235,7 +235,7 @@ pub record Examples : Type 0 where
   -- a full shard: 10 and 9 go first
   full-17 : playAnswers small (mint 0 0 10 3 ∷ register 0 both ∷ register 0 (onward 6 5 1 20) ∷ register 0 (pass 0 1) ∷ register 0 (onward 6 5 1 20) ∷ [])
       ≡ Minted ∷ Registered true Wait ∷ Refused 10 ∷ Registered false Wait ∷ Refused 9 ∷ []
-  -- two that each take what the other is to make: known at one shard each, they are held off at the other, and neither can ever be decided
+  -- two that each take what the other is to make: known at one shard each, they are held off at the other, each until the other is decided
   crossed-17 : playAnswers house (
       register 0 (crossed 6 7 1 0)
       ∷ register 1 (crossed 7 6 0 1)

@@ -1,6 +1,7 @@
 -- Laws of 17, a registration held off: it changes nothing; once the first transaction is decided here, its outputs hold nobody off; and a
 -- transaction whose inputs here are all made and free is never held off, and is voted yes.
 use Prim.Native.Nat.{ℕ}
+use native.Mathlib.Omega.{arith}
 use mathlib.Core.Path.{_≡_, refl, ap, sym, _∙_}
 use mathlib.Core.Logic.{_≢_}
 use mathlib.Core.Bool.{Bool, true, false, cond, not, _&&_}
@@ -22,7 +23,6 @@ use Rattle.model.specs.Cluster.{ledgerAt, atShard, clusterStep}
 use Rattle.model.specs.Model.{Entry, Model, step, play}
 use Rattle.model.specs.Demand.{Value, tokenAt, outcomeAt}
 use Rattle.model.proofs.Basics.{
-  eqb-apart,
   both,
   not-yes,
   clash,
@@ -32,15 +32,10 @@ use Rattle.model.proofs.Basics.{
   some≢none,
   some-inj,
   orElse,
-  CaseO,
-  is-none,
-  is-some,
-  caseO,
   never-answers,
 }
-use Rattle.model.proofs.Lookups.{lookup-none}
 use Rattle.model.proofs.Entries.{look, mem-look}
-use Rattle.model.proofs.Holdings.{available-token, made-number}
+use Rattle.model.proofs.Holdings.{available-token, made-named}
 use Rattle.model.proofs.Invariant.{Core, made, gain, byCommit, onCommit, held-made}
 use Rattle.model.proofs.Steps.{play-inv}
 use Rattle.model.proofs.Decisions.{knows, final-at}
@@ -61,14 +56,6 @@ pub record Awaited (me : ℕ) (x : Input) (known : List Known) : Type 0 where
   pub undecided : outcomeOf entry ≡ Wait
   pub numbered : entry .transaction .number ≡ x .token .creator
 
--- an input that names a token which the transaction makes here names it by its number
-made-name : (me : ℕ) (x : Input) (t : Transaction) → any (names x) (madeHere me t) ≡ true → t .number ≡ x .token .creator
-made-name me x t e = go (caseO (tokenAt (madeHere me t) (x .token .creator) (x .token .index)))
-  where
-    go : CaseO (tokenAt (madeHere me t) (x .token .creator) (x .token .index)) → t .number ≡ x .token .creator
-    go (is-none z) = clash e (lookup-none (names x) (madeHere me t) z)
-    go (is-some token z) = sym (made-number me t (x .token .creator) (x .token .index) z)
-
 -- what a test that holds has found
 awaited : (me : ℕ) (x : Input) (known : List Known) → any (awaits me x) known ≡ true → Awaited me x known
 awaited me x known e =
@@ -79,7 +66,7 @@ awaited me x known e =
       entry = k;
       is-known = r .1;
       undecided = is-wait (outcomeOf k) (b .0);
-      numbered = made-name me x (k .transaction) (b .1);
+      numbered = made-named me x (k .transaction) (b .1);
     }
 
 -- ---- 17 no longer fits
@@ -156,12 +143,12 @@ module _ (cause : ℕ) (before after : Ledger) (verdict : Bool) (outcome : Outco
   answered passes = cond passes (after, Registered verdict outcome) (before, Refused cause)
 
   refused-cause : (n : ℕ) (b : Bool) → answered b .1 ≡ Refused n → cause ≡ n
-  refused-cause n true e = let y : _≡_ {A = ℕ} 0 1 = cc in absurd (eqb-apart {m = 0} {n = 1} refl y)
+  refused-cause n true e = let y : _≡_ {A = ℕ} 0 1 = cc in omega arith
   refused-cause n false e = cc
 
   registered-verdict : (v : Bool) (o : Outcome) (b : Bool) → answered b .1 ≡ Registered v o → verdict ≡ v
   registered-verdict v o true e = cc
-  registered-verdict v o false e = let y : _≡_ {A = ℕ} 0 1 = cc in absurd (eqb-apart {m = 0} {n = 1} refl y)
+  registered-verdict v o false e = let y : _≡_ {A = ℕ} 0 1 = cc in absurd (omega arith)
 
 -- a transaction whose inputs here are all made and free when it is sent is not refused with 17, and where it is registered, it is voted yes
 module _ (limits : Limits) (calls : List Call) (p : ℕ) (t : Transaction) (free : Free limits calls p t) where
@@ -177,7 +164,7 @@ module _ (limits : Limits) (calls : List Call) (p : ℕ) (t : Transaction) (free
   pub free-registers : clusterStep limits (play limits calls .shards) (register p t) .1 ≢ Refused 17
   unfolding clusterStep atShard shardStep registerRefusals
   free-registers e =
-      never-answers 17 (λ z. eqb-apart {m = 17} {n = 0} refl z) (registerRefusals limits p ledger p t)
+      never-answers 17 (λ z. omega arith) (registerRefusals limits p ledger p t)
       (ap (λ (b : Bool). not b && true) (free-passes limits calls p t free))
       (refused-cause cause ledger (afterRegister p ledger t) (vote p (ledger .tokens) t) outcome 17 (eqb cause 0) e)
 

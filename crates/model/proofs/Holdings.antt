@@ -37,6 +37,7 @@ use Rattle.model.proofs.Basics.{
   eqb-yes,
   both,
   and-intro,
+  clash,
   orElse,
   some≢none,
   CaseO,
@@ -48,7 +49,18 @@ use Rattle.model.proofs.Basics.{
   keep-in,
   keep-out,
 }
-use Rattle.model.proofs.Lookups.{lookup-passes, lookup-append, lookup-map, lookup-keep, Alone, alone-append, alone-map, alone-keep, alone-lookup}
+use Rattle.model.proofs.Lookups.{
+  lookup-passes,
+  lookup-none,
+  lookup-append,
+  lookup-map,
+  lookup-keep,
+  Alone,
+  alone-append,
+  alone-map,
+  alone-keep,
+  alone-lookup,
+}
 
 -- the id of a token of shard p
 abbrev pub idOf : ℕ → ℕ → ℕ → TokenId
@@ -216,6 +228,14 @@ made-from p n j (o ∷ l) m i {t} e = go (eqb (o .shard) p) refl e (made-from p 
 pub made-number : (p : ℕ) (t : Transaction) (m i : ℕ) {k : Token} → tokenAt (madeHere p t) m i ≡ some k → m ≡ t .number
 unfolding madeHere
 made-number p t m i e = made-from p (t .number) 0 (usedOutputs t) m i e .0
+
+-- an input that names a token which the transaction makes here names it by its number
+pub made-named : (me : ℕ) (x : Input) (t : Transaction) → any (names x) (madeHere me t) ≡ true → t .number ≡ x .token .creator
+made-named me x t e = go (caseO (tokenAt (madeHere me t) (x .token .creator) (x .token .index)))
+  where
+    go : CaseO (tokenAt (madeHere me t) (x .token .creator) (x .token .index)) → t .number ≡ x .token .creator
+    go (is-none z) = clash e (lookup-none (names x) (madeHere me t) z)
+    go (is-some token z) = sym (made-number me t (x .token .creator) (x .token .index) z)
 
 -- tokens are made at shards that take part
 pub made-shard : (p : ℕ) (t : Transaction) (m i : ℕ) {k : Token} → tokenAt (madeHere p t) m i ≡ some k → List·Memᴰ p (shardsOf t)

@@ -67,14 +67,6 @@ reservedBy me k = ifUndecided (outcomeOf k) (length (outputsHere me (k .transact
 unfoldable pub reserved : ℕ → List Known → ℕ
 reserved me known = total (reservedBy me) known
 
--- the input's token, by number and index alone, is an output here of the known transaction, and this is undecided
-abbrev pub awaits : ℕ → Input → Known → Bool
-awaits me x k = isUndecided (outcomeOf k) && any (names x) (madeHere me (k .transaction))
-
--- 17: an input at this shard awaits a known transaction (the swap is close behind another, and is held off)
-unfoldable pub heldOff : ℕ → List Known → Transaction → Bool
-heldOff me known t = any (λ x. any (awaits me x) known) (inputsHere me t)
-
 -- a vote is heard from this sender, and it is the other one
 abbrev pub otherVerdict : ℕ → ℕ → Bool
 otherVerdict heard verdict = not (eqb heard 0) && not (eqb heard (verdict + 1))
@@ -110,6 +102,14 @@ registerForm limits me receiver t =
 abbrev pub tooFull : Limits → ℕ → Ledger → Transaction → Bool
 tooFull limits me ledger t =
     ltb (limits .tokens) (length (ledger .tokens) + reserved me (ledger .known) + length (outputsHere me t))
+
+-- the input's token, by number and index alone, is an output here of the known transaction, and this is undecided
+abbrev pub awaits : ℕ → Input → Known → Bool
+awaits me x k = isUndecided (outcomeOf k) && any (names x) (madeHere me (k .transaction))
+
+-- 17: an input at this shard awaits a known transaction (the swap is close behind another, and is held off)
+unfoldable pub heldOff : ℕ → List Known → Transaction → Bool
+heldOff me known t = any (λ x. any (awaits me x) known) (inputsHere me t)
 
 -- whether a transaction that is not known can be entered now: 9, 10, 17
 abbrev pub entryRefusals : Limits → ℕ → Ledger → Transaction → List (Bool × ℕ)

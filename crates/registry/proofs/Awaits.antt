@@ -2,7 +2,7 @@
 use Prim.Native.Nat.{ℕ, zero, suc, _+_, _≤_, _<_}
 use native.Mathlib.Omega.{arith}
 use mathlib.Core.Path.{_≡_, refl, sym, ap, _∙_}
-use mathlib.Core.Bool.{Bool, true, false, cond, not, _||_, _&&_, and-assoc, and-true, and-false, or-false, false≢true}
+use mathlib.Core.Bool.{Bool, true, false, cond, not, _||_, _&&_, and-assoc, and-true, and-false, or-false}
 use mathlib.Core.List.{List, [], _∷_}
 use borrow.Author.Tests.{eq-eqb, ne-eqb, lt-ltb, le-ltb}
 use lib.Dec.{eqb, ltb, leb·suc-suc}
@@ -13,7 +13,7 @@ use Rattle.transaction.specs.declared.Output.{Output}
 use Rattle.transaction.specs.declared.Transaction.{Transaction}
 use Rattle.transaction.specs.Lists.{any, all}
 use Rattle.transaction.specs.Tokens.{usedInputs, usedOutputs, shardsOf, zeroInput, zeroOutput}
-use Rattle.transaction.proofs.Slots.{and-left, any-by}
+use Rattle.transaction.proofs.Slots.{and-right, any-by}
 use Rattle.model.specs.declared.Token.{Token}
 use Rattle.model.specs.declared.Known.{Known}
 use Rattle.model.specs.declared.Outcome.the-variants.{Wait, Commit, Abort}
@@ -21,6 +21,7 @@ use Rattle.model.specs.Lists.{find}
 use Rattle.model.specs.Steps.{inputHere, inputsHere, names, outputHere, tokenOf, tokensFrom, madeHere, decide, outcomeOf, nothingKnown}
 use Rattle.model.specs.Shard.{isUndecided, awaits, heldOff}
 use Rattle.model.proofs.Basics.{any-keep}
+use Rattle.model.proofs.Holdings.{made-named}
 use Rattle.layout.specs.Layout.{knownSlots, shardOf, ledgerOf, slotKnown}
 use Rattle.layout.proofs.Ledgers.{known-length, known-entry}
 use Rattle.registry.specs.Numbers.{isNumbered, OneEach}
@@ -103,12 +104,8 @@ undecided-is t heard = go (all (voted false heard) (shardsOf t)) (all (voted tru
 -- only a transaction of the number that the input names can pass
 asks-awaits : (me : ℕ) (x : Input) → AsksNumber (x .token .creator) (awaits me x)
 asks-awaits me x k e =
-    and-left (isNumbered (x .token .creator) k) (makesHere me (k .transaction) (x .token .index))
-    (sym (names-made me x (k .transaction)) ∙ right (isUndecided (outcomeOf k)) e)
-  where
-    right : (b : Bool) {c : Bool} → b && c ≡ true → c ≡ true
-    right true h = h
-    right false h = absurd (false≢true h)
+    let made = any (names x) (madeHere me (k .transaction)) in
+    eq-eqb (k .transaction .number) (x .token .creator) (made-named me x (k .transaction) (and-right (isUndecided (outcomeOf k)) made e))
 
 -- does the input await a known transaction
 module _ (ws : List ℕ) (most : shardOf ws .known ≤ knownSlots) (one : OneEach (ledgerOf ws .known)) (me : ℕ) (x : Input)

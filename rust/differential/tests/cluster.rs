@@ -29,6 +29,7 @@ fn random_weeks_of_a_cluster() {
     assert!(calls >= CALLS, "{calls} calls only");
     let title = format!("a cluster, {calls} calls in {WEEKS} weeks");
     tally.report(&title, &given_by(&[Giver::Cluster]), LEAST);
+    // What is held off is sent again and again.
     tally.check(&title, &["REFUSED 17"], 10 * LEAST);
     tally.check(&title, &SHARD_EVENTS, LEAST);
     tally.check(&title, &CLUSTER_EVENTS, LEAST);
