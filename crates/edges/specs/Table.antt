@@ -294,13 +294,13 @@ pub record StarredTable : Type 0 where
       × (balanced (threeAndTwo 4) ≡ false)
       × Gives 5 (register 0 (threeAndTwo 4))
   -- * Two swaps name one held token rightly: the first registered votes yes, the other no.
-  -- In either order: the first one waits, and the token is pledged to it.
+  -- In either order: the first one waits, and the token is pledged to it; the other one's no aborts it (document 02, 5).
   -- And where the first one is decided at once, the token is gone.
   pub two-claims :
-      (answersTo (opened ∷ register 0 (claim 1) ∷ register 0 (claim 2) ∷ []) ≡ Minted ∷ Registered true Wait ∷ Registered false Wait ∷ [])
+      (answersTo (opened ∷ register 0 (claim 1) ∷ register 0 (claim 2) ∷ []) ≡ Minted ∷ Registered true Wait ∷ Registered false Abort ∷ [])
       × (tokensAt 0 (opened ∷ register 0 (claim 1) ∷ register 0 (claim 2) ∷ []) ≡ token 0 0 10 3 1 ∷ [])
       × (answersTo (opened ∷ register 0 (claim 2) ∷ register 0 (claim 1) ∷ [])
-      ≡ Minted ∷ Registered true Wait ∷ Registered false Wait ∷ [])
+      ≡ Minted ∷ Registered true Wait ∷ Registered false Abort ∷ [])
       × (tokensAt 0 (opened ∷ register 0 (claim 2) ∷ register 0 (claim 1) ∷ []) ≡ token 0 0 10 3 2 ∷ [])
       × (answersTo (opened ∷ register 0 (alone 1) ∷ register 0 (alone 2) ∷ [])
       ≡ Minted ∷ Registered true Commit ∷ Registered false Abort ∷ [])
@@ -318,7 +318,7 @@ pub record StarredTable : Type 0 where
       (answersTo (opened ∷ register 0 half ∷ []) ≡ Minted ∷ Registered false Abort ∷ [])
       × (tokensAt 0 (opened ∷ register 0 half ∷ []) ≡ token 0 0 10 3 6 ∷ [])
       × (answersTo (opened ∷ register 0 half ∷ register 0 (claim 1) ∷ [])
-      ≡ Minted ∷ Registered false Abort ∷ Registered false Wait ∷ [])
+      ≡ Minted ∷ Registered false Abort ∷ Registered false Abort ∷ [])
   -- * Swap 5 registered again: 8. Another swap numbered 5: 7.
   -- Both leave all as it was. It is the same once swap 5 is decided.
   pub number-again :

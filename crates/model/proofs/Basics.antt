@@ -218,11 +218,6 @@ pub all-of : {A : Type 0} (f : A → Bool) (l : List A) → ((x : A) → List·M
 all-of f [] h = refl
 all-of f (y ∷ l) h = and-intro (h y (List·Memᴰ·head refl)) (all-of f l (λ x m. h x (List·Memᴰ·tail m)))
 
--- all, by tests that agree on the elements
-pub all-cong : {A : Type 0} (f g : A → Bool) (l : List A) → ((x : A) → List·Memᴰ x l → f x ≡ g x) → all f l ≡ all g l
-all-cong f g [] h = refl
-all-cong f g (x ∷ l) h = λ i. h x (List·Memᴰ·head refl) i && all-cong f g l (λ y m. h y (List·Memᴰ·tail m)) i
-
 -- all of two lists one behind the other
 pub all-append : {A : Type 0} (f : A → Bool) (a b : List A) → all f (a ++ b) ≡ all f a && all f b
 all-append f [] b = refl
@@ -252,6 +247,15 @@ any-of f {l = y ∷ l} (List·Memᴰ·tail m) e = go (f y) (any-of f m e)
     go : (b : Bool) → any f l ≡ true → b || any f l ≡ true
     go true q = refl
     go false q = q
+
+-- some element passes exactly if not all fail
+pub any-not-all : {A : Type 0} (f : A → Bool) (l : List A) → any f l ≡ not (all (λ (x : A). not (f x)) l)
+any-not-all f [] = refl
+any-not-all f (x ∷ l) = go (f x) (any-not-all f l)
+  where
+    go : (b : Bool) → any f l ≡ not (all (λ y. not (f y)) l) → b || any f l ≡ not (not b && all (λ y. not (f y)) l)
+    go true h = refl
+    go false h = h
 
 -- an element of a list that has none such
 pub any-none : {A : Type 0} (f : A → Bool) {l : List A} {x : A} → any f l ≡ false → List·Memᴰ x l → f x ≡ false

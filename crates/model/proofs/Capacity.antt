@@ -53,8 +53,9 @@ use Rattle.model.specs.Shard.{Call, ifUndecided, reservedBy, reserved, s
 use Rattle.model.specs.Fit.{isSet, counted, Fit}
 use Rattle.model.specs.Cluster.{ledgerAt}
 use Rattle.model.specs.Model.{Model, emptyModel, step, after, play}
-use Rattle.model.proofs.Basics.{find-at, set-elim, getD-same}
-use Rattle.model.proofs.Entries.{same-eq, whole-known, outcome-heard}
+use Rattle.model.proofs.Basics.{eqb-apart, find-at, set-elim, getD-same}
+use Rattle.model.proofs.Entries.{same-eq, whole-known}
+use Rattle.model.proofs.Outcomes.{outcome-yes, CaseOutcome, waits, commits, aborts, case-outcome, abort-stays}
 use Rattle.model.proofs.Refusals.{shard-below, part-in, MintPasses, RegisterPasses, DeliverPasses}
 use Rattle.model.proofs.Effects.{
   ShardEffect,
@@ -163,6 +164,26 @@ settle-room Wait me t tokens = omega arith
 settle-room Commit me t tokens = let h = commit-length me t tokens in omega arith
 settle-room Abort me t tokens = omega arith
 
+-- a fresh vote takes no more room than was reserved: the transaction waited, or it was aborted and stays so
+hear-room : (me : ℕ) (k : Known) (q v : ℕ) (tokens : List Token) → List·Memᴰ q (shardsOf (k .transaction)) → heardFrom q k ≡ 0
+    → length (settle (outcomeOf (hearing q v k)) me (k .transaction) tokens) + reservedBy me (hearing q v k) ≤ length tokens + reservedBy me k
+unfolding reservedBy
+hear-room me k q v tokens m fresh = go (case-outcome k)
+  where
+    outputs : ℕ
+    outputs = length (outputsHere me (k .transaction))
+
+    after : Outcome
+    after = outcomeOf (hearing q v k)
+
+    Room : Outcome → Outcome → Type 0
+    Room o o′ = length (settle o′ me (k .transaction) tokens) + ifUndecided o′ outputs ≤ length tokens + ifUndecided o outputs
+
+    go : CaseOutcome k → Room (outcomeOf k) after
+    go (waits e) = subst (λ (o : Outcome). Room o after) (sym e) (settle-room after me (k .transaction) tokens)
+    go (commits e) = absurd (eqb-apart {m = 0} {n = 2} refl (sym fresh ∙ outcome-yes k e q m))
+    go (aborts e) = subst (λ (o : Outcome). Room o after) (sym e) (subst (Room Abort) (sym (abort-stays k q v fresh e)) (omega arith))
+
 -- ---- What holds of a ledger
 
 -- the empty ledger is fit
@@ -246,13 +267,10 @@ module _ (limits : Limits) (sized : limits .genesis ≤ limits .tokens) (me : �
       let at = find-at (isFor t) known nothingKnown there in
       let whole : k .transaction ≡ t = same-eq (k .transaction) t (at .1) in
       let below = find-below (isFor t) known there in
-      let waits : outcomeOf k ≡ Wait =
-      waiting k sender (subst (λ (s : Transaction). List·Memᴰ sender (shardsOf s)) (sym whole) (part-in sender t (h .sender-part))) fresh in
       let sum = total-set (reservedBy me) known (find (isFor t) known) k′ nothingKnown below in
-      let old : reservedBy me k ≡ length (outputsHere me (k .transaction)) =
-      ap (λ (o : Outcome). ifUndecided o (length (outputsHere me (k .transaction)))) waits in
       let room = f .token-room in
-      let after = settle-room (outcomeOf k′) me (k .transaction) (ledger .tokens) in
+      let part = subst (λ (s : Transaction). List·Memᴰ sender (shardsOf s)) (sym whole) (part-in sender t (h .sender-part)) in
+      let after = hear-room me k sender verdict (ledger .tokens) part fresh in
       let count = length-set known (find (isFor t) known) k′ in
       let most = f .known-room in
       record {
@@ -265,15 +283,6 @@ module _ (limits : Limits) (sized : limits .genesis ≤ limits .tokens) (me : �
         eight = λ j m. ⊎-elim (λ e. ap (λ (a : Known). length (a .heard)) e ∙ length-set (k .heard) sender (verdict + 1) ∙ f .eight k (at .0))
             (f .eight j) (mem-set known (find (isFor t) known) k′ m);
       }
-    where
-      -- where a vote is missing, nothing is decided
-      waiting : (k : Known) (q : ℕ) → List·Memᴰ q (shardsOf (k .transaction)) → heardFrom q k ≡ 0 → outcomeOf k ≡ Wait
-      waiting k q m e = go (outcomeOf k) refl
-        where
-          go : (o : Outcome) → outcomeOf k ≡ o → o ≡ Wait
-          go Wait z = refl
-          go Commit z = absurd (outcome-heard k (λ w. let n : _≡_ {A = ℕ} 0 1 = cc in absurd (omega arith)) q m e)
-          go Abort z = absurd (outcome-heard k (λ w. let n : _≡_ {A = ℕ} 0 1 = cc in absurd (omega arith)) q m e)
 
   -- a call at a lone shard keeps it
   pub shard-fit : (call : Call) (r : Ledger × Answer) → ShardEffect limits me ledger call r → Fit limits me (r .0)

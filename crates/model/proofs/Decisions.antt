@@ -21,18 +21,8 @@ use Rattle.model.specs.Cluster.{ledgerAt}
 use Rattle.model.specs.Model.{Entry, Model, play}
 use Rattle.model.specs.Demand.{outcomeIn, heardAllIn, outcomeAt, heardAllAt, isCommit, commits, committed, WasAvailable}
 use Rattle.model.proofs.Basics.{eqb-yes, eqb-apart, both, clash, all-at, all-of, any-at, any-of, place-of, getD-mem}
-use Rattle.model.proofs.Entries.{
-  look,
-  entry-look,
-  look-entry,
-  look-number,
-  outcome-yes,
-  outcome-heard,
-  outcome-cong,
-  outcome-commit,
-  commit≢wait,
-  wait≢commit,
-}
+use Rattle.model.proofs.Entries.{look, entry-look, look-entry, look-number}
+use Rattle.model.proofs.Outcomes.{outcome-yes, outcome-commit, outcome-agree, outcome-stays, commit≢wait, wait≢commit}
 use Rattle.model.proofs.Holdings.{here-shard, in-here}
 use Rattle.model.proofs.Invariant.{Voted, voted-available}
 use Rattle.model.proofs.Steps.{Inv, Grows, play-inv, play-grows}
@@ -111,15 +101,10 @@ module _ (limits : Limits) (model : Model) (w : Inv limits model) where
   agree-at p q t f g =
       let j = knows p t f in
       let k = knows q t g in
-      let hj : (a : ℕ) → List·Memᴰ a (shardsOf (j .entry .transaction)) → heardFrom a (j .entry) ≡ 0 → ⊥ =
-      outcome-heard (j .entry) (λ e. f (j .is-outcome ∙ e)) in
-      let hk : (a : ℕ) → List·Memᴰ a (shardsOf (k .entry .transaction)) → heardFrom a (k .entry) ≡ 0 → ⊥ =
-      outcome-heard (k .entry) (λ e. g (k .is-outcome ∙ e)) in
-      let one : j .entry .transaction ≡ k .entry .transaction = j .whole ∙ sym (k .whole) in
+      let same-vote : (a : ℕ) → (heardFrom a (j .entry) ≡ 0 → ⊥) → (heardFrom a (k .entry) ≡ 0 → ⊥) → heardFrom a (j .entry) ≡ heardFrom a (k .entry) =
+      λ a x y. voted-same a t (heardFrom a (j .entry)) (heardFrom a (k .entry)) (votes-at p t j a x) (votes-at q t k a y) in
       j .is-outcome
-      ∙ outcome-cong (j .entry) (k .entry) one
-      (λ a m. voted-same a t (heardFrom a (j .entry)) (heardFrom a (k .entry)) (votes-at p t j a (hj a m))
-      (votes-at q t k a (hk a (subst (λ (s : Transaction). List·Memᴰ a (shardsOf s)) one m))))
+      ∙ outcome-agree (j .entry) (k .entry) (j .whole ∙ sym (k .whole)) same-vote (λ e. f (j .is-outcome ∙ e)) (λ e. g (k .is-outcome ∙ e))
       ∙ sym (k .is-outcome)
 
   -- ---- The commit rule
@@ -167,7 +152,7 @@ module _ (limits : Limits) (model : Model) (w : Inv limits model) where
           let a : heardAll (entryOf t known .transaction) (entryOf t known .heard) ≡ true =
           subst (λ (s : Transaction). heardAll s (entryOf t known .heard) ≡ true) (sym (r .1)) (y .1) in
           outcome-of p t (entryOf t known) (r .0) (r .1)
-          ∙ outcome-commit (entryOf t known) a (available-yes p t k a f)
+          ∙ outcome-commit (entryOf t known) (available-yes p t k a f)
 
   -- ---- Committed: some shard has decided commit
 
@@ -209,5 +194,5 @@ final-at limits calls more p t f =
     let k = knows limits (play limits calls) w p t f in
     let g = play-grows limits calls more p (t .number) (k .entry) (k .is-known) in
     outcome-of limits (play limits (calls ++ more)) (play-inv limits (calls ++ more)) p t (g .0) (g .1) (g .2 ∙ k .whole)
-    ∙ sym (outcome-cong (k .entry) (g .0) (sym (g .2)) (λ q m. sym (g .3 q (outcome-heard (k .entry) (λ e. f (k .is-outcome ∙ e)) q m))))
+    ∙ outcome-stays (k .entry) (g .0) (sym (g .2)) (g .3) (λ e. f (k .is-outcome ∙ e))
     ∙ sym (k .is-outcome)

@@ -1,4 +1,4 @@
--- The known transactions of a shard: looked up by number, entered, and the outcomes that their votes bring.
+-- The known transactions of a shard: looked up by number, and entered.
 use Prim.Native.Nat.{ℕ, suc}
 use mathlib.Core.Path.{_≡_, refl, ap, sym, _∙_, subst}
 use mathlib.Core.Bool.{Bool, true, false, cond, _||_, not, false≢true, _&&_}
@@ -13,9 +13,8 @@ use Rattle.transaction.specs.Lists.{any, all}
 use Rattle.transaction.specs.Tokens.{usedInputs, usedOutputs, inputShard, outputShard, shardsOf, sameTransaction}
 use Rattle.transaction.proofs.Same.{same-exactly}
 use Rattle.model.specs.declared.Known.{Known}
-use Rattle.model.specs.declared.Outcome.the-variants.{Wait, Commit, Abort}
 use Rattle.model.specs.Lists.{find, lookup}
-use Rattle.model.specs.Steps.{isFor, nothingKnown, placeOf, entryOf, heardFrom, isHeard, isYes, heardAll, allYes, decide, outcomeOf}
+use Rattle.model.specs.Steps.{isFor, nothingKnown, placeOf, entryOf}
 use Rattle.model.specs.Shard.{hasNumber, isOther}
 use Rattle.model.proofs.Basics.{
   eqb-eq,
@@ -29,8 +28,6 @@ use Rattle.model.proofs.Basics.{
   and-intro,
   some≢none,
   some-inj,
-  all-at,
-  all-cong,
   any-at,
   any-of,
   any-none,
@@ -191,55 +188,7 @@ look-entry t l s {k} e w =
     let a : any (isFor t) l ≡ true = any-of (isFor t) (lookup-mem (numbered (t .number)) l e) (same-true w) in
     (a, some-inj (sym (entry-look t l s a .0) ∙ e))
 
--- ---- Outcomes
-
--- the outcomes differ
-pub commit≢wait : Commit ≡ Wait → ⊥
-commit≢wait e = let z : _≡_ {A = ℕ} 0 1 = cc in eqb-apart {m = 0} {n = 1} refl z
-
--- the outcomes differ
-pub abort≢commit : Abort ≡ Commit → ⊥
-abort≢commit e = let z : _≡_ {A = ℕ} 0 1 = cc in eqb-apart {m = 0} {n = 1} refl z
-
--- the outcomes differ
-pub wait≢commit : Wait ≡ Commit → ⊥
-wait≢commit e = commit≢wait (sym e)
-
--- commit: each shard of the transaction said yes
-pub outcome-yes : (k : Known) → outcomeOf k ≡ Commit → (q : ℕ) → List·Memᴰ q (shardsOf (k .transaction)) → heardFrom q k ≡ 2
-unfolding decide
-outcome-yes k e q m = go (heardAll (k .transaction) (k .heard)) (allYes (k .transaction) (k .heard)) refl e
-  where
-    go : (a b : Bool) → allYes (k .transaction) (k .heard) ≡ b → cond a (cond b Commit Abort) Wait ≡ Commit → heardFrom q k ≡ 2
-    go true true p e = eqb-eq (heardFrom q k) 2 (all-at (isYes (k .heard)) (shardsOf (k .transaction)) p q m)
-    go true false p e = absurd (abort≢commit e)
-    go false b p e = absurd (wait≢commit e)
-
--- decided: each shard of the transaction was heard
-pub outcome-heard : (k : Known) → (outcomeOf k ≡ Wait → ⊥) → (q : ℕ) → List·Memᴰ q (shardsOf (k .transaction)) → heardFrom q k ≡ 0 → ⊥
-unfolding decide
-outcome-heard k f q m = go (heardAll (k .transaction) (k .heard)) refl f
-  where
-    go : (a : Bool) → heardAll (k .transaction) (k .heard) ≡ a
-        → (cond a (cond (allYes (k .transaction) (k .heard)) Commit Abort) Wait ≡ Wait → ⊥) → heardFrom q k ≡ 0 → ⊥
-    go true p f e = clash (all-at (isHeard (k .heard)) (shardsOf (k .transaction)) p q m) (ap not (eqb-yes e))
-    go false p f e = f refl
-
--- the outcome depends on what was heard from the transaction's shards only
-pub outcome-cong : (j k : Known) → j .transaction ≡ k .transaction
-    → ((q : ℕ) → List·Memᴰ q (shardsOf (j .transaction)) → heardFrom q j ≡ heardFrom q k) → outcomeOf j ≡ outcomeOf k
-unfolding decide
-outcome-cong j k e h =
-    let move : (f : ℕ → Bool) → all f (shardsOf (j .transaction)) ≡ all f (shardsOf (k .transaction)) = λ f. ap (λ (s : Transaction). all f (shardsOf s)) e in
-    let a : heardAll (j .transaction) (j .heard) ≡ heardAll (k .transaction) (k .heard) =
-    all-cong _ _ _ (λ q m. ap (λ (c : ℕ). not (eqb c 0)) (h q m)) ∙ move _ in
-    let b : allYes (j .transaction) (j .heard) ≡ allYes (k .transaction) (k .heard) = all-cong _ _ _ (λ q m. ap (λ (c : ℕ). eqb c 2) (h q m)) ∙ move _ in
-    λ i. cond (a i) (cond (b i) Commit Abort) Wait
-
--- a transaction whose votes are all heard is committed if all are yes
-pub outcome-commit : (k : Known) → heardAll (k .transaction) (k .heard) ≡ true → allYes (k .transaction) (k .heard) ≡ true → outcomeOf k ≡ Commit
-unfolding decide
-outcome-commit k a b = λ i. cond (a i) (cond (b i) Commit Abort) Wait
+-- ---- The shards of a transaction
 
 -- a test of all shards of a transaction, by its inputs and by its outputs
 pub all-shards : (f : ℕ → Bool) (t : Transaction) → all f (shardsOf t)

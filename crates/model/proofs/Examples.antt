@@ -137,6 +137,18 @@ onward number creator index owner = make number (input 0 creator index owner 2 �
 crossed : ℕ → ℕ → ℕ → ℕ → Transaction
 crossed number other from to = make number (input from other 0 10 3 ∷ []) (output to 10 3 ∷ [])
 
+-- shards 0 and 1 are to swap tokens by way of shard 2
+three : Transaction
+three = make 9 (input 0 0 0 10 3 ∷ input 1 0 0 20 2 ∷ []) (output 2 10 3 ∷ output 0 20 2 ∷ [])
+
+-- it is registered at all three
+known-at-three : List Call
+known-at-three = register 0 three ∷ register 1 three ∷ register 2 three ∷ []
+
+-- shard 1's token is not there, and its no has come to shard 0, where shard 2's vote is still missing
+early : List Call
+early = mint 0 0 10 3 ∷ known-at-three ++ (deliver 0 1 0 three ∷ [])
+
 -- limits of two tokens and two transactions
 small : Limits
 small = record { tokens = 2; transactions = 2; genesis = 2 }
@@ -187,7 +199,7 @@ pub record Examples : Type 0 where
       ≡ Minted ∷ Minted ∷ Registered true Wait ∷ Registered true Wait ∷ Registered true Wait ∷ Registered true Wait ∷ Heard Commit ∷ Heard Commit ∷ []
   -- one no among the votes: abort at both shards, and the pledge stays, so that a later transaction finds nothing
   one-no : playAnswers house (torn-apart ++ (register 0 (alone 1) ∷ [])) ≡ Minted ∷ Registered true Wait
-      ∷ Registered false Wait ∷ Heard Abort ∷ Heard Abort ∷ Registered false Abort ∷ []
+      ∷ Registered false Abort ∷ Heard Abort ∷ Heard Abort ∷ Registered false Abort ∷ []
   one-no-held : tokensAfter torn-apart 0 ≡ token 0 0 10 3 8 ∷ []
   -- a genesis token after a transaction is known: 13; an index given twice: 14
   late-mint : playAnswers house (mint 0 0 10 3 ∷ mint 0 0 10 3 ∷ register 0 both ∷ mint 0 1 10 3 ∷ []) ≡ Minted
@@ -231,10 +243,10 @@ pub record Examples : Type 0 where
       ∷ register 0 (onward 9 8 1 20)
       ∷ []
       )
-      ≡ Minted ∷ Registered true Wait ∷ Registered false Wait ∷ Refused 17 ∷ Heard Abort ∷ Registered false Abort ∷ []
+      ≡ Minted ∷ Registered true Wait ∷ Registered false Abort ∷ Refused 17 ∷ Heard Abort ∷ Registered false Abort ∷ []
   -- a full shard: 10 and 9 go first
   full-17 : playAnswers small (mint 0 0 10 3 ∷ register 0 both ∷ register 0 (onward 6 5 1 20) ∷ register 0 (pass 0 1) ∷ register 0 (onward 6 5 1 20) ∷ [])
-      ≡ Minted ∷ Registered true Wait ∷ Refused 10 ∷ Registered false Wait ∷ Refused 9 ∷ []
+      ≡ Minted ∷ Registered true Wait ∷ Refused 10 ∷ Registered false Abort ∷ Refused 9 ∷ []
   -- two that each take what the other is to make: known at one shard each, they are held off at the other, each until the other is decided
   crossed-17 : playAnswers house (
       register 0 (crossed 6 7 1 0)
@@ -245,11 +257,41 @@ pub record Examples : Type 0 where
       ∷ []
       )
       ≡ Registered true Wait ∷ Registered true Wait ∷ Refused 17 ∷ Refused 17 ∷ Refused 11 ∷ []
+  -- commit needs every yes: two of three shards heard is not enough
+  every-yes : playAnswers house (mint 0 0 10 3 ∷ mint 1 0 20 2 ∷ known-at-three ++ (deliver 0 1 1 three ∷ deliver 0 2 1 three ∷ []))
+      ≡ Minted ∷ Minted ∷ Registered true Wait ∷ Registered true Wait ∷ Registered true Wait ∷ Heard Wait ∷ Heard Commit ∷ []
+  -- one no suffices, the own one and a heard one; later fresh votes are noted and answer abort, yes and no
+  early-no : playAnswers house (early ++ (
+      deliver 0 2 1 three
+      ∷ deliver 0 2 1 three
+      ∷ deliver 1 0 1 three
+      ∷ deliver 2 0 1 three
+      ∷ deliver 2 1 0 three
+      ∷ []
+      ))
+      ≡ Minted ∷ Registered true Wait ∷ Registered false Abort ∷ Registered true Wait ∷ Heard Abort
+      ∷ Heard Abort ∷ Again Abort ∷ Heard Abort ∷ Heard Wait ∷ Heard Abort ∷ []
+  -- the pledge stays, and no later yes takes the place of the no
+  early-held : tokensAfter early 0 ≡ token 0 0 10 3 9 ∷ []
+  early-12 : shardStep house 0 (ledgerAt house (play house early .shards) 0) (deliver 0 1 1 three) .1 ≡ Refused 12
+  -- aborted early, it reserves nothing and holds off nothing
+  early-10 : playAnswers small (mint 0 0 10 3 ∷ register 0 three ∷ register 1 three ∷ register 0 (alone 6) ∷ deliver 0 1 0 three ∷ register 0 (alone 6) ∷ [])
+      ≡ Minted ∷ Registered true Wait ∷ Registered false Abort ∷ Refused 10 ∷ Heard Abort ∷ Registered false Abort ∷ []
+  early-17 : playAnswers house (
+      mint 0 0 10 3
+      ∷ register 0 three
+      ∷ register 1 three
+      ∷ register 0 (onward 10 9 1 20)
+      ∷ deliver 0 1 0 three
+      ∷ register 0 (onward 10 9 1 20)
+      ∷ []
+      )
+      ≡ Minted ∷ Registered true Wait ∷ Registered false Abort ∷ Refused 17 ∷ Heard Abort ∷ Registered false Abort ∷ []
 
 -- each of them by computation
 pub examples : Examples
 unfolding input output make tokensAfter token both known-at-both votes alone wrong half other5 near5 pass torn
-    torn-apart onward crossed small takesPart sameToken sameInput sameOutput sameTransaction indexFits valueFits inputFits outputFits
+    torn-apart onward crossed three known-at-three early small takesPart sameToken sameInput sameOutput sameTransaction indexFits valueFits inputFits outputFits
     countsFit fieldsFit sameName namedTwice balanced mintFits inputsHere available availableHere pledges vote newlyKnown
     decide outputsHere madeHere commit afterMint afterRegister afterVote placeOf entryOf reservedBy reserved heldOff
     mintRefusals registerRefusals deliverForm deliverRefusals hear shardStep gave notGiven atShard clusterStep logAfter
@@ -287,4 +329,10 @@ examples = record {
   aborted-17 = refl;
   full-17 = refl;
   crossed-17 = refl;
+  every-yes = refl;
+  early-no = refl;
+  early-held = refl;
+  early-12 = refl;
+  early-10 = refl;
+  early-17 = refl;
 }

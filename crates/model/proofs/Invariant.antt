@@ -40,7 +40,8 @@ use Rattle.model.proofs.Basics.{
   map-none,
   map-or,
 }
-use Rattle.model.proofs.Entries.{look, OneEach, put, look-put-same, look-put-other, look-put-elim, one-each-put, outcome-yes, abort≢commit, wait≢commit}
+use Rattle.model.proofs.Entries.{look, OneEach, put, look-put-same, look-put-other, look-put-elim, one-each-put}
+use Rattle.model.proofs.Outcomes.{outcome-yes, abort≢commit, wait≢commit}
 use Rattle.model.proofs.Holdings.{NoTwice, taken, taken-by, here-shard, made-number, tok-commit, no-twice-commit}
 
 -- ---- Votes and registrations, as the log has them

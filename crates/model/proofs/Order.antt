@@ -12,7 +12,8 @@ use Rattle.model.specs.Shard.{Call}
 use Rattle.model.specs.Model.{Entry, Model, emptyModel, entryFor, step, after, play}
 use Rattle.model.specs.Demand.{committed, isLast, serialFrom, serialOrder, lastPlace, ByLast, EachOnce}
 use Rattle.model.proofs.Basics.{not-yes, both, and-intro, Case, yes-case, no-case, case}
-use Rattle.model.proofs.Entries.{same-eq, same-true, commit≢wait}
+use Rattle.model.proofs.Entries.{same-eq, same-true}
+use Rattle.model.proofs.Outcomes.{commit≢wait}
 use Rattle.model.proofs.Effects.{Effect, did-refuse, did-mint, did-register, did-hear, did-repeat, effect}
 use Rattle.model.proofs.Steps.{Inv}
 use Rattle.model.proofs.Decisions.{knows, commit-at}

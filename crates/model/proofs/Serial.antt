@@ -59,7 +59,8 @@ use Rattle.model.proofs.Basics.{
   any-at,
   any-of,
 }
-use Rattle.model.proofs.Entries.{same-eq, same-true, look, commit≢wait}
+use Rattle.model.proofs.Entries.{same-eq, same-true, look}
+use Rattle.model.proofs.Outcomes.{commit≢wait}
 use Rattle.model.proofs.Holdings.{idOf, taken, Takes, taken-by, here-shard, in-here, made-number, made-shard}
 use Rattle.model.proofs.Invariant.{
   Voted,

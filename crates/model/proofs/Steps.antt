@@ -91,8 +91,8 @@ use Rattle.model.proofs.Entries.{
   number-unknown,
   whole-known,
   entry-look,
-  outcome-yes,
 }
+use Rattle.model.proofs.Outcomes.{outcome-yes}
 use Rattle.model.proofs.Holdings.{idOf, tok-name, mem-tok, available-token, tok-pledges, value-pledged, pledge-stays, pledge-set, no-twice-pledges}
 use Rattle.model.proofs.Invariant.{
   Voted,

@@ -1,8 +1,9 @@
--- How many votes bring a decision: a transaction of one shard is decided by its registration, one of k shards by exactly k − 1 fresh votes.
-use Prim.Native.Nat.{ℕ, zero, suc, _+_, _<_}
+-- How many votes bring a decision: a transaction of one shard is decided by its registration, one of k shards by at most k − 1 fresh votes; a commit
+-- needs all of them.
+use Prim.Native.Nat.{ℕ, zero, suc, _+_, _<_, _≤_}
 use native.Mathlib.Omega.{arith}
 use mathlib.Core.Path.{_≡_, refl, ap, sym, _∙_, subst}
-use mathlib.Core.Logic.{_↔_, _≢_}
+use mathlib.Core.Logic.{_≢_}
 use mathlib.Core.Bool.{Bool, true, false, cond, _&&_, not}
 use mathlib.Core.List.{List, [], _∷_, List·Memᴰ}
 use lib.Dec.{eqb}
@@ -13,7 +14,7 @@ use Rattle.transaction.specs.Tokens.{shardsOf, takesPart}
 use Rattle.model.specs.declared.Token.{Token}
 use Rattle.model.specs.declared.Known.{Known}
 use Rattle.model.specs.declared.Outcome.the-variants.{Wait, Commit, Abort}
-use Rattle.model.specs.Steps.{vote, noted, unheard, withSaid, newlyKnown, heardFrom, hearing, isHeard, isYes, heardAll, allYes, decide, outcomeOf}
+use Rattle.model.specs.Steps.{vote, noted, knownWith, newlyKnown, heardFrom, hearing, isYes, outcomeOf}
 use Rattle.model.proofs.Basics.{
   eqb-eq,
   eqb-same,
@@ -23,17 +24,16 @@ use Rattle.model.proofs.Basics.{
   not-yes,
   not-is,
   both,
-  clash,
   Case,
   yes-case,
   no-case,
   case,
-  all-at,
   all-of,
   any-of,
+  set-elim,
   getD-same,
 }
-use Rattle.model.proofs.Entries.{commit≢wait, outcome-heard}
+use Rattle.model.proofs.Outcomes.{commit≢wait, abort≢wait, outcome-yes, SaidNo, no-abort, outcome-commit}
 use Rattle.model.proofs.Refusals.{part-in}
 
 -- ---- One shard
@@ -43,27 +43,31 @@ noted-heard : (b : Bool) → not (eqb (noted b) 0) ≡ true
 noted-heard true = refl
 noted-heard false = refl
 
+-- the own vote is heard by the registration
+own-said : (p : ℕ) (verdict : Bool) (t : Transaction) → p < 8 → heardFrom p (knownWith p verdict t) ≡ noted verdict
+own-said p verdict t h = getD-set-same (replicate 8 0) p (noted verdict) 0 h
+
+-- the own no suffices, however many shards there are
+pub own-no : (p : ℕ) (tokens : List Token) (t : Transaction) → p < 8 → List·Memᴰ p (shardsOf t) → vote p tokens t ≡ false
+    → outcomeOf (newlyKnown p tokens t) ≡ Abort
+unfolding newlyKnown
+own-no p tokens t h member refused =
+    let said = own-said p (vote p tokens t) t h ∙ ap noted refused in
+    no-abort (knownWith p (vote p tokens t) t) (record { sender = p; takes-part = member; said = said })
+
 -- a transaction of one shard is decided by its registration: by the own vote
 pub one-shard : (p : ℕ) (tokens : List Token) (t : Transaction) → p < 8 → List·Memᴰ p (shardsOf t) → ((q : ℕ) → List·Memᴰ q (shardsOf t) → q ≡ p)
     → outcomeOf (newlyKnown p tokens t) ≡ cond (vote p tokens t) Commit Abort
-unfolding newlyKnown decide
-one-shard p tokens t h member only = go (vote p tokens t)
+unfolding newlyKnown
+one-shard p tokens t h member only = go (vote p tokens t) refl
   where
-    votes : Bool → List ℕ
-    votes b = set (replicate 8 0) p (noted b)
+    k : Known
+    k = knownWith p (vote p tokens t) t
 
-    own : (b : Bool) (q : ℕ) → q ≡ p → getD (votes b) q 0 ≡ noted b
-    own b q e = ap (λ (i : ℕ). getD (votes b) i 0) e ∙ getD-set-same (replicate 8 0) p (noted b) 0 h
-
-    heard-it : (b : Bool) → heardAll t (votes b) ≡ true
-    heard-it b = all-of (isHeard (votes b)) (shardsOf t) (λ q m. ap (λ (n : ℕ). not (eqb n 0)) (own b q (only q m)) ∙ noted-heard b)
-
-    go : (b : Bool) → cond (heardAll t (votes b)) (cond (allYes t (votes b)) Commit Abort) Wait ≡ cond b Commit Abort
-    go true = λ i. cond (heard-it true i)
-        (cond (all-of (isYes (votes true)) (shardsOf t) (λ q m. ap (λ (n : ℕ). eqb n 2) (own true q (only q m))) i) Commit Abort) Wait
-    go false =
-        λ i. cond (heard-it false i) (cond
-        (not-yes (λ y. clash (all-at (isYes (votes false)) (shardsOf t) y p member) (ap (λ (n : ℕ). eqb n 2) (own false p refl))) i) Commit Abort) Wait
+    go : (b : Bool) → vote p tokens t ≡ b → outcomeOf k ≡ cond b Commit Abort
+    go true e = outcome-commit k (all-of (isYes (k .heard)) (shardsOf t) (λ q m.
+        eqb-yes (ap (λ (a : ℕ). heardFrom a k) (only q m) ∙ own-said p (vote p tokens t) t h ∙ ap noted e)))
+    go false e = own-no p tokens t h member e
 
 -- ---- k shards
 
@@ -116,7 +120,7 @@ missing-registered p tokens t h part = let a = here in let b = count in let c = 
     own = noted (vote p tokens t)
 
     k : Known
-    k = withSaid p own (unheard t)
+    k = knownWith p (vote p tokens t) t
 
     and-yes : (b : Bool) → b && true ≡ b
     and-yes true = refl
@@ -153,22 +157,31 @@ missing-fresh k q v h long part fresh =
     sum-change (missingAt (hearing q v k)) (missingAt k) q 8 h other in
     omega arith
 
--- decided exactly if no vote is missing
-pub decided-exactly : (k : Known) → ((q : ℕ) → List·Memᴰ q (shardsOf (k .transaction)) → q < 8) → (outcomeOf k ≢ Wait) ↔ (missing k ≡ 0)
-unfolding decide takesPart
-decided-exactly k below = (
-  λ h. none-missing 8 (λ q. outcome-heard k h q),
-  λ e. decided
-      (all-of (isHeard (k .heard)) (shardsOf (k .transaction)) (λ q m. heard-at q m (zero-at 8 (missingAt k) q (below q m) e))),
-)
+-- a commit misses no vote
+pub commit-misses : (k : Known) → outcomeOf k ≡ Commit → missing k ≡ 0
+commit-misses k e = below 8
   where
-    none-missing : (n : ℕ) → ((q : ℕ) → List·Memᴰ q (shardsOf (k .transaction)) → heardFrom q k ≡ 0 → ⊥) → sumBelow (missingAt k) n ≡ 0
-    none-missing zero h = refl
-    none-missing (suc n) h =
-        λ i. cond (not-yes (λ e. let r =
-        both (takesPart n (k .transaction)) (eqb (heardFrom n k) 0) e in h n (part-in n (k .transaction) (r .0)) (eqb-eq (heardFrom n k) 0 (r .1))) i)
-        1 0 + none-missing n h i
+    -- a shard that takes part has said yes
+    heard-at : (n : ℕ) → takesPart n (k .transaction) && eqb (heardFrom n k) 0 ≡ true → ⊥
+    heard-at n y =
+        let r = both (takesPart n (k .transaction)) (eqb (heardFrom n k) 0) y in
+        let silent : heardFrom n k ≡ 0 = eqb-eq (heardFrom n k) 0 (r .1) in
+        eqb-apart {m = 0} {n = 2} refl (sym silent ∙ outcome-yes k e n (part-in n (k .transaction) (r .0)))
 
+    below : (n : ℕ) → sumBelow (missingAt k) n ≡ 0
+    below zero = refl
+    below (suc n) = λ i. cond (not-yes (heard-at n) i) 1 0 + below n i
+
+-- verdicts are noted as 1 and 2
+abbrev pub Marks : Known → Type 0
+Marks k = (q : ℕ) → heardFrom q k ≤ 2
+
+-- decided where no vote is missing
+pub none-missing : (k : Known) → ((q : ℕ) → List·Memᴰ q (shardsOf (k .transaction)) → q < 8) → Marks k → missing k ≡ 0 → outcomeOf k ≢ Wait
+unfolding takesPart
+none-missing k below marks e waits =
+    commit≢wait (sym (outcome-commit k (all-of (isYes (k .heard)) (shardsOf (k .transaction)) (λ q m. eqb-yes (yes q m)))) ∙ waits)
+  where
     zero-at : (n : ℕ) (f : ℕ → ℕ) (q : ℕ) → q < n → sumBelow f n ≡ 0 → f q ≡ 0
     zero-at zero f q l e = absurd (omega arith)
     zero-at (suc n) f q l e = go (case (eqb n q)) (zero-at n f q)
@@ -177,48 +190,66 @@ decided-exactly k below = (
         go (yes-case y) ih = let z : f n ≡ f q = ap f (eqb-eq n q y) in omega arith
         go (no-case y) ih = let d : n ≡ q → ⊥ = eqb-apart y in ih (omega arith) (omega arith)
 
-    heard-at : (q : ℕ) → List·Memᴰ q (shardsOf (k .transaction)) → missingAt k q ≡ 0 → isHeard (k .heard) q ≡ true
-    heard-at q m e = ap not (not-yes (λ z.
-        let one : missingAt k q ≡ 1 = λ i. cond (any-of (eqb q) m (eqb-same q) i && z i) 1 0 in
-        eqb-apart {m = 0} {n = 1} refl (sym e ∙ one)))
+    -- heard, and not no
+    yes : (q : ℕ) → List·Memᴰ q (shardsOf (k .transaction)) → heardFrom q k ≡ 2
+    yes q m =
+        let here : missingAt k q ≡ 0 = zero-at 8 (missingAt k) q (below q m) e in
+        let heard : heardFrom q k ≡ 0 → ⊥ =
+        λ z. eqb-apart {m = 0} {n = 1} refl (sym here ∙ (λ i. cond (any-of (eqb q) m (eqb-same q) i && eqb-yes z i) 1 0)) in
+        let no-no : heardFrom q k ≡ 1 → ⊥ =
+        λ n. abort≢wait (sym (no-abort k (record { sender = q; takes-part = m; said = n })) ∙ waits) in
+        let most = marks q in
+        omega arith
 
-    decided : heardAll (k .transaction) (k .heard) ≡ true
-        → cond (heardAll (k .transaction) (k .heard)) (cond (allYes (k .transaction) (k .heard)) Commit Abort) Wait ≡ Wait → ⊥
-    decided a z = go (allYes (k .transaction) (k .heard)) (sym (ap (λ (b : Bool). cond b (cond (allYes (k .transaction) (k .heard)) Commit Abort) Wait) a) ∙ z)
-      where
-        go : (b : Bool) → cond b Commit Abort ≡ Wait → ⊥
-        go true e = commit≢wait e
-        go false e = let z : _≡_ {A = ℕ} 0 1 = cc in eqb-apart {m = 0} {n = 1} refl z
-
--- votes, each a sender and a verdict, heard one after the other, and fresh: each from a shard of the transaction that was not heard before
+-- votes, each a sender and a verdict, heard one after the other
 abbrev pub hearEach : List (ℕ × ℕ) → Known → Known
 hearEach [] k = k
 hearEach (v ∷ votes) k = hearEach votes (hearing (v .0) (v .1) k)
 
--- each from a shard of the transaction that was not heard before
+-- each yes or no, from a shard of the transaction that was not heard before
 abbrev pub Fresh : List (ℕ × ℕ) → Known → Type 0
 Fresh [] k = Unit {0}
-Fresh (v ∷ votes) k = (takesPart (v .0) (k .transaction) ≡ true) × (heardFrom (v .0) k ≡ 0) × Fresh votes (hearing (v .0) (v .1) k)
+Fresh (v ∷ votes) k = (takesPart (v .0) (k .transaction) ≡ true) × (heardFrom (v .0) k ≡ 0) × (v .1 ≤ 1) × Fresh votes (hearing (v .0) (v .1) k)
 
--- each fresh vote leaves one fewer
-missing-each : (votes : List (ℕ × ℕ)) (k : Known) → ((q : ℕ) → List·Memᴰ q (shardsOf (k .transaction)) → q < 8) → length (k .heard) ≡ 8 → Fresh votes k
-    → (missing (hearEach votes k) + length votes ≡ missing k) × (hearEach votes k .transaction ≡ k .transaction)
-missing-each [] k below long f = (omega arith, refl)
-missing-each (v ∷ votes) k below long f =
+-- what fresh votes leave
+record Hears (votes : List (ℕ × ℕ)) (k : Known) : Type 0 where
+  fewer : missing (hearEach votes k) + length votes ≡ missing k
+  whole : hearEach votes k .transaction ≡ k .transaction
+  marks : Marks (hearEach votes k)
+
+-- each of them leaves one vote fewer to hear
+hears-each : (votes : List (ℕ × ℕ)) (k : Known) → ((q : ℕ) → List·Memᴰ q (shardsOf (k .transaction)) → q < 8) → length (k .heard) ≡ 8
+    → Marks k → Fresh votes k → Hears votes k
+hears-each [] k below long marks f = record { fewer = omega arith; whole = refl; marks = marks }
+hears-each (v ∷ votes) k below long marks f =
+    let next : Known = hearing (v .0) (v .1) k in
     let h : v .0 < 8 = below (v .0) (part-in (v .0) (k .transaction) (f .0)) in
-    let r = missing-each votes (hearing (v .0) (v .1) k) below (length-set (k .heard) (v .0) (v .1 + 1) ∙ long) (f .2) in
-    let s : missing (hearEach votes (hearing (v .0) (v .1) k)) + length votes ≡ missing (hearing (v .0) (v .1) k) = r .0 in
-    let o : missing (hearing (v .0) (v .1) k) + 1 ≡ missing k = missing-fresh k (v .0) (v .1) h long (f .0) (f .1) in
-    (omega arith, r .1)
+    let l : v .0 < length (k .heard) = omega arith in
+    let small : v .1 ≤ 1 = f .2 in
+    let marked : Marks next = set-elim (λ q c. c ≤ 2) (k .heard) 0 (v .0) (v .1 + 1) l (omega arith) (λ q n. marks q) in
+    let r = hears-each votes next below (length-set (k .heard) (v .0) (v .1 + 1) ∙ long) marked (f .3) in
+    let s : missing (hearEach votes next) + length votes ≡ missing next = r .fewer in
+    let o : missing next + 1 ≡ missing k = missing-fresh k (v .0) (v .1) h long (f .0) (f .1) in
+    record { fewer = omega arith; whole = r .whole; marks = r .marks }
 
--- with k shards, exactly k − 1 fresh votes after the registration bring the decision
+-- how many fresh votes after the registration bring the decision on a transaction of k shards
+pub record Brings (start : Known) (votes : List (ℕ × ℕ)) (shards : ℕ) : Type 0 where
+  -- there are at most k − 1 of them
+  pub at-most : length votes + 1 ≤ shards
+  -- k − 1 decide, so that a decision comes after at most k − 1
+  pub decides : length votes + 1 ≡ shards → outcomeOf (hearEach votes start) ≢ Wait
+  -- and a commit comes after exactly k − 1
+  pub commits : outcomeOf (hearEach votes start) ≡ Commit → length votes + 1 ≡ shards
+
+-- with k shards a decision comes after at most k − 1 fresh votes, and a commit after exactly k − 1
 pub votes-bring : (p : ℕ) (tokens : List Token) (t : Transaction) → p < 8 → takesPart p t ≡ true → ((q : ℕ) → List·Memᴰ q (shardsOf t) → q < 8)
-    → (votes : List (ℕ × ℕ)) → Fresh votes (newlyKnown p tokens t)
-    → (outcomeOf (hearEach votes (newlyKnown p tokens t)) ≢ Wait) ↔ (length votes + 1 ≡ shardCount t)
-votes-bring p tokens t h part below votes fresh = (
-  λ d. let e : missing after ≡ 0 = exact .0 d in let s = sum in omega arith,
-  λ z. exact .1 (let s = sum in omega arith),
-)
+    → (votes : List (ℕ × ℕ)) → Fresh votes (newlyKnown p tokens t) → Brings (newlyKnown p tokens t) votes (shardCount t)
+votes-bring p tokens t h part below votes fresh = record {
+  at-most = let s = sum in omega arith;
+  decides = λ z. none-missing after (subst (λ (s : Transaction). (q : ℕ) → List·Memᴰ q (shardsOf s) → q < 8) (sym (each .whole ∙ same)) below)
+      (each .marks) (let s = sum in omega arith);
+  commits = λ c. let e : missing after ≡ 0 = commit-misses after c in let s = sum in omega arith;
+}
   where
     start : Known
     start = newlyKnown p tokens t
@@ -232,14 +263,20 @@ votes-bring p tokens t h part below votes fresh = (
     long : length (start .heard) ≡ 8
     long = unfold newlyKnown in length-set (replicate 8 0) p (noted (vote p tokens t))
 
-    each : (missing after + length votes ≡ missing start) × (after .transaction ≡ start .transaction)
-    each = missing-each votes start (unfold newlyKnown in below) long fresh
+    most : (b : Bool) → noted b ≤ 2
+    most true = omega arith
+    most false = omega arith
+
+    marks : Marks start
+    marks =
+        unfold newlyKnown in
+        set-elim (λ q c. c ≤ 2) (replicate 8 0) 0 p (noted (vote p tokens t)) h (most (vote p tokens t)) (λ q n. let z = getD-same {A = ℕ} 8 0 q in omega arith)
+
+    each : Hears votes start
+    each = hears-each votes start (unfold newlyKnown in below) long marks fresh
 
     first : missing start + 1 ≡ shardCount t
     first = missing-registered p tokens t h part
 
     sum : missing after + (length votes + 1) ≡ shardCount t
-    sum = let a = each .0 in let b = first in omega arith
-
-    exact : (outcomeOf after ≢ Wait) ↔ (missing after ≡ 0)
-    exact = decided-exactly after (subst (λ (s : Transaction). (q : ℕ) → List·Memᴰ q (shardsOf s) → q < 8) (sym (each .1 ∙ same)) below)
+    sum = let a = each .fewer in let b = first in omega arith

@@ -140,7 +140,7 @@ heardFrom sender k = getD (k .heard) sender 0
 abbrev pub hearing : ℕ → ℕ → Known → Known
 hearing sender verdict k = withSaid sender (verdict + 1) k
 
--- ---- Decision: when votes of all the transaction's shards are heard, commit if all are yes, else abort
+-- ---- Decision: abort as soon as one no is heard, the shard's own included; commit when votes of all the transaction's shards are heard and all are yes
 
 -- the shard's vote is heard
 abbrev pub isHeard : List ℕ → ℕ → Bool
@@ -150,6 +150,10 @@ isHeard heard shard = not (eqb (getD heard shard 0) 0)
 abbrev pub isYes : List ℕ → ℕ → Bool
 isYes heard shard = eqb (getD heard shard 0) 2
 
+-- it is no
+abbrev pub isNo : List ℕ → ℕ → Bool
+isNo heard shard = eqb (getD heard shard 0) 1
+
 -- votes of all the transaction's shards are heard
 abbrev pub heardAll : Transaction → List ℕ → Bool
 heardAll t heard = all (isHeard heard) (shardsOf t)
@@ -158,9 +162,13 @@ heardAll t heard = all (isHeard heard) (shardsOf t)
 abbrev pub allYes : Transaction → List ℕ → Bool
 allYes t heard = all (isYes heard) (shardsOf t)
 
+-- one is no
+abbrev pub someNo : Transaction → List ℕ → Bool
+someNo t heard = any (isNo heard) (shardsOf t)
+
 -- the decision
 unfoldable pub decide : Transaction → List ℕ → Outcome
-decide t heard = cond (heardAll t heard) (cond (allYes t heard) Commit Abort) Wait
+decide t heard = cond (someNo t heard) Abort (cond (allYes t heard) Commit Wait)
 
 -- the outcome of a known transaction
 abbrev pub outcomeOf : Known → Outcome

@@ -2,7 +2,7 @@
 use Prim.Native.Nat.{ℕ, zero, suc, _+_, _≤_, _<_}
 use native.Mathlib.Omega.{arith}
 use mathlib.Core.Path.{_≡_, refl, sym, ap, _∙_}
-use mathlib.Core.Bool.{Bool, true, false, cond, not, _||_, _&&_, and-assoc, and-true, and-false, or-false}
+use mathlib.Core.Bool.{Bool, true, false, cond, _||_, _&&_, and-assoc, and-true, and-false, or-false}
 use mathlib.Core.List.{List, [], _∷_}
 use borrow.Author.Tests.{eq-eqb, ne-eqb, lt-ltb, le-ltb}
 use lib.Dec.{eqb, ltb, leb·suc-suc}
@@ -11,21 +11,19 @@ use lib.Seq.{getD-take}
 use Rattle.transaction.specs.declared.Input.{Input}
 use Rattle.transaction.specs.declared.Output.{Output}
 use Rattle.transaction.specs.declared.Transaction.{Transaction}
-use Rattle.transaction.specs.Lists.{any, all}
-use Rattle.transaction.specs.Tokens.{usedInputs, usedOutputs, shardsOf, zeroInput, zeroOutput}
+use Rattle.transaction.specs.Lists.{any}
+use Rattle.transaction.specs.Tokens.{usedInputs, usedOutputs, zeroInput, zeroOutput}
 use Rattle.transaction.proofs.Slots.{and-right, any-by}
 use Rattle.model.specs.declared.Token.{Token}
 use Rattle.model.specs.declared.Known.{Known}
-use Rattle.model.specs.declared.Outcome.the-variants.{Wait, Commit, Abort}
 use Rattle.model.specs.Lists.{find}
-use Rattle.model.specs.Steps.{inputHere, inputsHere, names, outputHere, tokenOf, tokensFrom, madeHere, decide, outcomeOf, nothingKnown}
+use Rattle.model.specs.Steps.{inputHere, inputsHere, names, outputHere, tokenOf, tokensFrom, madeHere, outcomeOf, nothingKnown}
 use Rattle.model.specs.Shard.{isUndecided, awaits, heldOff}
 use Rattle.model.proofs.Basics.{any-keep}
 use Rattle.model.proofs.Holdings.{made-named}
 use Rattle.layout.specs.Layout.{knownSlots, shardOf, ledgerOf, slotKnown}
 use Rattle.layout.proofs.Ledgers.{known-length, known-entry}
 use Rattle.registry.specs.Numbers.{isNumbered, OneEach}
-use Rattle.registry.specs.Voted.{voted}
 use Rattle.registry.specs.Made.{makesHere}
 use Rattle.registry.proofs.Finds.{AsksNumber, none-passes, passes-there, is-numbered}
 
@@ -91,16 +89,6 @@ module _ (me : ℕ) (t : Transaction) (long : length (t .outputs) ≡ 4) {index 
 
 -- ---- The test
 
--- nothing is decided exactly while some vote is missing
-undecided-is : (t : Transaction) (heard : List ℕ) → isUndecided (decide t heard) ≡ not (all (voted false heard) (shardsOf t))
-unfolding decide
-undecided-is t heard = go (all (voted false heard) (shardsOf t)) (all (voted true heard) (shardsOf t))
-  where
-    go : (h y : Bool) → isUndecided (cond h (cond y Commit Abort) Wait) ≡ not h
-    go true true = refl
-    go true false = refl
-    go false y = refl
-
 -- only a transaction of the number that the input names can pass
 asks-awaits : (me : ℕ) (x : Input) → AsksNumber (x .token .creator) (awaits me x)
 asks-awaits me x k e =
@@ -135,11 +123,9 @@ module _ (ws : List ℕ) (most : shardOf ws .known ≤ knownSlots) (one : OneEac
     pub awaits-other : makes ≡ false → false ≡ any (awaits me x) (ledgerOf ws .known)
     awaits-other none-made = rw (there-is, named, none-made) (sym (and-false (isUndecided (outcomeOf there))))
 
-    -- else it does while some vote is missing
-    pub awaits-if : makes ≡ true → {heard : Bool} → heard ≡ all (voted false (there .heard)) (shardsOf (there .transaction))
-        → not heard ≡ any (awaits me x) (ledgerOf ws .known)
-    awaits-if is-made {heard} eh =
-        rw (there-is, named, is-made, undecided-is (there .transaction) (there .heard), ← eh) (sym (and-true (not heard)))
+    -- else it does while that one is undecided
+    pub awaits-if : makes ≡ true → {undecided : Bool} → undecided ≡ isUndecided (outcomeOf there) → undecided ≡ any (awaits me x) (ledgerOf ws .known)
+    awaits-if is-made {undecided} eu = rw (there-is, named, is-made, ← eu) (sym (and-true undecided))
 
 -- some used input of four is here and does
 module _ (me : ℕ) (known : List Known) (t : Transaction) (long : length (t .inputs) ≡ 4) where

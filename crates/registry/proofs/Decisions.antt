@@ -5,7 +5,6 @@ use native.Mathlib.Nat.{mul-suc}
 use mathlib.Core.Path.{_≡_, refl, sym, ap, _∙_}
 use mathlib.Core.Bool.{Bool, true, false, cond, not, _&&_}
 use mathlib.Core.List.{List, [], _∷_, _++_, map}
-use borrow.Author.Tests.{not-true, not-false}
 use lib.Dec.{ltb}
 use lib.ListN.{length, getD, take, length-append, length-take}
 use Rattle.transaction.specs.declared.Output.{Output}
@@ -16,50 +15,55 @@ use Rattle.model.specs.declared.Known.{Known}
 use Rattle.model.specs.declared.Outcome.{Outcome}
 use Rattle.model.specs.declared.Outcome.the-variants.{Wait, Commit, Abort}
 use Rattle.model.specs.Lists.{keep}
-use Rattle.model.specs.Steps.{decide, outcomeOf, outputHere, outputsHere}
-use Rattle.model.specs.Shard.{ifUndecided, reservedBy, reserved}
-use Rattle.model.proofs.Basics.{all-append, all-map}
+use Rattle.model.specs.Steps.{isNo, someNo, decide, outcomeOf, outputHere, outputsHere}
+use Rattle.model.specs.Shard.{isUndecided, ifUndecided, reservedBy, reserved}
+use Rattle.model.proofs.Basics.{all-append, all-map, any-not-all}
 use Rattle.model.proofs.Capacity.{keep-length}
 use Rattle.layout.specs.Layout.{knownSlots, shardOf, ledgerOf, noKnown, slotKnown}
 use Rattle.layout.proofs.Slots.{four-outputs}
 use Rattle.layout.proofs.Ledgers.{known-length, known-entry}
 use Rattle.loops.specs.Lists.{oneIf}
 use Rattle.loops.proofs.Fours.{keep-by}
-use Rattle.registry.specs.Voted.{voted, inputVoted, outputVoted}
+use Rattle.registry.specs.Agreement.{agrees, inputAgrees, outputAgrees}
 
--- every shard of the transaction has voted: those of its inputs, and those of its outputs
-pub all-voted : (agreed : Bool) (heard : List ℕ) (t : Transaction) {i o : Bool}
-    → i ≡ all (inputVoted agreed heard) (take (t .«input_count») (t .inputs))
-    → o ≡ all (outputVoted agreed heard) (take (t .«output_count») (t .outputs))
-    → i && o ≡ all (voted agreed heard) (shardsOf t)
-all-voted agreed heard t ei eo =
+-- every shard of the transaction agrees: those of its inputs, and those of its outputs
+pub all-agree : (spoken : Bool) (heard : List ℕ) (t : Transaction) {i o : Bool}
+    → i ≡ all (inputAgrees spoken heard) (take (t .«input_count») (t .inputs))
+    → o ≡ all (outputAgrees spoken heard) (take (t .«output_count») (t .outputs))
+    → i && o ≡ all (agrees spoken heard) (shardsOf t)
+all-agree spoken heard t ei eo =
     rw (ei, eo)
-    (rw (← all-map (voted agreed heard) inputShard (usedInputs t), ← all-map (voted agreed heard) outputShard (usedOutputs t))
-    (sym (all-append (voted agreed heard) (map inputShard (usedInputs t)) (map outputShard (usedOutputs t)))))
+    (rw (← all-map (agrees spoken heard) inputShard (usedInputs t), ← all-map (agrees spoken heard) outputShard (usedOutputs t))
+    (sym (all-append (agrees spoken heard) (map inputShard (usedInputs t)) (map outputShard (usedOutputs t)))))
 
--- the three outcomes
-module _ (t : Transaction) (heard : List ℕ) where
-  pub decide-wait : {h : Bool} → h ≡ all (voted false heard) (shardsOf t) → not h ≡ true → Wait ≡ decide t heard
-  unfolding decide
-  decide-wait {h} e n = rw (sym e ∙ not-true h n) refl
+-- the three outcomes, by whether none has said no and whether all have said yes
+module _ (t : Transaction) (heard : List ℕ) {none-no : Bool} (en : none-no ≡ all (agrees false heard) (shardsOf t)) where
+  -- some shard has said no
+  some-no : someNo t heard ≡ not none-no
+  some-no = any-not-all (isNo heard) (shardsOf t) ∙ ap not (sym en)
 
-  pub decide-commit : {h y : Bool}
-      → h ≡ all (voted false heard) (shardsOf t)
-      → not h ≡ false
-      → y ≡ all (voted true heard) (shardsOf t)
-      → y ≡ true
-      → Commit ≡ decide t heard
+  pub decide-abort : not none-no ≡ true → Abort ≡ decide t heard
   unfolding decide
-  decide-commit {h} e n f w = rw (sym e ∙ not-false h n, sym f ∙ w) refl
+  decide-abort n = rw (some-no, n) refl
 
-  pub decide-abort : {h y : Bool}
-      → h ≡ all (voted false heard) (shardsOf t)
-      → not h ≡ false
-      → y ≡ all (voted true heard) (shardsOf t)
-      → y ≡ false
-      → Abort ≡ decide t heard
-  unfolding decide
-  decide-abort {h} e n f w = rw (sym e ∙ not-false h n, sym f ∙ w) refl
+  module _ {all-yes : Bool} (ey : all-yes ≡ all (agrees true heard) (shardsOf t)) where
+    pub decide-commit : not none-no ≡ false → all-yes ≡ true → Commit ≡ decide t heard
+    unfolding decide
+    decide-commit n y = rw (some-no, n, ← ey, y) refl
+
+    pub decide-wait : not none-no ≡ false → all-yes ≡ false → Wait ≡ decide t heard
+    unfolding decide
+    decide-wait n y = rw (some-no, n, ← ey, y) refl
+
+    -- nothing is decided while neither holds
+    pub undecided-is : none-no && not all-yes ≡ isUndecided (decide t heard)
+    unfolding decide
+    undecided-is = rw (some-no, ← ey) (go none-no all-yes)
+      where
+        go : (n y : Bool) → n && not y ≡ isUndecided (cond (not n) Abort (cond y Commit Wait))
+        go true true = refl
+        go true false = refl
+        go false y = refl
 
 -- how many outputs are here
 one-length : {A : Type 0} (b : Bool) (x : A) → length (oneIf b x) ≡ cond b 1 0
@@ -106,25 +110,19 @@ nothing Wait = refl
 nothing Commit = refl
 nothing Abort = refl
 
-decided : (y : Bool) (m : ℕ) → 0 ≡ ifUndecided (cond y Commit Abort) m
-decided true m = refl
-decided false m = refl
-
 module _ (me : ℕ) (k : Known) {n : ℕ} (en : n ≡ length (outputsHere me (k .transaction))) where
   pub reserves-none : n ≡ 0 → 0 ≡ reservedBy me k
   unfolding reservedBy
-  reserves-none z = rw (sym en ∙ z) (nothing (decide (k .transaction) (k .heard)))
+  reserves-none z = rw (sym en ∙ z) (nothing (outcomeOf k))
 
-  module _ {h : Bool} (eh : h ≡ all (voted false (k .heard)) (shardsOf (k .transaction))) where
-    pub reserves-done : h ≡ true → 0 ≡ reservedBy me k
-    unfolding reservedBy decide
-    reserves-done y =
-        let agreed = all (voted true (k .heard)) (shardsOf (k .transaction)) in
-        rw (sym eh ∙ y) (decided agreed (length (outputsHere me (k .transaction))))
+  module _ {undecided : Bool} (eu : undecided ≡ isUndecided (outcomeOf k)) where
+    pub reserves-open : undecided ≡ true → n ≡ reservedBy me k
+    unfolding reservedBy
+    reserves-open y = rw (sym eu ∙ y) en
 
-    pub reserves-open : h ≡ false → n ≡ reservedBy me k
-    unfolding reservedBy decide
-    reserves-open y = rw (sym eh ∙ y) en
+    pub reserves-done : undecided ≡ false → 0 ≡ reservedBy me k
+    unfolding reservedBy
+    reserves-done y = rw (sym eu ∙ y) refl
 
 -- at most four outputs of each known transaction are here
 total-most : {A : Type 0} (f : A → ℕ) (m : ℕ) (d : A) (l : List A)

@@ -1,3 +1,3 @@
-pub mod Voted
+pub mod Agreement
 pub mod Numbers
 pub mod Made

@@ -8,7 +8,7 @@ ghost use Rattle.model.specs.Shard.{awaits, heldOff};
 ghost use Rattle.layout.specs.Layout.{knownSlots, shardOf, ledgerOf, slotKnown};
 ghost use Rattle.registry.specs.Numbers.{OneEach};
 ghost use Rattle.registry.specs.Made.{makesHere};
-use crate::deciding::all_voted;
+use crate::deciding::is_undecided;
 use crate::finding::place_of_number;
 use layout::Words;
 use layout::counts::known_count;
@@ -40,7 +40,7 @@ fn awaits_any(s: &Words, me: u8, x: Input) -> bool
     let place = place_of_number(s, token.creator);
     if place < known_count(s) {
         if makes_here(s, place, me, token.index) {
-            return !all_voted(s, place, false);
+            return is_undecided(s, place);
         }
     }
     false

@@ -7,7 +7,7 @@ ghost use Rattle.transaction.specs.Tokens.{zeroOutput};
 ghost use Rattle.model.specs.Steps.{outputHere, outputsHere};
 ghost use Rattle.model.specs.Shard.{reservedBy, reserved};
 ghost use Rattle.layout.specs.Layout.{knownSlots, shardOf, ledgerOf, slotKnown};
-use crate::deciding::all_voted;
+use crate::deciding::is_undecided;
 use layout::Words;
 use layout::counts::known_count;
 use layout::entries::output_count_at;
@@ -65,10 +65,7 @@ fn reserved_at(s: &Words, k: usize, me: u8) -> usize
     if n == 0 {
         return 0;
     }
-    if all_voted(s, k, false) {
-        return 0;
-    }
-    n
+    if is_undecided(s, k) { n } else { 0 }
 }
 
 // Of all undecided transactions.

@@ -13,8 +13,8 @@ known-count-requires c κs = search needs
 makes-here-requires : tie.Need-makes-here-requires
 makes-here-requires c κs = search needs
 
-all-voted-requires : tie.Need-all-voted-requires
-all-voted-requires c κs = search needs
+is-undecided-requires : tie.Need-is-undecided-requires
+is-undecided-requires c κs = search needs
 
 returns : tie.Need-returns
 returns c =
@@ -24,7 +24,7 @@ returns c =
     let entry : tie.Start = search in
     let args = entry .args in
     awaits-if (now (args .s)) (entry .pre .0) (entry .pre .1) (args .me) (args .x) (found .place-of-number .ensures .0)
-    (search needs) (made .makes-here .ensures) (makes .if2 .taken) (c .all-voted .ensures)
+    (search needs) (made .makes-here .ensures) (makes .if2 .taken) (c .is-undecided .ensures)
 
 returns-2 : tie.Need-returns-2
 returns-2 c =
@@ -49,7 +49,7 @@ awaits-any-spec =
     place-of-number-requires
     known-count-requires
     makes-here-requires
-    all-voted-requires
+    is-undecided-requires
     returns
     returns-2
     returns-3)

@@ -1,6 +1,6 @@
 use Rattle.model.specs.declared.Known.{Known}
 use Rattle.layout.specs.Layout.{slotKnown}
-use Rattle.registry.proofs.Decisions.{reserves-none, reserves-done, reserves-open}
+use Rattle.registry.proofs.Decisions.{reserves-none, reserves-open, reserves-done}
 use native.Mathlib.Omega.{arith}
 use denote.Ref.{now}
 use borrow.Author.Needs.{needs}
@@ -20,25 +20,25 @@ returns c =
     let entry : tie.Start = search in
     (reserves-none (entry .args .me) (known entry) (counted .count-at .ensures .0) (c .if1 .taken), omega arith)
 
-all-voted-requires : tie.Need-all-voted-requires
-all-voted-requires c κs = search needs
+is-undecided-requires : tie.Need-is-undecided-requires
+is-undecided-requires c κs = search needs
 
 returns-2 : tie.Need-returns-2
 returns-2 c =
-    let voted : tie.After-all-voted = search in
+    let asked : tie.After-is-undecided = search in
     let counted : tie.After-count-at = search in
     let entry : tie.Start = search in
     let count = counted .count-at .ensures in
-    (reserves-done (entry .args .me) (known entry) (count .0) (voted .all-voted .ensures) (c .if2 .taken), omega arith)
+    (reserves-open (entry .args .me) (known entry) (count .0) (asked .is-undecided .ensures) (c .if2 .taken), count .1)
 
 returns-3 : tie.Need-returns-3
 returns-3 c =
-    let voted : tie.After-all-voted = search in
+    let asked : tie.After-is-undecided = search in
     let counted : tie.After-count-at = search in
     let entry : tie.Start = search in
     let count = counted .count-at .ensures in
-    (reserves-open (entry .args .me) (known entry) (count .0) (voted .all-voted .ensures) (c .if2 .left), count .1)
+    (reserves-done (entry .args .me) (known entry) (count .0) (asked .is-undecided .ensures) (c .if2 .left), omega arith)
 
 pub reserved-at-spec : {M : Type 1} → statement M
 reserved-at-spec =
-    tie.close (tie.spec count-at-requires returns all-voted-requires returns-2 returns-3)
+    tie.close (tie.spec count-at-requires returns is-undecided-requires returns-2 returns-3)

@@ -1,7 +1,7 @@
 use mathlib.Core.Path.{refl}
 use borrow.Author.Needs.{needs}
-use Rattle.registry.proofs.deciding.has_voted.Statement.{statement}
-use Rattle.registry.proofs.deciding.has_voted.Tie as tie
+use Rattle.registry.proofs.deciding.shard_agrees.Statement.{statement}
+use Rattle.registry.proofs.deciding.shard_agrees.Tie as tie
 
 heard-at-requires : tie.Need-heard-at-requires
 heard-at-requires c κs = search needs
@@ -16,5 +16,5 @@ returns-2 c =
     let heard : tie.After-heard-at = search in
     rw (c .if1 .left, ← heard .heard-at .ensures) refl
 
-pub has-voted-spec : {M : Type 1} → statement M
-has-voted-spec = tie.close (tie.spec heard-at-requires returns returns-2)
+pub shard-agrees-spec : {M : Type 1} → statement M
+shard-agrees-spec = tie.close (tie.spec heard-at-requires returns returns-2)
