@@ -1,7 +1,9 @@
 -- What is proved of the model. Laws of lists and lookups: Basics, Lookups. Laws of the definitions: Entries (known transactions), Outcomes (decisions),
--- Holdings (tokens), Refusals (what a table that answers 0 says), Effects (what a call can do). The invariant: Invariant (one shard), Steps (every list of calls).
+-- Holdings (tokens), Refusals (what a table that answers 0 says), Effects (what a call can do). The invariant: Invariant (one shard), Steps (every list
+-- of calls).
 -- Demand 3: Decisions, Spending and Serial (the serial ledger), Order, and whole in Theorem; Bridge carries it to code.
--- Further laws: Votes (how many bring a decision), Capacity (the limits), Laws, HeldOff (17), Tables (refusals). Examples plays cases of the papers.
+-- Further laws: Votes (how many bring a decision), OneNo (the abort that one no brings), Capacity (the limits), Laws, HeldOff (17), Tables (refusals).
+-- Examples plays cases of the papers.
 pub mod Basics
 pub mod Lookups
 pub mod Entries
@@ -21,5 +23,6 @@ pub mod Votes
 pub mod Capacity
 pub mod Laws
 pub mod HeldOff
+pub mod OneNo
 pub mod Tables
 pub mod Examples

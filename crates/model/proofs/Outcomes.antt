@@ -1,8 +1,9 @@
 -- The decision (document 01: outcome): what each outcome says of the votes heard, when two decisions agree, and that a decision stands while votes
 -- still come in.
-use Prim.Native.Nat.{ℕ, _+_}
+use Prim.Native.Nat.{ℕ, _+_, _≤_}
+use native.Mathlib.Omega.{arith}
 use mathlib.Core.Path.{_≡_, refl, ap, sym, _∙_, subst}
-use mathlib.Core.Bool.{Bool, true, false, cond}
+use mathlib.Core.Bool.{Bool, true, false, cond, not}
 use mathlib.Core.List.{List, List·Memᴰ}
 use lib.Dec.{eqb}
 use lib.Seq.{getD-set-other}
@@ -11,8 +12,8 @@ use Rattle.transaction.specs.Tokens.{shardsOf}
 use Rattle.model.specs.declared.Known.{Known}
 use Rattle.model.specs.declared.Outcome.{Outcome}
 use Rattle.model.specs.declared.Outcome.the-variants.{Wait, Commit, Abort}
-use Rattle.model.specs.Steps.{heardFrom, hearing, isYes, isNo, allYes, someNo, decide, outcomeOf}
-use Rattle.model.proofs.Basics.{eqb-eq, eqb-yes, eqb-apart, all-at, all-of, any-at, any-of, any-no}
+use Rattle.model.specs.Steps.{heardFrom, hearing, isHeard, isYes, isNo, heardAll, allYes, someNo, decide, outcomeOf}
+use Rattle.model.proofs.Basics.{eqb-eq, eqb-yes, eqb-apart, clash, all-at, all-of, any-at, any-of, any-no}
 
 -- ---- The three outcomes
 
@@ -34,15 +35,13 @@ wait≢commit e = commit≢wait (sym e)
 
 -- ---- What an outcome says of the votes
 
--- commit: each shard of the transaction said yes
-pub outcome-yes : (k : Known) → outcomeOf k ≡ Commit → (q : ℕ) → List·Memᴰ q (shardsOf (k .transaction)) → heardFrom q k ≡ 2
-unfolding decide
-outcome-yes k e q m = go (someNo (k .transaction) (k .heard)) (allYes (k .transaction) (k .heard)) refl e
-  where
-    go : (n y : Bool) → allYes (k .transaction) (k .heard) ≡ y → cond n Abort (cond y Commit Wait) ≡ Commit → heardFrom q k ≡ 2
-    go true y p e = absurd (abort≢commit e)
-    go false true p e = eqb-eq (heardFrom q k) 2 (all-at (isYes (k .heard)) (shardsOf (k .transaction)) p q m)
-    go false false p e = absurd (wait≢commit e)
+-- no is not yes
+one≢two : _≡_ {A = ℕ} 1 2 → ⊥
+one≢two = eqb-apart {m = 1} {n = 2} refl
+
+-- all are yes: each shard of the transaction said yes
+said-yes : (k : Known) → allYes (k .transaction) (k .heard) ≡ true → (q : ℕ) → List·Memᴰ q (shardsOf (k .transaction)) → heardFrom q k ≡ 2
+said-yes k y q m = eqb-eq (heardFrom q k) 2 (all-at (isYes (k .heard)) (shardsOf (k .transaction)) y q m)
 
 -- a shard of the transaction that said no
 pub record SaidNo (k : Known) : Type 0 where
@@ -50,15 +49,29 @@ pub record SaidNo (k : Known) : Type 0 where
   pub takes-part : List·Memᴰ sender (shardsOf (k .transaction))
   pub said : heardFrom sender k ≡ 1
 
--- abort: there is one
+-- one is no: there is such a shard
+said-no : (k : Known) → someNo (k .transaction) (k .heard) ≡ true → SaidNo k
+said-no k n =
+    let r = any-at (isNo (k .heard)) (shardsOf (k .transaction)) n in
+    record { sender = r .0; takes-part = r .1; said = eqb-eq (heardFrom (r .0) k) 1 (r .2) }
+
+-- commit: each shard of the transaction said yes
+pub outcome-yes : (k : Known) → outcomeOf k ≡ Commit → (q : ℕ) → List·Memᴰ q (shardsOf (k .transaction)) → heardFrom q k ≡ 2
+unfolding decide
+outcome-yes k e q m = go (someNo (k .transaction) (k .heard)) (allYes (k .transaction) (k .heard)) refl e
+  where
+    go : (n y : Bool) → allYes (k .transaction) (k .heard) ≡ y → cond n Abort (cond y Commit Wait) ≡ Commit → heardFrom q k ≡ 2
+    go true y p e = absurd (abort≢commit e)
+    go false true p e = said-yes k p q m
+    go false false p e = absurd (wait≢commit e)
+
+-- abort: some shard of the transaction said no
 pub outcome-no : (k : Known) → outcomeOf k ≡ Abort → SaidNo k
 unfolding decide
 outcome-no k e = go (someNo (k .transaction) (k .heard)) (allYes (k .transaction) (k .heard)) refl e
   where
     go : (n y : Bool) → someNo (k .transaction) (k .heard) ≡ n → cond n Abort (cond y Commit Wait) ≡ Abort → SaidNo k
-    go true y p e =
-        let r = any-at (isNo (k .heard)) (shardsOf (k .transaction)) p in
-        record { sender = r .0; takes-part = r .1; said = eqb-eq (heardFrom (r .0) k) 1 (r .2) }
+    go true y p e = said-no k p
     go false true p e = absurd (abort≢commit (sym e))
     go false false p e = absurd (abort≢wait (sym e))
 
@@ -75,9 +88,43 @@ unfolding decide
 outcome-commit k y = λ i. cond (none-no i) Abort (cond (y i) Commit Wait)
   where
     none-no : someNo (k .transaction) (k .heard) ≡ false
-    none-no = any-no (isNo (k .heard)) (shardsOf (k .transaction)) (λ q m n.
-        let two : heardFrom q k ≡ 2 = eqb-eq (heardFrom q k) 2 (all-at (isYes (k .heard)) (shardsOf (k .transaction)) y q m) in
-        eqb-apart {m = 2} {n = 1} refl (sym two ∙ eqb-eq (heardFrom q k) 1 n))
+    none-no = any-no (isNo (k .heard)) (shardsOf (k .transaction)) (λ q m n. one≢two (sym (eqb-eq (heardFrom q k) 1 n) ∙ said-yes k y q m))
+
+-- verdicts are noted as 1 and 2
+abbrev pub Marks : Known → Type 0
+Marks k = (q : ℕ) → heardFrom q k ≤ 2
+
+-- where all votes are in, commit if all are yes, else abort
+pub all-in : (k : Known) → Marks k → heardAll (k .transaction) (k .heard) ≡ true → outcomeOf k ≡ cond (allYes (k .transaction) (k .heard)) Commit Abort
+unfolding decide
+all-in k marks h = go (someNo (k .transaction) (k .heard)) (allYes (k .transaction) (k .heard)) refl refl
+  where
+    shards : List ℕ
+    shards = shardsOf (k .transaction)
+
+    -- heard, and not no
+    yes-at : someNo (k .transaction) (k .heard) ≡ false → (q : ℕ) → List·Memᴰ q shards → isYes (k .heard) q ≡ true
+    yes-at none-no q m =
+        let heard : heardFrom q k ≡ 0 → ⊥ = λ z. clash (all-at (isHeard (k .heard)) shards h q m) (ap not (eqb-yes z)) in
+        let no-no : heardFrom q k ≡ 1 → ⊥ = λ z. clash (any-of (isNo (k .heard)) m (eqb-yes z)) none-no in
+        let most = marks q in
+        let two : heardFrom q k ≡ 2 = omega arith in
+        eqb-yes two
+
+    go : (n y : Bool) → someNo (k .transaction) (k .heard) ≡ n → allYes (k .transaction) (k .heard) ≡ y
+        → cond n Abort (cond y Commit Wait) ≡ cond y Commit Abort
+    go true true p e = let no = said-no k p in absurd (one≢two (sym (no .said) ∙ said-yes k e (no .sender) (no .takes-part)))
+    go true false p e = refl
+    go false true p e = refl
+    go false false p e = clash (all-of (isYes (k .heard)) shards (yes-at p)) e
+
+-- so it is decided then
+pub all-in-decides : (k : Known) → Marks k → heardAll (k .transaction) (k .heard) ≡ true → outcomeOf k ≡ Wait → ⊥
+all-in-decides k marks h waits = go (allYes (k .transaction) (k .heard)) (sym (all-in k marks h) ∙ waits)
+  where
+    go : (b : Bool) → cond b Commit Abort ≡ Wait → ⊥
+    go true = commit≢wait
+    go false = abort≢wait
 
 -- ---- Agreement and finality
 
@@ -114,7 +161,7 @@ outcome-agree j k e h f g = go (case-outcome j) (case-outcome k)
         let no = outcome-no b y in
         let q : ℕ = no .sender in
         let yes : heardFrom q a ≡ 2 = outcome-yes a x q (subst (λ (s : Transaction). List·Memᴰ q (shardsOf s)) (sym e) (no .takes-part)) in
-        eqb-apart {m = 2} {n = 1} refl (sym yes ∙ h q (said-some yes refl) (said-some (no .said) refl) ∙ no .said)
+        one≢two (sym (no .said) ∙ sym (h q (said-some yes refl) (said-some (no .said) refl)) ∙ yes)
 
     go : CaseOutcome j → CaseOutcome k → outcomeOf j ≡ outcomeOf k
     go (waits x) y = absurd (f x)

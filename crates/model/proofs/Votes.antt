@@ -7,14 +7,14 @@ use mathlib.Core.Logic.{_≢_}
 use mathlib.Core.Bool.{Bool, true, false, cond, _&&_, not}
 use mathlib.Core.List.{List, [], _∷_, List·Memᴰ}
 use lib.Dec.{eqb}
-use lib.ListN.{length, getD, set, replicate, length-set}
+use lib.ListN.{length, replicate, length-set}
 use lib.Seq.{getD-set-same, getD-set-other}
 use Rattle.transaction.specs.declared.Transaction.{Transaction}
 use Rattle.transaction.specs.Tokens.{shardsOf, takesPart}
 use Rattle.model.specs.declared.Token.{Token}
 use Rattle.model.specs.declared.Known.{Known}
 use Rattle.model.specs.declared.Outcome.the-variants.{Wait, Commit, Abort}
-use Rattle.model.specs.Steps.{vote, noted, knownWith, newlyKnown, heardFrom, hearing, isYes, outcomeOf}
+use Rattle.model.specs.Steps.{vote, noted, knownWith, newlyKnown, heardFrom, hearing, isHeard, isYes, heardAll, outcomeOf}
 use Rattle.model.proofs.Basics.{
   eqb-eq,
   eqb-same,
@@ -33,7 +33,7 @@ use Rattle.model.proofs.Basics.{
   set-elim,
   getD-same,
 }
-use Rattle.model.proofs.Outcomes.{commit≢wait, abort≢wait, outcome-yes, SaidNo, no-abort, outcome-commit}
+use Rattle.model.proofs.Outcomes.{outcome-yes, no-abort, outcome-commit, Marks, all-in-decides}
 use Rattle.model.proofs.Refusals.{part-in}
 
 -- ---- One shard
@@ -172,15 +172,10 @@ commit-misses k e = below 8
     below zero = refl
     below (suc n) = λ i. cond (not-yes (heard-at n) i) 1 0 + below n i
 
--- verdicts are noted as 1 and 2
-abbrev pub Marks : Known → Type 0
-Marks k = (q : ℕ) → heardFrom q k ≤ 2
-
 -- decided where no vote is missing
 pub none-missing : (k : Known) → ((q : ℕ) → List·Memᴰ q (shardsOf (k .transaction)) → q < 8) → Marks k → missing k ≡ 0 → outcomeOf k ≢ Wait
 unfolding takesPart
-none-missing k below marks e waits =
-    commit≢wait (sym (outcome-commit k (all-of (isYes (k .heard)) (shardsOf (k .transaction)) (λ q m. eqb-yes (yes q m)))) ∙ waits)
+none-missing k below marks e = all-in-decides k marks all-heard
   where
     zero-at : (n : ℕ) (f : ℕ → ℕ) (q : ℕ) → q < n → sumBelow f n ≡ 0 → f q ≡ 0
     zero-at zero f q l e = absurd (omega arith)
@@ -190,16 +185,13 @@ none-missing k below marks e waits =
         go (yes-case y) ih = let z : f n ≡ f q = ap f (eqb-eq n q y) in omega arith
         go (no-case y) ih = let d : n ≡ q → ⊥ = eqb-apart y in ih (omega arith) (omega arith)
 
-    -- heard, and not no
-    yes : (q : ℕ) → List·Memᴰ q (shardsOf (k .transaction)) → heardFrom q k ≡ 2
-    yes q m =
-        let here : missingAt k q ≡ 0 = zero-at 8 (missingAt k) q (below q m) e in
-        let heard : heardFrom q k ≡ 0 → ⊥ =
-        λ z. eqb-apart {m = 0} {n = 1} refl (sym here ∙ (λ i. cond (any-of (eqb q) m (eqb-same q) i && eqb-yes z i) 1 0)) in
-        let no-no : heardFrom q k ≡ 1 → ⊥ =
-        λ n. abort≢wait (sym (no-abort k (record { sender = q; takes-part = m; said = n })) ∙ waits) in
-        let most = marks q in
-        omega arith
+    heard-at : (q : ℕ) → List·Memᴰ q (shardsOf (k .transaction)) → missingAt k q ≡ 0 → isHeard (k .heard) q ≡ true
+    heard-at q m e = ap not (not-yes (λ z.
+        let one : missingAt k q ≡ 1 = λ i. cond (any-of (eqb q) m (eqb-same q) i && z i) 1 0 in
+        eqb-apart {m = 0} {n = 1} refl (sym e ∙ one)))
+
+    all-heard : heardAll (k .transaction) (k .heard) ≡ true
+    all-heard = all-of (isHeard (k .heard)) (shardsOf (k .transaction)) (λ q m. heard-at q m (zero-at 8 (missingAt k) q (below q m) e))
 
 -- votes, each a sender and a verdict, heard one after the other
 abbrev pub hearEach : List (ℕ × ℕ) → Known → Known

@@ -1,0 +1,161 @@
+-- Laws of the abort that one no brings (document 02, 5): what is answered no is answered abort; an aborted transaction reserves nothing and holds
+-- nobody off; later fresh votes are noted, answer abort and change no token; and where all votes are in, the transaction is decided.
+use Prim.Native.Nat.{ℕ, _<_, _≤_}
+use native.Mathlib.Omega.{arith}
+use mathlib.Core.Path.{_≡_, ap, sym, _∙_, subst}
+use mathlib.Core.Logic.{_≢_, _⊎_, inl, inr}
+use mathlib.Core.Bool.{Bool, true, false, cond, _&&_}
+use mathlib.Core.Option.{some}
+use mathlib.Core.List.{List, List·Memᴰ}
+use lib.Dec.{eqb}
+use lib.ListN.{length, set}
+use Rattle.transaction.specs.declared.Input.{Input}
+use Rattle.transaction.specs.declared.Transaction.{Transaction}
+use Rattle.transaction.specs.Lists.{any}
+use Rattle.transaction.specs.Tokens.{shardsOf}
+use Rattle.model.specs.declared.Known.{Known}
+use Rattle.model.specs.declared.Outcome.{Outcome}
+use Rattle.model.specs.declared.Outcome.the-variants.{Wait, Abort}
+use Rattle.model.specs.declared.Answer.{Answer}
+use Rattle.model.specs.declared.Answer.the-variants.{Refused, Registered, Heard, Again}
+use Rattle.model.specs.Steps.{
+  Limits,
+  Ledger,
+  holding,
+  names,
+  vote,
+  newlyKnown,
+  heardFrom,
+  hearing,
+  heardAll,
+  outcomeOf,
+  outputsHere,
+  madeHere,
+  settle,
+  isFor,
+  placeOf,
+  entryOf,
+  afterVote,
+}
+use Rattle.model.specs.Shard.{Call, mint, register, deliver, isUndecided, ifUndecided, reservedBy, awaits, hear, shardStep}
+use Rattle.model.specs.Cluster.{ledgerAt, notGiven, atShard, clusterStep}
+use Rattle.model.specs.Model.{Model, play}
+use Rattle.model.specs.Demand.{heardAllIn, outcomeAt, heardAllAt}
+use Rattle.model.proofs.Basics.{eqb-eq, eqb-yes, eqb-apart, both, Case, yes-case, no-case, case}
+use Rattle.model.proofs.Entries.{look, entry-look}
+use Rattle.model.proofs.Outcomes.{Marks, all-in-decides, abort-stays}
+use Rattle.model.proofs.Refusals.{shard-below, part-in}
+use Rattle.model.proofs.Effects.{ShardEffect, shard-refused, shard-minted, shard-registered, shard-heard, shard-again, shard-effect}
+use Rattle.model.proofs.Steps.{play-inv}
+use Rattle.model.proofs.Decisions.{Knows, outcome-of, votes-at}
+use Rattle.model.proofs.Votes.{own-no}
+
+-- ---- NO ABORT at once
+
+-- by cases on what a call did at a shard
+no-left : (limits : Limits) (me : ℕ) (ledger : Ledger) (call : Call) (r : Ledger × Answer)
+    → ShardEffect limits me ledger call r → (o : Outcome) → r .1 ≡ Registered false o → o ≡ Abort
+no-left limits me ledger call _ (shard-registered {receiver = receiver} {t = t} h) o e =
+    let addressed : receiver ≡ me = h .form .addressed in
+    let here : me < 8 = subst (λ (p : ℕ). p < 8) addressed (shard-below receiver (h .form .receiver-fits)) in
+    let part : List·Memᴰ me (shardsOf t) = subst (λ (p : ℕ). List·Memᴰ p (shardsOf t)) addressed (part-in receiver t (h .form .takes-part)) in
+    let verdict : vote me (ledger .tokens) t ≡ false = cc in
+    let outcome : outcomeOf (newlyKnown me (ledger .tokens) t) ≡ o = cc in
+    sym outcome ∙ own-no me (ledger .tokens) t here part verdict
+no-left limits me ledger call _ (shard-refused h) o e = let z : _≡_ {A = ℕ} 0 1 = cc in absurd (omega arith)
+no-left limits me ledger call _ (shard-minted h) o e = let z : _≡_ {A = ℕ} 0 1 = cc in absurd (omega arith)
+no-left limits me ledger call _ (shard-heard h f z) o e = let y : _≡_ {A = ℕ} 0 1 = cc in absurd (omega arith)
+no-left limits me ledger call _ (shard-again h z) o e = let y : _≡_ {A = ℕ} 0 1 = cc in absurd (omega arith)
+
+-- a registration that is answered no is answered abort, at a lone shard
+pub no-at-once : (limits : Limits) (me : ℕ) (ledger : Ledger) (call : Call) (o : Outcome)
+    → shardStep limits me ledger call .1 ≡ Registered false o → o ≡ Abort
+no-at-once limits me ledger call o e = no-left limits me ledger call (shardStep limits me ledger call) (shard-effect limits me ledger call) o e
+
+-- and in a cluster
+pub no-at-once-in : (limits : Limits) (shards : List Ledger) (call : Call) (o : Outcome)
+    → clusterStep limits shards call .1 ≡ Registered false o → o ≡ Abort
+unfolding clusterStep atShard
+no-at-once-in limits shards (mint p index owner amount) o e = no-at-once limits p (ledgerAt limits shards p) (mint p index owner amount) o e
+no-at-once-in limits shards (register p t) o e = no-at-once limits p (ledgerAt limits shards p) (register p t) o e
+no-at-once-in limits shards (deliver p sender verdict t) o e = go (notGiven limits shards p sender verdict t) e
+  where
+    done : Ledger × Answer
+    done = shardStep limits p (ledgerAt limits shards p) (deliver p sender verdict t)
+
+    go : (b : Bool) → cond {A = List Ledger × Answer} b (shards, Refused 16) (set shards p (done .0), done .1) .1 ≡ Registered false o → o ≡ Abort
+    go true e = let z : _≡_ {A = ℕ} 0 1 = cc in absurd (omega arith)
+    go false e = no-at-once limits p (ledgerAt limits shards p) (deliver p sender verdict t) o e
+
+-- ---- What an aborted transaction still does: nothing
+
+-- it reserves no room (10)
+pub abort-reserves : (me : ℕ) (k : Known) → outcomeOf k ≡ Abort → reservedBy me k ≡ 0
+unfolding reservedBy
+abort-reserves me k e = ap (λ (o : Outcome). ifUndecided o (length (outputsHere me (k .transaction)))) e
+
+-- it holds nobody off (17)
+pub abort-awaited : (me : ℕ) (x : Input) (k : Known) → outcomeOf k ≡ Abort → awaits me x k ≡ false
+abort-awaited me x k e = ap (λ (o : Outcome). isUndecided o && any (names x) (madeHere me (k .transaction))) e
+
+-- a later fresh vote is noted and answers HEARD ABORT, and no token changes
+pub late-vote : (me : ℕ) (ledger : Ledger) (sender verdict : ℕ) (t : Transaction)
+    → heardFrom sender (entryOf t (ledger .known)) ≡ 0 → outcomeOf (entryOf t (ledger .known)) ≡ Abort
+    → hear me ledger sender verdict t
+    ≡ (
+      holding ledger (ledger .tokens) (set (ledger .known) (placeOf t (ledger .known)) (hearing sender verdict (entryOf t (ledger .known)))),
+      Heard Abort,
+    )
+unfolding hear afterVote
+late-vote me ledger sender verdict t fresh e =
+    let k : Known = entryOf t (ledger .known) in
+    let heard : Known = hearing sender verdict k in
+    let known : List Known = set (ledger .known) (placeOf t (ledger .known)) heard in
+    let stays : outcomeOf heard ≡ Abort = abort-stays k sender verdict fresh e in
+    λ i. cond (eqb-yes fresh i) (holding ledger (settle (stays i) me (k .transaction) (ledger .tokens)) known, Heard (stays i)) (ledger, Again (outcomeOf k))
+
+-- ---- With all votes in
+
+-- a shard that has heard all of a transaction's votes has decided it
+pub all-in-decided : (limits : Limits) (calls : List Call) (p : ℕ) (t : Transaction)
+    → heardAllAt limits (play limits calls) p t ≡ true → outcomeAt limits (play limits calls) p t ≢ Wait
+unfolding heardAllIn
+all-in-decided limits calls p t h waits = all-in-decides entry marks all-heard (sym (is-known .is-outcome) ∙ waits)
+  where
+    model : Model
+    model = play limits calls
+
+    known : List Known
+    known = ledgerAt limits (model .shards) p .known
+
+    two : (any (isFor t) known ≡ true) × (heardAll t (entryOf t known .heard) ≡ true)
+    two = both (any (isFor t) known) (heardAll t (entryOf t known .heard)) h
+
+    entry : Known
+    entry = entryOf t known
+
+    found : (look known (t .number) ≡ some entry) × (entry .transaction ≡ t)
+    found = entry-look t known (play-inv limits calls .at p .core .one-each) (two .0)
+
+    is-known : Knows limits model (play-inv limits calls) p t
+    is-known = record {
+      entry = entry;
+      is-known = found .0;
+      whole = found .1;
+      is-outcome = outcome-of limits model (play-inv limits calls) p t entry (found .0) (found .1);
+    }
+
+    all-heard : heardAll (entry .transaction) (entry .heard) ≡ true
+    all-heard = subst (λ (s : Transaction). heardAll s (entry .heard) ≡ true) (sym (found .1)) (two .1)
+
+    most : {c : ℕ} → (c ≡ 1) ⊎ (c ≡ 2) → c ≤ 2
+    most (inl e) = omega arith
+    most (inr e) = omega arith
+
+    -- a vote that was heard was given, yes or no
+    marks : Marks entry
+    marks q = go (case (eqb (heardFrom q entry) 0))
+      where
+        go : Case (eqb (heardFrom q entry) 0) → heardFrom q entry ≤ 2
+        go (yes-case e) = let z : heardFrom q entry ≡ 0 = eqb-eq (heardFrom q entry) 0 e in omega arith
+        go (no-case e) = most (votes-at limits model (play-inv limits calls) p t is-known q (eqb-apart e) .is-vote)
