@@ -55,7 +55,7 @@ use Rattle.model.specs.Cluster.{ledgerAt}
 use Rattle.model.specs.Model.{Model, emptyModel, step, after, play}
 use Rattle.model.proofs.Basics.{eqb-apart, find-at, set-elim, getD-same}
 use Rattle.model.proofs.Entries.{same-eq, whole-known}
-use Rattle.model.proofs.Outcomes.{outcome-yes, CaseOutcome, waits, commits, aborts, case-outcome, abort-stays}
+use Rattle.model.proofs.Outcomes.{outcome-yes, CaseOutcome, case-wait, case-commit, case-abort, case-outcome, abort-stays}
 use Rattle.model.proofs.Refusals.{shard-below, part-in, MintPasses, RegisterPasses, DeliverPasses}
 use Rattle.model.proofs.Effects.{
   ShardEffect,
@@ -180,9 +180,9 @@ hear-room me k q v tokens m fresh = go (case-outcome k)
     Room o o′ = length (settle o′ me (k .transaction) tokens) + ifUndecided o′ outputs ≤ length tokens + ifUndecided o outputs
 
     go : CaseOutcome k → Room (outcomeOf k) after
-    go (waits e) = subst (λ (o : Outcome). Room o after) (sym e) (settle-room after me (k .transaction) tokens)
-    go (commits e) = absurd (eqb-apart {m = 0} {n = 2} refl (sym fresh ∙ outcome-yes k e q m))
-    go (aborts e) = subst (λ (o : Outcome). Room o after) (sym e) (subst (Room Abort) (sym (abort-stays k q v fresh e)) (omega arith))
+    go (case-wait e) = subst (λ (o : Outcome). Room o after) (sym e) (settle-room after me (k .transaction) tokens)
+    go (case-commit e) = absurd (eqb-apart {m = 0} {n = 2} refl (sym fresh ∙ outcome-yes k e q m))
+    go (case-abort e) = subst (λ (o : Outcome). Room o after) (sym e) (subst (Room Abort) (sym (abort-stays k q v fresh e)) (omega arith))
 
 -- ---- What holds of a ledger
 

@@ -1,12 +1,13 @@
 -- Demand 3, the decisions: none differ, none change, and each is the one that the log gives.
-use Prim.Native.Nat.{ℕ}
+use Prim.Native.Nat.{ℕ, _≤_}
+use native.Mathlib.Omega.{arith}
 use mathlib.Core.Path.{_≡_, refl, ap, sym, _∙_, subst}
 use mathlib.Core.Logic.{_↔_, _≢_, _⊎_, inl, inr}
-use mathlib.Core.Bool.{Bool, true, false, cond, not, false≢true}
+use mathlib.Core.Bool.{Bool, true, false, cond, false≢true}
 use mathlib.Core.Option.{some}
 use mathlib.Core.List.{List, _++_, List·Memᴰ}
 use borrow.Author.Tests.{ltb-true, ltb-false}
-use lib.Dec.{ltb}
+use lib.Dec.{eqb, ltb}
 use lib.ListN.{length, List·getD-eq-default}
 use Rattle.transaction.specs.declared.Input.{Input}
 use Rattle.transaction.specs.declared.Transaction.{Transaction}
@@ -15,14 +16,29 @@ use Rattle.transaction.specs.Tokens.{usedInputs, shardsOf}
 use Rattle.model.specs.declared.Known.{Known}
 use Rattle.model.specs.declared.Outcome.{Outcome}
 use Rattle.model.specs.declared.Outcome.the-variants.{Wait, Commit, Abort}
-use Rattle.model.specs.Steps.{Limits, Ledger, emptyLedger, heardFrom, isHeard, isYes, heardAll, allYes, outcomeOf, isFor, entryOf}
+use Rattle.model.specs.Steps.{Limits, Ledger, emptyLedger, heardFrom, heardAll, outcomeOf, isFor, entryOf}
 use Rattle.model.specs.Shard.{Call}
 use Rattle.model.specs.Cluster.{ledgerAt}
 use Rattle.model.specs.Model.{Entry, Model, play}
 use Rattle.model.specs.Demand.{outcomeIn, heardAllIn, outcomeAt, heardAllAt, isCommit, commits, committed, WasAvailable}
-use Rattle.model.proofs.Basics.{eqb-yes, eqb-apart, both, clash, all-at, all-of, any-at, any-of, place-of, getD-mem}
+use Rattle.model.proofs.Basics.{eqb-eq, eqb-apart, both, Case, yes-case, no-case, case, any-at, any-of, place-of, getD-mem}
 use Rattle.model.proofs.Entries.{look, entry-look, look-entry, look-number}
-use Rattle.model.proofs.Outcomes.{outcome-yes, outcome-commit, outcome-agree, outcome-stays, commit≢wait, wait≢commit}
+use Rattle.model.proofs.Outcomes.{
+  commit≢wait,
+  wait≢commit,
+  one≢two,
+  outcome-yes,
+  outcome-no,
+  Marks,
+  all-in-decides,
+  CaseOutcome,
+  case-wait,
+  case-commit,
+  case-abort,
+  case-outcome,
+  outcome-agree,
+  outcome-stays,
+}
 use Rattle.model.proofs.Holdings.{here-shard, in-here}
 use Rattle.model.proofs.Invariant.{Voted, voted-available}
 use Rattle.model.proofs.Steps.{Inv, Grows, play-inv, play-grows}
@@ -123,36 +139,67 @@ module _ (limits : Limits) (model : Model) (w : Inv limits model) where
       let v = commit-votes p t e (x .token .shard) (here-shard (x .token .shard) t x (in-here t x m) .2) in
       record { entry = v .entry; logged = v .logged; at = v .at; of = v .of; found = voted-available v x (in-here t x m) }
 
-  -- where each input was available and all votes are heard, all are yes
-  available-yes : (p : ℕ) (t : Transaction) (k : Knows p t) → heardAll (k .entry .transaction) (k .entry .heard) ≡ true
-      → ((x : Input) → List·Memᴰ x (usedInputs t) → WasAvailable (model .log) t x) → allYes (k .entry .transaction) (k .entry .heard) ≡ true
-  available-yes p t k all-heard f = all-of (isYes (k .entry .heard)) (shardsOf (k .entry .transaction)) yes-at
+  -- where each input was available, every vote is yes
+  available-vote : (q : ℕ) (t : Transaction) (c : ℕ) → Voted (model .log) q t c
+      → ((x : Input) → List·Memᴰ x (usedInputs t) → WasAvailable (model .log) t x) → c ≡ 2
+  available-vote q t c v f = v .says .1 (λ x m.
+      let h = here-shard q t x m in
+      let a = f x (h .0) in
+      let e : a .entry ≡ v .entry = w .logged .unique (a .entry) (v .entry) (a .logged) (v .logged) (a .at ∙ h .1 ∙ sym (v .at)) (a .of ∙ sym (v .of)) in
+      subst (λ (r : Entry). List·Memᴰ x (r .available)) e (a .found))
+
+  -- a decided transaction is committed exactly if each input was available: what is aborted early could not have been committed
+  pub decided-exact : (p : ℕ) (t : Transaction) → outcomeAt limits model p t ≢ Wait
+      → (outcomeAt limits model p t ≡ Commit) ↔ ((x : Input) → List·Memᴰ x (usedInputs t) → WasAvailable (model .log) t x)
+  decided-exact p t decided = (commit-available p t, λ f. go f (case-outcome (k .entry)))
     where
-      yes-at : (q : ℕ) → List·Memᴰ q (shardsOf (k .entry .transaction)) → isYes (k .entry .heard) q ≡ true
-      yes-at q m =
-          let v = votes-at p t k q (λ z. clash (all-at (isHeard (k .entry .heard)) (shardsOf (k .entry .transaction)) all-heard q m) (ap not (eqb-yes z))) in
-          eqb-yes (v .says .1 (λ x d.
-          let h = here-shard q t x d in
-          let a = f x (h .0) in
-          let e : a .entry ≡ v .entry = w .logged .unique (a .entry) (v .entry) (a .logged) (v .logged) (a .at ∙ h .1 ∙ sym (v .at)) (a .of ∙ sym (v .of)) in
-          subst (λ (r : Entry). List·Memᴰ x (r .available)) e (a .found)))
+      k : Knows p t
+      k = knows p t decided
+
+      go : ((x : Input) → List·Memᴰ x (usedInputs t) → WasAvailable (model .log) t x) → CaseOutcome (k .entry) → outcomeAt limits model p t ≡ Commit
+      go f (case-wait e) = absurd (decided (k .is-outcome ∙ e))
+      go f (case-commit e) = k .is-outcome ∙ e
+      go f (case-abort e) =
+          let no = outcome-no (k .entry) e in
+          let v = votes-at p t k (no .sender) (λ z. eqb-apart {m = 0} {n = 1} refl (sym z ∙ no .said)) in
+          absurd (one≢two (sym (no .said) ∙ available-vote (no .sender) t (heardFrom (no .sender) (k .entry)) v f))
+
+  -- where all votes are in, the transaction is decided
+  pub all-in-at : (p : ℕ) (t : Transaction) → heardAllAt limits model p t ≡ true → outcomeAt limits model p t ≢ Wait
+  unfolding heardAllIn knows-of knows-for
+  all-in-at p t h none-yet = all-in-decides entry marks all-heard (sym (k .is-outcome) ∙ none-yet)
+    where
+      known : List Known
+      known = ledgerAt limits (model .shards) p .known
+
+      entry : Known
+      entry = entryOf t known
+
+      asked : (any (isFor t) known ≡ true) × (heardAll t (entry .heard) ≡ true)
+      asked = both (any (isFor t) known) (heardAll t (entry .heard)) h
+
+      k : Knows p t
+      k = knows-for p t (asked .0)
+
+      all-heard : heardAll (entry .transaction) (entry .heard) ≡ true
+      all-heard = subst (λ (s : Transaction). heardAll s (entry .heard) ≡ true) (sym (k .whole)) (asked .1)
+
+      most : {c : ℕ} → (c ≡ 1) ⊎ (c ≡ 2) → c ≤ 2
+      most (inl e) = omega arith
+      most (inr e) = omega arith
+
+      -- a vote that was heard was given, yes or no
+      marks : Marks entry
+      marks q = go (case (eqb (heardFrom q entry) 0))
+        where
+          go : Case (eqb (heardFrom q entry) 0) → heardFrom q entry ≤ 2
+          go (yes-case e) = let z : heardFrom q entry ≡ 0 = eqb-eq (heardFrom q entry) 0 e in omega arith
+          go (no-case e) = most (votes-at p t k q (eqb-apart e) .is-vote)
 
   -- commit exactly if each input was available
   pub exact-at : (p : ℕ) (t : Transaction) → heardAllAt limits model p t ≡ true
       → (outcomeAt limits model p t ≡ Commit) ↔ ((x : Input) → List·Memᴰ x (usedInputs t) → WasAvailable (model .log) t x)
-  unfolding heardAllIn knows-of
-  exact-at p t h = (commit-available p t, go)
-    where
-      go : ((x : Input) → List·Memᴰ x (usedInputs t) → WasAvailable (model .log) t x) → outcomeAt limits model p t ≡ Commit
-      go f =
-          let known : List Known = ledgerAt limits (model .shards) p .known in
-          let y = both (any (isFor t) known) (heardAll t (entryOf t known .heard)) h in
-          let r = entry-look t known (w .at p .core .one-each) (y .0) in
-          let k = knows-of p t (entryOf t known) (r .0) (r .1) in
-          let a : heardAll (entryOf t known .transaction) (entryOf t known .heard) ≡ true =
-          subst (λ (s : Transaction). heardAll s (entryOf t known .heard) ≡ true) (sym (r .1)) (y .1) in
-          outcome-of p t (entryOf t known) (r .0) (r .1)
-          ∙ outcome-commit (entryOf t known) (available-yes p t k a f)
+  exact-at p t h = decided-exact p t (all-in-at p t h)
 
   -- ---- Committed: some shard has decided commit
 

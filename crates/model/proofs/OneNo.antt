@@ -1,21 +1,20 @@
 -- Laws of the abort that one no brings (document 02, 5): what is answered no is answered abort; an aborted transaction reserves nothing and holds
--- nobody off; later fresh votes are noted, answer abort and change no token; and where all votes are in, the transaction is decided.
-use Prim.Native.Nat.{ℕ, _<_, _≤_}
+-- nobody off; later fresh votes are noted, answer abort and change no token; where all votes are in, the transaction is decided; and the commit rule
+-- holds of every decision.
+use Prim.Native.Nat.{ℕ, _<_}
 use native.Mathlib.Omega.{arith}
 use mathlib.Core.Path.{_≡_, ap, sym, _∙_, subst}
-use mathlib.Core.Logic.{_≢_, _⊎_, inl, inr}
+use mathlib.Core.Logic.{_↔_, _≢_}
 use mathlib.Core.Bool.{Bool, true, false, cond, _&&_}
-use mathlib.Core.Option.{some}
 use mathlib.Core.List.{List, List·Memᴰ}
-use lib.Dec.{eqb}
 use lib.ListN.{length, set}
 use Rattle.transaction.specs.declared.Input.{Input}
 use Rattle.transaction.specs.declared.Transaction.{Transaction}
 use Rattle.transaction.specs.Lists.{any}
-use Rattle.transaction.specs.Tokens.{shardsOf}
+use Rattle.transaction.specs.Tokens.{usedInputs, shardsOf}
 use Rattle.model.specs.declared.Known.{Known}
 use Rattle.model.specs.declared.Outcome.{Outcome}
-use Rattle.model.specs.declared.Outcome.the-variants.{Wait, Abort}
+use Rattle.model.specs.declared.Outcome.the-variants.{Wait, Commit, Abort}
 use Rattle.model.specs.declared.Answer.{Answer}
 use Rattle.model.specs.declared.Answer.the-variants.{Refused, Registered, Heard, Again}
 use Rattle.model.specs.Steps.{
@@ -27,27 +26,24 @@ use Rattle.model.specs.Steps.{
   newlyKnown,
   heardFrom,
   hearing,
-  heardAll,
   outcomeOf,
   outputsHere,
   madeHere,
   settle,
-  isFor,
   placeOf,
   entryOf,
   afterVote,
 }
 use Rattle.model.specs.Shard.{Call, mint, register, deliver, isUndecided, ifUndecided, reservedBy, awaits, hear, shardStep}
 use Rattle.model.specs.Cluster.{ledgerAt, notGiven, atShard, clusterStep}
-use Rattle.model.specs.Model.{Model, play}
-use Rattle.model.specs.Demand.{heardAllIn, outcomeAt, heardAllAt}
-use Rattle.model.proofs.Basics.{eqb-eq, eqb-yes, eqb-apart, both, Case, yes-case, no-case, case}
-use Rattle.model.proofs.Entries.{look, entry-look}
-use Rattle.model.proofs.Outcomes.{Marks, all-in-decides, abort-stays}
+use Rattle.model.specs.Model.{play}
+use Rattle.model.specs.Demand.{outcomeAt, heardAllAt, WasAvailable}
+use Rattle.model.proofs.Basics.{eqb-yes}
+use Rattle.model.proofs.Outcomes.{abort-stays}
 use Rattle.model.proofs.Refusals.{shard-below, part-in}
 use Rattle.model.proofs.Effects.{ShardEffect, shard-refused, shard-minted, shard-registered, shard-heard, shard-again, shard-effect}
 use Rattle.model.proofs.Steps.{play-inv}
-use Rattle.model.proofs.Decisions.{Knows, outcome-of, votes-at}
+use Rattle.model.proofs.Decisions.{decided-exact, all-in-at}
 use Rattle.model.proofs.Votes.{own-no}
 
 -- ---- NO ABORT at once
@@ -114,48 +110,14 @@ late-vote me ledger sender verdict t fresh e =
     let stays : outcomeOf heard ≡ Abort = abort-stays k sender verdict fresh e in
     λ i. cond (eqb-yes fresh i) (holding ledger (settle (stays i) me (k .transaction) (ledger .tokens)) known, Heard (stays i)) (ledger, Again (outcomeOf k))
 
--- ---- With all votes in
+-- ---- The commit rule, sooner
 
 -- a shard that has heard all of a transaction's votes has decided it
 pub all-in-decided : (limits : Limits) (calls : List Call) (p : ℕ) (t : Transaction)
     → heardAllAt limits (play limits calls) p t ≡ true → outcomeAt limits (play limits calls) p t ≢ Wait
-unfolding heardAllIn
-all-in-decided limits calls p t h waits = all-in-decides entry marks all-heard (sym (is-known .is-outcome) ∙ waits)
-  where
-    model : Model
-    model = play limits calls
+all-in-decided limits calls = all-in-at limits (play limits calls) (play-inv limits calls)
 
-    known : List Known
-    known = ledgerAt limits (model .shards) p .known
-
-    two : (any (isFor t) known ≡ true) × (heardAll t (entryOf t known .heard) ≡ true)
-    two = both (any (isFor t) known) (heardAll t (entryOf t known .heard)) h
-
-    entry : Known
-    entry = entryOf t known
-
-    found : (look known (t .number) ≡ some entry) × (entry .transaction ≡ t)
-    found = entry-look t known (play-inv limits calls .at p .core .one-each) (two .0)
-
-    is-known : Knows limits model (play-inv limits calls) p t
-    is-known = record {
-      entry = entry;
-      is-known = found .0;
-      whole = found .1;
-      is-outcome = outcome-of limits model (play-inv limits calls) p t entry (found .0) (found .1);
-    }
-
-    all-heard : heardAll (entry .transaction) (entry .heard) ≡ true
-    all-heard = subst (λ (s : Transaction). heardAll s (entry .heard) ≡ true) (sym (found .1)) (two .1)
-
-    most : {c : ℕ} → (c ≡ 1) ⊎ (c ≡ 2) → c ≤ 2
-    most (inl e) = omega arith
-    most (inr e) = omega arith
-
-    -- a vote that was heard was given, yes or no
-    marks : Marks entry
-    marks q = go (case (eqb (heardFrom q entry) 0))
-      where
-        go : Case (eqb (heardFrom q entry) 0) → heardFrom q entry ≤ 2
-        go (yes-case e) = let z : heardFrom q entry ≡ 0 = eqb-eq (heardFrom q entry) 0 e in omega arith
-        go (no-case e) = most (votes-at limits model (play-inv limits calls) p t is-known q (eqb-apart e) .is-vote)
+-- the commit rule holds as soon as a shard has decided: a transaction is aborted only where some input was not available
+pub decided-rule : (limits : Limits) (calls : List Call) (p : ℕ) (t : Transaction) → outcomeAt limits (play limits calls) p t ≢ Wait
+    → (outcomeAt limits (play limits calls) p t ≡ Commit) ↔ ((x : Input) → List·Memᴰ x (usedInputs t) → WasAvailable (play limits calls .log) t x)
+decided-rule limits calls = decided-exact limits (play limits calls) (play-inv limits calls)

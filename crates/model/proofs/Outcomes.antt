@@ -36,7 +36,7 @@ wait≢commit e = commit≢wait (sym e)
 -- ---- What an outcome says of the votes
 
 -- no is not yes
-one≢two : _≡_ {A = ℕ} 1 2 → ⊥
+pub one≢two : _≡_ {A = ℕ} 1 2 → ⊥
 one≢two = eqb-apart {m = 1} {n = 2} refl
 
 -- all are yes: each shard of the transaction said yes
@@ -130,18 +130,18 @@ all-in-decides k marks h waits = go (allYes (k .transaction) (k .heard)) (sym (a
 
 -- an outcome's three cases
 pub data CaseOutcome (k : Known) : Type 0 where
-  waits : outcomeOf k ≡ Wait → CaseOutcome k
-  commits : outcomeOf k ≡ Commit → CaseOutcome k
-  aborts : outcomeOf k ≡ Abort → CaseOutcome k
+  case-wait : outcomeOf k ≡ Wait → CaseOutcome k
+  case-commit : outcomeOf k ≡ Commit → CaseOutcome k
+  case-abort : outcomeOf k ≡ Abort → CaseOutcome k
 
 -- every outcome is one of them
 pub case-outcome : (k : Known) → CaseOutcome k
 case-outcome k = go (outcomeOf k) refl
   where
     go : (o : Outcome) → outcomeOf k ≡ o → CaseOutcome k
-    go Wait e = waits e
-    go Commit e = commits e
-    go Abort e = aborts e
+    go Wait e = case-wait e
+    go Commit e = case-commit e
+    go Abort e = case-abort e
 
 -- what was said is no silence
 said-some : {c d : ℕ} → c ≡ d → eqb d 0 ≡ false → c ≡ 0 → ⊥
@@ -164,13 +164,13 @@ outcome-agree j k e h f g = go (case-outcome j) (case-outcome k)
         one≢two (sym (no .said) ∙ sym (h q (said-some yes refl) (said-some (no .said) refl)) ∙ yes)
 
     go : CaseOutcome j → CaseOutcome k → outcomeOf j ≡ outcomeOf k
-    go (waits x) y = absurd (f x)
-    go (commits x) (waits y) = absurd (g y)
-    go (aborts x) (waits y) = absurd (g y)
-    go (commits x) (commits y) = x ∙ sym y
-    go (aborts x) (aborts y) = x ∙ sym y
-    go (commits x) (aborts y) = absurd (torn j k e h x y)
-    go (aborts x) (commits y) = absurd (torn k j (sym e) (λ q a b. sym (h q b a)) y x)
+    go (case-wait x) y = absurd (f x)
+    go (case-commit x) (case-wait y) = absurd (g y)
+    go (case-abort x) (case-wait y) = absurd (g y)
+    go (case-commit x) (case-commit y) = x ∙ sym y
+    go (case-abort x) (case-abort y) = x ∙ sym y
+    go (case-commit x) (case-abort y) = absurd (torn j k e h x y)
+    go (case-abort x) (case-commit y) = absurd (torn k j (sym e) (λ q a b. sym (h q b a)) y x)
 
 -- a decision stands where the votes that brought it are still heard, whatever else is heard
 pub outcome-stays : (j k : Known) → j .transaction ≡ k .transaction → ((q : ℕ) → (heardFrom q j ≡ 0 → ⊥) → heardFrom q k ≡ heardFrom q j)
@@ -181,12 +181,12 @@ outcome-stays j k e h f = go (case-outcome j)
     kept q c z x = h q (said-some x z) ∙ x
 
     go : CaseOutcome j → outcomeOf k ≡ outcomeOf j
-    go (waits x) = absurd (f x)
-    go (aborts x) =
+    go (case-wait x) = absurd (f x)
+    go (case-abort x) =
         let no = outcome-no j x in
         let there = subst (λ (s : Transaction). List·Memᴰ (no .sender) (shardsOf s)) e (no .takes-part) in
         no-abort k (record { sender = no .sender; takes-part = there; said = kept (no .sender) 1 refl (no .said) }) ∙ sym x
-    go (commits x) =
+    go (case-commit x) =
         outcome-commit k (all-of (isYes (k .heard)) (shardsOf (k .transaction)) (λ q m.
         eqb-yes (kept q 2 refl (outcome-yes j x q (subst (λ (s : Transaction). List·Memᴰ q (shardsOf s)) (sym e) m)))))
         ∙ sym x
