@@ -21,7 +21,7 @@
 // A call's answer is one number; specs/Codes.antt has the definition:
 //   below 100                       refused, with that number of document 01's table; nothing is changed
 //   100                             the genesis token is given
-//   200 + 10 * verdict + outcome    registered; the shard's own verdict is 1 for yes, 0 for no
+//   200 + 10 * verdict + outcome    registered; the shard's own verdict is 1 for yes, 0 for no, and a no aborts at once: 202
 //   300 + outcome                   a vote heard for the first time
 //   400 + outcome                   a vote that was heard before; nothing is changed
 // The outcome is what the receiving shard has decided on the transaction: 0 nothing yet, 1 commit, 2 abort.

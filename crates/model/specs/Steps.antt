@@ -140,7 +140,8 @@ heardFrom sender k = getD (k .heard) sender 0
 abbrev pub hearing : ℕ → ℕ → Known → Known
 hearing sender verdict k = withSaid sender (verdict + 1) k
 
--- ---- Decision: abort as soon as one no is heard, the shard's own included; commit when votes of all the transaction's shards are heard and all are yes
+-- ---- Decision (document 02, 5): abort as soon as one no is heard, the shard's own included; commit when votes of all the transaction's shards
+-- are heard and all are yes
 
 -- the shard's vote is heard
 abbrev pub isHeard : List ℕ → ℕ → Bool
@@ -150,11 +151,11 @@ isHeard heard shard = not (eqb (getD heard shard 0) 0)
 abbrev pub isYes : List ℕ → ℕ → Bool
 isYes heard shard = eqb (getD heard shard 0) 2
 
--- it is no
+-- or it is no
 abbrev pub isNo : List ℕ → ℕ → Bool
 isNo heard shard = eqb (getD heard shard 0) 1
 
--- votes of all the transaction's shards are heard
+-- votes of all the transaction's shards are heard: the commit rule asks it
 abbrev pub heardAll : Transaction → List ℕ → Bool
 heardAll t heard = all (isHeard heard) (shardsOf t)
 

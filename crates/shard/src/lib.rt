@@ -38,7 +38,7 @@ pub fn mint_token(s: &mut Words, receiver: u8, index: u8, owner: u32, amount: u3
     Answer::Minted
 }
 
-// A registration: available inputs are pledged, the shard votes, and decides if it is the only one.
+// A registration: available inputs are pledged, the shard votes, and decides if its vote is no or it is the only one.
 pub fn register_transaction(s: &mut Words, receiver: u8, t: Transaction) -> Answer
     requires { ⌜ Sound (now s) ⌝ }
     ensures { λ r. ⌜ Steps (now (s .entry)) (register receiver t) r (now (s .exit)) ⌝ }

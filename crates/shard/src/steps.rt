@@ -116,7 +116,7 @@ fn decide_at(s: &mut Words, place: usize) -> Outcome
     decided
 }
 
-// The transaction becomes known with the shard's verdict, and is decided if that was the only vote missing.
+// The transaction becomes known with the shard's verdict, and is decided if that is no or was the only vote missing.
 fn enter(s: &mut Words, verdict: bool, t: Transaction) -> Outcome
     requires { ⌜ Entering verdict t (now s) ⌝ }
     ensures { λ r. ⌜ Entered verdict t (now (s .entry)) r (now (s .exit)) ⌝ }
