@@ -2,10 +2,11 @@
  *
  * A transaction destroys tokens at some shards and makes new ones at others. Each of its shards
  * registers it, pledges the tokens it finds available, votes yes or no, hears the votes of the
- * other shards, and then decides alone: commit if all votes are yes, else abort. No two shards of
- * a cluster decide one transaction differently, in whatever order the calls come. The functions
- * are in the static library libengine.a; what each returns, and what it leaves in memory, is
- * proved for everything that it may be handed.
+ * other shards, and decides alone: abort as soon as it has heard one no, its own included, and
+ * commit once it has heard all votes and each is yes. No two shards of a cluster decide one
+ * transaction differently, and none changes its decision, in whatever order the calls come. The
+ * functions are in the static library libengine.a; what each returns, and what it leaves in
+ * memory, is proved for everything that it may be handed.
  *
  * Owner 10 moves a token of amount 3 from shard 0 to shard 1, in transaction 5:
  *
@@ -180,9 +181,9 @@ enum plankeeper_verdict {
 
 /* What a shard has decided on a transaction. */
 enum plankeeper_outcome {
-    PLANKEEPER_WAIT = 0,   /* nothing yet: votes are missing */
-    PLANKEEPER_COMMIT = 1, /* the inputs there are destroyed, the outputs there made */
-    PLANKEEPER_ABORT = 2,  /* no token was changed; pledges stay */
+    PLANKEEPER_WAIT = 0,   /* nothing yet: votes are missing, and those heard are yes */
+    PLANKEEPER_COMMIT = 1, /* all yes: the inputs there are destroyed, the outputs there made */
+    PLANKEEPER_ABORT = 2,  /* a no was heard: no token was changed; pledges stay */
     PLANKEEPER_UNKNOWN = 3 /* the shard does not know such a transaction; queries alone say it */
 };
 
@@ -193,7 +194,9 @@ enum plankeeper_outcome {
  * 17 holds a transaction off: it takes a token, whoever is named as its owner and whatever its
  * amount, that another transaction is to make at this shard, which knows that one and has not
  * decided it. Send it again once the other is decided there (plankeeper_outcome_of tells): after a
- * commit the token is there, after an abort it never comes and the vote is no.
+ * commit the token is there, after an abort it never comes and the vote is no. An abort comes with
+ * the first no; so an aborted transaction holds nobody off, and what it was to make takes no room
+ * (10), whatever votes on it are missing.
  * Two transactions that each take what the other is to make may wait for each other for good.
  *
  * Who gives it: r plankeeper_read; w the writers (plankeeper_write_...), of records that have the
@@ -243,9 +246,11 @@ enum plankeeper_refusal {
 
 /* The answers to calls that are carried out; a call that is refused is answered with the
  * refusal's number. Registered: the shard's own verdict, and then the outcome there. Heard: a
- * vote heard for the first time. Again: a vote that was heard before, and nothing is changed.
- * (NO_COMMIT and YES_ABORT have numbers and are never given: only where the transaction has no
- * other shard does a registration decide it, and then by the shard's own verdict.) */
+ * vote heard for the first time, also one that comes after an abort: it is noted, and the
+ * transaction stays aborted. Again: a vote that was heard before, and nothing is changed.
+ * (NO_WAIT, NO_COMMIT and YES_ABORT have numbers and are never given: a shard that votes no aborts
+ * at once, and one that votes yes has then heard no other vote. NO_WAIT was given as long as a no
+ * waited for the other votes.) */
 enum plankeeper_answer {
     PLANKEEPER_OPENED = 100, /* the genesis token is given */
     PLANKEEPER_NO_WAIT = 200,
@@ -297,14 +302,15 @@ uint32_t plankeeper_mint(plankeeper *cluster, uint32_t receiver, uint32_t index,
                          uint32_t amount);
 
 /* Registers the transaction at the receiving shard: it pledges those of the inputs there that are
- * available, and votes yes if all of them are. One that comes too close behind another is held off
- * (17) and has to be sent again. Returns one of PLANKEEPER_NO_... and PLANKEEPER_YES_..., or a
- * refusal. */
+ * available, and votes yes if all of them are. A no aborts it there at once. One that comes too
+ * close behind another is held off (17) and has to be sent again. Returns PLANKEEPER_NO_ABORT,
+ * PLANKEEPER_YES_WAIT or, where it has no other shard, PLANKEEPER_YES_COMMIT; or a refusal. */
 uint32_t plankeeper_register(plankeeper *cluster, uint32_t receiver,
                              const uint32_t transaction[PLANKEEPER_TRANSACTION_WORDS]);
 
 /* Delivers the sending shard's vote on the transaction, PLANKEEPER_YES or PLANKEEPER_NO, to the
- * receiving shard. A vote that the sender has not given is refused. Returns one of
+ * receiving shard. The first no aborts the transaction there; where all are yes, the last of them
+ * commits it. A vote that the sender has not given is refused. Returns one of
  * PLANKEEPER_HEARD_... and PLANKEEPER_AGAIN_..., or a refusal. */
 uint32_t plankeeper_deliver(plankeeper *cluster, uint32_t receiver, uint32_t sender,
                             uint32_t verdict,

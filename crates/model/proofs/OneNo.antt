@@ -1,6 +1,6 @@
--- Laws of the abort that one no brings (document 02, 5): what is answered no is answered abort; an aborted transaction reserves nothing and holds
--- nobody off; later fresh votes are noted, answer abort and change no token; where all votes are in, the transaction is decided; and the commit rule
--- holds of every decision.
+-- Laws of the abort that one no brings (document 02, 5): a registration is answered NO ABORT, YES WAIT or YES COMMIT; an aborted transaction reserves
+-- nothing and holds nobody off; later fresh votes are noted, answer abort and change no token; where all votes are in, the transaction is decided; and
+-- the commit rule holds of every decision.
 use Prim.Native.Nat.{ℕ, _<_}
 use native.Mathlib.Omega.{arith}
 use mathlib.Core.Path.{_≡_, ap, sym, _∙_, subst}
@@ -44,44 +44,48 @@ use Rattle.model.proofs.Refusals.{shard-below, part-in}
 use Rattle.model.proofs.Effects.{ShardEffect, shard-refused, shard-minted, shard-registered, shard-heard, shard-again, shard-effect}
 use Rattle.model.proofs.Steps.{play-inv}
 use Rattle.model.proofs.Decisions.{decided-exact, all-in-at}
-use Rattle.model.proofs.Votes.{own-no}
+use Rattle.model.proofs.Votes.{own-no, own-yes}
 
--- ---- NO ABORT at once
+-- ---- What a registration is answered
+
+-- a no aborts at once, and a yes never: NO ABORT, YES WAIT and YES COMMIT are all that there is
+abbrev pub AtOnce : Bool → Outcome → Type 0
+AtOnce verdict o = (verdict ≡ false → o ≡ Abort) × (verdict ≡ true → o ≢ Abort)
 
 -- by cases on what a call did at a shard
-no-left : (limits : Limits) (me : ℕ) (ledger : Ledger) (call : Call) (r : Ledger × Answer)
-    → ShardEffect limits me ledger call r → (o : Outcome) → r .1 ≡ Registered false o → o ≡ Abort
-no-left limits me ledger call _ (shard-registered {receiver = receiver} {t = t} h) o e =
+at-once-by : (limits : Limits) (me : ℕ) (ledger : Ledger) (call : Call) (r : Ledger × Answer)
+    → ShardEffect limits me ledger call r → (verdict : Bool) (o : Outcome) → r .1 ≡ Registered verdict o → AtOnce verdict o
+at-once-by limits me ledger call _ (shard-registered {receiver = receiver} {t = t} h) verdict o e =
     let addressed : receiver ≡ me = h .form .addressed in
     let here : me < 8 = subst (λ (p : ℕ). p < 8) addressed (shard-below receiver (h .form .receiver-fits)) in
     let part : List·Memᴰ me (shardsOf t) = subst (λ (p : ℕ). List·Memᴰ p (shardsOf t)) addressed (part-in receiver t (h .form .takes-part)) in
-    let verdict : vote me (ledger .tokens) t ≡ false = cc in
+    let voted : vote me (ledger .tokens) t ≡ verdict = cc in
     let outcome : outcomeOf (newlyKnown me (ledger .tokens) t) ≡ o = cc in
-    sym outcome ∙ own-no me (ledger .tokens) t here part verdict
-no-left limits me ledger call _ (shard-refused h) o e = let z : _≡_ {A = ℕ} 0 1 = cc in absurd (omega arith)
-no-left limits me ledger call _ (shard-minted h) o e = let z : _≡_ {A = ℕ} 0 1 = cc in absurd (omega arith)
-no-left limits me ledger call _ (shard-heard h f z) o e = let y : _≡_ {A = ℕ} 0 1 = cc in absurd (omega arith)
-no-left limits me ledger call _ (shard-again h z) o e = let y : _≡_ {A = ℕ} 0 1 = cc in absurd (omega arith)
+    (λ f. sym outcome ∙ own-no me (ledger .tokens) t here part (voted ∙ f), λ f a. own-yes me (ledger .tokens) t here (voted ∙ f) (outcome ∙ a))
+at-once-by limits me ledger call _ (shard-refused h) verdict o e = let z : _≡_ {A = ℕ} 0 1 = cc in absurd (omega arith)
+at-once-by limits me ledger call _ (shard-minted h) verdict o e = let z : _≡_ {A = ℕ} 0 1 = cc in absurd (omega arith)
+at-once-by limits me ledger call _ (shard-heard h f z) verdict o e = let y : _≡_ {A = ℕ} 0 1 = cc in absurd (omega arith)
+at-once-by limits me ledger call _ (shard-again h z) verdict o e = let y : _≡_ {A = ℕ} 0 1 = cc in absurd (omega arith)
 
--- a registration that is answered no is answered abort, at a lone shard
-pub no-at-once : (limits : Limits) (me : ℕ) (ledger : Ledger) (call : Call) (o : Outcome)
-    → shardStep limits me ledger call .1 ≡ Registered false o → o ≡ Abort
-no-at-once limits me ledger call o e = no-left limits me ledger call (shardStep limits me ledger call) (shard-effect limits me ledger call) o e
+-- at a lone shard
+pub at-once : (limits : Limits) (me : ℕ) (ledger : Ledger) (call : Call) (verdict : Bool) (o : Outcome)
+    → shardStep limits me ledger call .1 ≡ Registered verdict o → AtOnce verdict o
+at-once limits me ledger call = at-once-by limits me ledger call (shardStep limits me ledger call) (shard-effect limits me ledger call)
 
 -- and in a cluster
-pub no-at-once-in : (limits : Limits) (shards : List Ledger) (call : Call) (o : Outcome)
-    → clusterStep limits shards call .1 ≡ Registered false o → o ≡ Abort
+pub at-once-in : (limits : Limits) (shards : List Ledger) (call : Call) (verdict : Bool) (o : Outcome)
+    → clusterStep limits shards call .1 ≡ Registered verdict o → AtOnce verdict o
 unfolding clusterStep atShard
-no-at-once-in limits shards (mint p index owner amount) o e = no-at-once limits p (ledgerAt limits shards p) (mint p index owner amount) o e
-no-at-once-in limits shards (register p t) o e = no-at-once limits p (ledgerAt limits shards p) (register p t) o e
-no-at-once-in limits shards (deliver p sender verdict t) o e = go (notGiven limits shards p sender verdict t) e
+at-once-in limits shards (mint p index owner amount) verdict o e = at-once limits p (ledgerAt limits shards p) (mint p index owner amount) verdict o e
+at-once-in limits shards (register p t) verdict o e = at-once limits p (ledgerAt limits shards p) (register p t) verdict o e
+at-once-in limits shards (deliver p sender said t) verdict o e = go (notGiven limits shards p sender said t) e
   where
     done : Ledger × Answer
-    done = shardStep limits p (ledgerAt limits shards p) (deliver p sender verdict t)
+    done = shardStep limits p (ledgerAt limits shards p) (deliver p sender said t)
 
-    go : (b : Bool) → cond {A = List Ledger × Answer} b (shards, Refused 16) (set shards p (done .0), done .1) .1 ≡ Registered false o → o ≡ Abort
+    go : (b : Bool) → cond {A = List Ledger × Answer} b (shards, Refused 16) (set shards p (done .0), done .1) .1 ≡ Registered verdict o → AtOnce verdict o
     go true e = let z : _≡_ {A = ℕ} 0 1 = cc in absurd (omega arith)
-    go false e = no-at-once limits p (ledgerAt limits shards p) (deliver p sender verdict t) o e
+    go false e = at-once limits p (ledgerAt limits shards p) (deliver p sender said t) verdict o e
 
 -- ---- What an aborted transaction still does: nothing
 

@@ -33,7 +33,7 @@ use Rattle.model.proofs.Basics.{
   set-elim,
   getD-same,
 }
-use Rattle.model.proofs.Outcomes.{outcome-yes, no-abort, outcome-commit, Marks, all-in-decides}
+use Rattle.model.proofs.Outcomes.{one≢two, outcome-yes, outcome-no, no-abort, outcome-commit, Marks, all-in-decides}
 use Rattle.model.proofs.Refusals.{part-in}
 
 -- ---- One shard
@@ -54,6 +54,16 @@ unfolding newlyKnown
 own-no p tokens t h member refused =
     let said = own-said p (vote p tokens t) t h ∙ ap noted refused in
     no-abort (knownWith p (vote p tokens t) t) (record { sender = p; takes-part = member; said = said })
+
+-- and the own yes aborts nothing: no other vote is heard then
+pub own-yes : (p : ℕ) (tokens : List Token) (t : Transaction) → p < 8 → vote p tokens t ≡ true → outcomeOf (newlyKnown p tokens t) ≢ Abort
+unfolding newlyKnown
+own-yes p tokens t h yes-here e =
+    let own : Known = knownWith p (vote p tokens t) t in
+    let n = outcome-no own e in
+    let noted-yes : noted (vote p tokens t) ≡ 1 → ⊥ = λ z. one≢two (sym z ∙ ap noted yes-here) in
+    set-elim (λ q c. c ≡ 1 → ⊥) (replicate 8 0) 0 p (noted (vote p tokens t)) h noted-yes
+    (λ q d z. let s = getD-same {A = ℕ} 8 0 q in omega arith) (n .sender) (n .said)
 
 -- a transaction of one shard is decided by its registration: by the own vote
 pub one-shard : (p : ℕ) (tokens : List Token) (t : Transaction) → p < 8 → List·Memᴰ p (shardsOf t) → ((q : ℕ) → List·Memᴰ q (shardsOf t) → q ≡ p)

@@ -245,6 +245,21 @@ static void play_example(void)
     EQUAL(plankeeper_total(cluster), 0);
 }
 
+/* Shard 0 has voted no, shard 2 has voted yes and heard nobody: the no decides there, and a vote
+ * that comes later is noted and decides nothing. */
+static void check_one_no(plankeeper *cluster, const uint32_t *three)
+{
+    uint32_t known[PLANKEEPER_KNOWN_WORDS];
+    EQUAL(plankeeper_outcome_of(cluster, 2, 3), PLANKEEPER_WAIT);
+    EQUAL(plankeeper_deliver(cluster, 2, 0, NO, three), PLANKEEPER_HEARD_ABORT);
+    EQUAL(plankeeper_known_at(cluster, 2, 0, known), PLANKEEPER_ABORT);
+    EQUAL(known[PLANKEEPER_KNOWN_HEARD(1)], PLANKEEPER_SAID_NOTHING);
+    EQUAL(plankeeper_deliver(cluster, 2, 1, YES, three), PLANKEEPER_HEARD_ABORT);
+    EQUAL(plankeeper_known_at(cluster, 2, 0, known), PLANKEEPER_ABORT);
+    EQUAL(known[PLANKEEPER_KNOWN_HEARD(1)], PLANKEEPER_SAID_YES);
+    EQUAL(plankeeper_deliver(cluster, 2, 1, YES, three), PLANKEEPER_AGAIN_ABORT);
+}
+
 /* The answers that the example does not have. */
 static void play_others(void)
 {
@@ -260,7 +275,7 @@ static void play_others(void)
     EQUAL(plankeeper_mint(cluster, 2, 0, 9, 1), PLANKEEPER_OPENED);
     EQUAL(plankeeper_register(cluster, 0, here), PLANKEEPER_YES_COMMIT);
     EQUAL(plankeeper_register(cluster, 0, late), PLANKEEPER_NO_ABORT);
-    EQUAL(plankeeper_register(cluster, 0, three), PLANKEEPER_NO_WAIT);
+    EQUAL(plankeeper_register(cluster, 0, three), PLANKEEPER_NO_ABORT);
     EQUAL(plankeeper_register(cluster, 1, three), PLANKEEPER_YES_WAIT);
     EQUAL(plankeeper_register(cluster, 2, three), PLANKEEPER_YES_WAIT);
     EQUAL(plankeeper_deliver(cluster, 1, 2, YES, three), PLANKEEPER_HEARD_WAIT);
@@ -274,7 +289,7 @@ static void play_others(void)
     EQUAL(plankeeper_known_at(cluster, 1, 0, known), PLANKEEPER_ABORT);
     EQUAL(known[PLANKEEPER_KNOWN_HEARD(0)], PLANKEEPER_SAID_NO);
     EQUAL(known[PLANKEEPER_KNOWN_HEARD(1)], PLANKEEPER_SAID_YES);
-    EQUAL(plankeeper_outcome_of(cluster, 2, 3), PLANKEEPER_WAIT);
+    check_one_no(cluster, three);
 }
 
 /* ---- Refusals: each by its name, and nothing is changed */
@@ -333,7 +348,7 @@ static void refuse_when_full(void)
     REFUSES(plankeeper_register(cluster, 0, t), TOKENS_FULL);
     for (i = 1; i <= PLANKEEPER_MAX_KNOWN; i++) {
         move(t, i, 0, 0, 1);
-        EQUAL(plankeeper_register(cluster, 0, t), PLANKEEPER_NO_WAIT);
+        EQUAL(plankeeper_register(cluster, 0, t), PLANKEEPER_NO_ABORT);
     }
     EQUAL(plankeeper_known_count(cluster, 0), PLANKEEPER_MAX_KNOWN);
     memcpy(cluster_copy, cluster_words, sizeof cluster_words);

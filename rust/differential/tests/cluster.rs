@@ -29,8 +29,14 @@ fn random_weeks_of_a_cluster() {
     assert!(calls >= CALLS, "{calls} calls only");
     let title = format!("a cluster, {calls} calls in {WEEKS} weeks");
     tally.report(&title, &given_by(&[Giver::Cluster]), LEAST);
-    // What is held off is sent again and again.
-    tally.check(&title, &["REFUSED 17"], 10 * LEAST);
+    // What is held off is sent again and again, and one no often lets another
+    // through.
+    let often = [
+        "REFUSED 17",
+        "not too full, another aborted early",
+        "not held off, another aborted early",
+    ];
+    tally.check(&title, &often, 10 * LEAST);
     tally.check(&title, &SHARD_EVENTS, LEAST);
     tally.check(&title, &CLUSTER_EVENTS, LEAST);
     tally.check_never(&title, &never_given_by(&[Giver::Cluster]));

@@ -114,5 +114,5 @@ fn every_order_of_every_scenario() {
     all.report(&title, &carried_out(), 1000);
     let refused = ["REFUSED 7", "REFUSED 11", "REFUSED 16", "REFUSED 17"];
     all.check(&title, &refused, 1000);
-    assert_eq!(orders, 537_969, "orders");
+    assert_eq!(orders, 598_449, "orders");
 }

@@ -15,7 +15,7 @@ const FULL: u64 = 1_600;
 /// How often each kind of state has to be met by a query.
 const LEAST: u64 = 3_000;
 
-const STATES: [&str; 11] = [
+const STATES: [&str; 12] = [
     "no token",
     "a token not pledged",
     "a token pledged",
@@ -26,6 +26,7 @@ const STATES: [&str; 11] = [
     "a transaction that waits",
     "a transaction committed",
     "a transaction aborted",
+    "a transaction aborted early",
     "32 transactions",
 ];
 
@@ -39,6 +40,12 @@ fn count(tally: &mut Tally, shard: &Shard) {
     let free = shard.tokens().iter().any(|token| token.pledge.is_none());
     let made = shard.tokens().iter().any(|token| token.creator != 0);
     let decided = |outcome| shard.known().iter().any(|known| known.outcome() == outcome);
+    // Some vote is missing, and the outcome tells of an abort all the same.
+    let early = shard.known().iter().any(|known| {
+        let mut shards = known.transaction.shards();
+        let missing = shards.any(|shard| known.heard[usize::from(shard)].is_none());
+        missing && known.outcome() == Outcome::Abort
+    });
     let met = [
         tokens == 0,
         free,
@@ -50,6 +57,7 @@ fn count(tally: &mut Tally, shard: &Shard) {
         decided(Outcome::Wait),
         decided(Outcome::Commit),
         decided(Outcome::Abort),
+        early,
         known == 32,
     ];
     let met = STATES.iter().zip(met).filter(|&(_, met)| met);

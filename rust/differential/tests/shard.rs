@@ -60,6 +60,7 @@ fn weeks_of_a_full_shard() {
         "128 tokens held",
         "32 transactions known",
         "freed space used again",
+        "not too full, another aborted early",
     ];
     let title = format!("a full shard, {calls} calls in {FULL_WEEKS} weeks");
     tally.report(&title, &labels, LEAST);

@@ -18,12 +18,13 @@ pub enum Verdict {
 /// ABORT.
 #[derive(Clone, Copy, Debug, PartialEq, Eq, Hash)]
 pub enum Outcome {
-    /// Nothing yet: votes are missing.
+    /// Nothing yet: votes are missing, and those heard are yes.
     Wait = 0,
-    /// All votes are yes: the inputs here are destroyed, the outputs here are
-    /// made.
+    /// All votes are heard and are yes: the inputs here are destroyed, the
+    /// outputs here are made.
     Commit = 1,
-    /// Some vote is no: no token is changed, and pledges stay.
+    /// A no was heard, whatever votes are missing: no token is changed, and
+    /// pledges stay.
     Abort = 2,
 }
 
@@ -45,11 +46,12 @@ pub enum Answer {
     Registered {
         /// The shard's own vote.
         verdict: Verdict,
-        /// What the shard has decided. A transaction of one shard is decided
-        /// at once.
+        /// What the shard has decided: abort where its own vote is no, and
+        /// commit where that is yes and there is no other shard.
         outcome: Outcome,
     },
-    /// The vote was fresh; this is what the shard has decided with it.
+    /// The vote was fresh; this is what the shard has decided with it. After an
+    /// abort a vote is still noted, and the abort stays.
     Heard(Outcome),
     /// The shard had heard the vote before, and nothing is changed; this is
     /// what it had decided.

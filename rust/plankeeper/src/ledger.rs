@@ -51,7 +51,8 @@ impl<M: Memory> Ledger<M> {
 
     /// Asks the receiving shard to register the transaction (document 01:
     /// registration). It pledges the inputs that it holds and that are
-    /// available, and votes yes if all its inputs are.
+    /// available, and votes yes if all its inputs are. If it votes no, the
+    /// transaction is aborted there at once.
     ///
     /// A transaction may come too close behind another: it takes what the other
     /// is to make at this shard, which knows the other and has not decided it.
@@ -88,6 +89,33 @@ impl<M: Memory> Ledger<M> {
     /// Hands the sending shard's vote to the receiving one (document 01: vote
     /// delivery). A cluster refuses a vote that its sender has not given; a
     /// lone shard hears any.
+    ///
+    /// One no is enough for an abort, while a commit needs every yes:
+    ///
+    /// ```
+    /// use plankeeper::{Cluster, Input, Output, Refusal, TokenId, Transaction, Verdict};
+    ///
+    /// // Nobody has minted the token, so shard 0 will vote no.
+    /// let token = TokenId { shard: 0, creator: 0, index: 0 };
+    /// let give = |shard| Output { shard, owner: 10, amount: 3 };
+    /// let transaction = Transaction::new(5)
+    ///     .input(Input { token, owner: 10, amount: 6 })
+    ///     .output(give(1))
+    ///     .output(give(2));
+    ///
+    /// let mut cluster = Cluster::new();
+    /// assert_eq!(cluster.register(1, &transaction)?.to_string(), "YES WAIT");
+    /// assert_eq!(cluster.register(0, &transaction)?.to_string(), "NO ABORT");
+    /// let mut deliver = |sender, verdict| cluster.deliver(1, sender, verdict, &transaction);
+    /// assert_eq!(deliver(0, Verdict::No)?.to_string(), "HEARD ABORT");
+    ///
+    /// // Shard 2's vote comes later. It is noted and changes no decision.
+    /// assert_eq!(deliver(2, Verdict::Yes), Err(Refusal::VoteNotGiven));
+    /// cluster.register(2, &transaction)?;
+    /// let heard = cluster.deliver(1, 2, Verdict::Yes, &transaction)?;
+    /// assert_eq!(heard.to_string(), "HEARD ABORT");
+    /// # Ok::<(), Refusal>(())
+    /// ```
     #[inline]
     pub fn deliver(
         &mut self,

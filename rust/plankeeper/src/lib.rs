@@ -2,9 +2,10 @@
 //!
 //! A transaction destroys tokens at some shards and makes new ones at others.
 //! Each of its shards registers it, pledges the tokens it finds available,
-//! votes, hears the other shards' votes and decides alone: commit if all votes
-//! are yes, else abort. Whatever the order in which votes arrive, no two shards
-//! decide one transaction differently.
+//! votes, hears the other shards' votes and decides alone: abort as soon as it
+//! has heard one no, its own included, and commit once it has heard all votes
+//! and each is yes. Whatever the order in which votes arrive, no two shards
+//! decide one transaction differently, and none changes its decision.
 //!
 //! The engine itself is a static library whose functions were compiled only
 //! after a machine had checked proofs of what they do: for every input and

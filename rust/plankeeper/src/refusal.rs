@@ -57,7 +57,8 @@ pub enum Refusal {
     /// transaction.
     VoteNotGiven = 16,
     /// 17, register: a transaction known here and not decided yet is to make
-    /// one of the inputs here. Hand it in again once that one is decided here.
+    /// one of the inputs here. Hand it in again once that one is decided here,
+    /// which the first no on it is enough for.
     HeldOff = 17,
 }
 

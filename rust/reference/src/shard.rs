@@ -18,11 +18,12 @@ pub enum Verdict {
 /// What a shard makes of a transaction (document 01: outcome).
 #[derive(Clone, Copy, Debug, PartialEq, Eq)]
 pub enum Outcome {
-    /// Votes are still missing.
+    /// All votes heard so far are yes, and some are still missing.
     Wait,
-    /// All votes were yes; the tokens here are exchanged.
+    /// All votes were heard and are yes; the tokens here are exchanged.
     Commit,
-    /// Some vote was no; no token has changed.
+    /// Some vote heard is no, whatever is still missing (document 02, slip 5);
+    /// no token has changed.
     Abort,
 }
 
@@ -38,7 +39,8 @@ pub enum Done {
         /// The outcome here.
         outcome: Outcome,
     },
-    /// A fresh vote was noted; the outcome here after it.
+    /// A fresh vote was noted, also one that comes after an abort; the outcome
+    /// here after it.
     Heard(Outcome),
     /// The same vote was heard before; the outcome here.
     Again(Outcome),
@@ -115,13 +117,14 @@ impl Token {
 }
 
 impl Known {
-    /// The outcome that the verdicts heard so far bring.
+    /// The outcome that the verdicts heard so far bring: one no suffices for an
+    /// abort, a commit needs every yes (document 02, slip 5).
     pub fn outcome(&self) -> Outcome {
         let mut outcome = Outcome::Commit;
         for shard in self.transaction.shards() {
             match self.heard[usize::from(shard)] {
-                None => return Outcome::Wait,
-                Some(Verdict::No) => outcome = Outcome::Abort,
+                Some(Verdict::No) => return Outcome::Abort,
+                None => outcome = Outcome::Wait,
                 Some(Verdict::Yes) => {}
             }
         }
@@ -379,8 +382,9 @@ impl Shard {
         verdict
     }
 
-    /// The outcome after a verdict was added; a commit is carried out at once.
-    /// An abort changes no token: pledges stay.
+    /// The outcome after a verdict was added; a commit is carried out at once,
+    /// and once only, for it takes the last vote. An abort changes no token:
+    /// pledges stay.
     fn decide(&mut self, place: usize) -> Outcome {
         let outcome = self.known[place].outcome();
         if outcome == Outcome::Commit {

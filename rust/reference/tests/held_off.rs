@@ -78,10 +78,10 @@ fn sent_again_after_the_commit() {
 #[test]
 fn sent_again_after_the_abort() {
     let mut shard = waiting(LIMITS);
-    assert_eq!(shard.hear(1, 2, 0, &first()), Ok(Done::Heard(Wait)));
-    // A no is heard, but nothing is decided here.
     assert_eq!(enter(&mut shard, second()), HELD_OFF);
-    assert_eq!(shard.hear(1, 0, 1, &first()), Ok(Done::Heard(Abort)));
+    assert_eq!(shard.hear(1, 2, 1, &first()), Ok(Done::Heard(Wait)));
+    assert_eq!(enter(&mut shard, second()), HELD_OFF);
+    assert_eq!(shard.hear(1, 0, 0, &first()), Ok(Done::Heard(Abort)));
     assert_eq!(enter(&mut shard, second()), registered(No, Abort));
 }
 
@@ -136,15 +136,14 @@ fn not_for_an_input_elsewhere() {
     }
 }
 
-/// One that has voted no waits for votes like any other.
+/// One that has voted no is decided, whatever votes are missing, and holds
+/// nobody off.
 #[test]
-fn by_an_undecided_transaction_that_will_abort() {
+fn not_by_a_transaction_that_has_voted_no() {
     let mut shard = waiting(LIMITS);
     let vain = transaction(8, &[(1, 0, 9, 20, 3)], &[(1, 20, 1), (2, 20, 2)]);
-    assert_eq!(enter(&mut shard, vain), registered(No, Wait));
+    assert_eq!(enter(&mut shard, vain), registered(No, Abort));
     let behind = taking(9, &[(1, 8, 0, 20, 1)]);
-    assert_eq!(enter(&mut shard, behind), HELD_OFF);
-    assert_eq!(shard.hear(1, 2, 1, &vain), Ok(Done::Heard(Abort)));
     assert_eq!(enter(&mut shard, behind), registered(No, Abort));
     // Each by its own number: the first still waits.
     assert_eq!(enter(&mut shard, second()), HELD_OFF);
@@ -175,11 +174,11 @@ fn every_other_refusal_goes_first() {
     let unbalanced = transaction(6, &[input], &[(1, 30, 4)]);
     assert_eq!(number(alone(unbalanced)), Err(5));
     assert_eq!(number(alone(taking(5, &[input]))), Err(7));
-    // It names its own output, and is known.
-    let own = transaction(6, &[(1, 6, 0, 20, 3)], &[(1, 20, 2), (2, 20, 1)]);
-    let mut shard = waiting(LIMITS);
-    assert_eq!(enter(&mut shard, own), registered(No, Wait));
-    assert_eq!(number(enter(&mut shard, own)), Err(8));
+    // It is known longer than what it takes an output of.
+    let mut shard = Shard::new(1, LIMITS);
+    assert_eq!(enter(&mut shard, second()), registered(No, Abort));
+    assert_eq!(enter(&mut shard, first()), registered(Yes, Wait));
+    assert_eq!(number(enter(&mut shard, second())), Err(8));
 
     // One token is held, and two may still be made.
     let cases = [(4, 2, 17), (4, 1, 9), (3, 1, 9), (3, 2, 10)];

@@ -1,5 +1,6 @@
 //! The reference's ledgers held to document 01: its worked example, its edges,
-//! its order of refusals and its limits. Document 02's have tests of their own.
+//! its order of refusals and its limits. A no aborts at once, as document 02's
+//! slip 5 has it; document 02's slips have tests of their own.
 
 #[path = "common/answers.rs"]
 mod answers;
@@ -148,7 +149,7 @@ fn edge_two_transactions_for_one_token() {
     shard.mint(0, 0, 10, 3).unwrap();
     let take = |number| transaction(number, &[(0, 0, 0, 10, 3)], &[(1, 10, 3)]);
     assert_eq!(shard.register(0, &take(1)), registered(Yes, Wait));
-    assert_eq!(shard.register(0, &take(2)), registered(No, Wait));
+    assert_eq!(shard.register(0, &take(2)), registered(No, Abort));
     assert_eq!(shard.tokens(), [token(0, 0, 10, 3, Some(1))]);
 }
 
@@ -158,7 +159,7 @@ fn edge_wrong_owner_or_amount() {
         let mut shard = Shard::new(0, LIMITS);
         shard.mint(0, 0, 10, 3).unwrap();
         let wrong = transaction(1, &[input], &[(1, 10, input.4)]);
-        assert_eq!(shard.register(0, &wrong), registered(No, Wait));
+        assert_eq!(shard.register(0, &wrong), registered(No, Abort));
         assert_eq!(shard.tokens(), [token(0, 0, 10, 3, None)]);
     }
 }
@@ -422,7 +423,7 @@ fn order_of_refusals_in_the_cluster() {
         cluster.deliver(2, 0, 1, &first),
         Err(Refusal::NotTakingPart)
     );
-    assert_eq!(cluster.register(0, &first), registered(No, Wait));
+    assert_eq!(cluster.register(0, &first), registered(No, Abort));
     assert_eq!(cluster.deliver(1, 0, 1, &first), not_given);
     assert_eq!(
         cluster.deliver(1, 0, 0, &first),
@@ -436,7 +437,7 @@ fn order_of_refusals_in_the_cluster() {
     assert_eq!(cluster.deliver(1, 0, 0, &first), Err(Refusal::NumberTaken));
     assert_eq!(cluster.deliver(1, 0, 1, &first), not_given);
     // Its own vote is heard already; the other verdict was never given.
-    assert_eq!(cluster.deliver(0, 0, 0, &first), Ok(Done::Again(Wait)));
+    assert_eq!(cluster.deliver(0, 0, 0, &first), Ok(Done::Again(Abort)));
     assert_eq!(cluster.deliver(0, 0, 1, &first), not_given);
 }
 

@@ -109,7 +109,7 @@ fn bytes_99_and_100_of_kind_1() {
     let record = bytes(&[register(0, five())]);
     assert_eq!(record.len(), 100);
     shows(&record[..99], &["1 - REFUSED 2", "TOTAL 0"]);
-    shows(&record, &["1 0 NO WAIT", "TOTAL 0"]);
+    shows(&record, &["1 0 NO ABORT", "TOTAL 0"]);
 }
 
 /// Every cut of every kind is 2, and what was done before it stays.
@@ -273,7 +273,7 @@ fn outcomes() {
             "6 6 REFUSED 8",
             "7 6 NO ABORT",
             "8 6 REFUSED 13",
-            "9 6 NO WAIT",
+            "9 6 NO ABORT",
             "10 7 YES WAIT",
             "11 7 HEARD ABORT",
             "12 7 AGAIN ABORT",
@@ -336,6 +336,36 @@ fn held_off() {
             "6 1 YES COMMIT",
             // 3 at pantry 0, which has not heard pantry 1, and 3 at pantry 1.
             "TOTAL 6",
+        ],
+    );
+}
+
+/// One no of three votes: the pantry's own and one that it hears. Later fresh
+/// votes are heard, and the swap stays aborted.
+#[test]
+fn one_no() {
+    let three = transaction(4, &[(0, 0, 0, 10, 3)], &[(1, 11, 1), (2, 12, 2)]);
+    shows(
+        &bytes(&[
+            register(1, three),
+            register(2, three),
+            register(0, three),
+            vote(0, 0, 1, three),
+            vote(1, 2, 1, three),
+            vote(1, 2, 1, three),
+            vote(1, 2, 0, three),
+            vote(1, 0, 1, three),
+        ]),
+        &[
+            "1 1 YES WAIT",
+            "2 2 YES WAIT",
+            "3 0 NO ABORT",
+            "4 1 HEARD ABORT",
+            "5 1 HEARD ABORT",
+            "6 1 AGAIN ABORT",
+            "7 0 HEARD ABORT",
+            "8 1 REFUSED 16",
+            "TOTAL 0",
         ],
     );
 }

@@ -50,13 +50,14 @@ pub struct Cause {
 /// What a reading or a writing without a refusal is counted as.
 pub const ACCEPTED: &str = "accepted";
 
-/// An answer that cannot be, although it has a number.
+/// An answer that cannot be, although it has a number: a registration with a no
+/// aborts at once, and one with a yes has heard no other vote.
 const NOBODY: &str = "";
 
 /// Every answer to a call that was carried out, in the order of the numbers.
 pub const DONE: &[Reply] = &[
     done(100, Done::Minted, "OPENED", "m"),
-    done(200, registered(No, Wait), "NO WAIT", "g"),
+    done(200, registered(No, Wait), "NO WAIT", NOBODY),
     done(201, registered(No, Commit), "NO COMMIT", NOBODY),
     done(202, registered(No, Abort), "NO ABORT", "g"),
     done(210, registered(Yes, Wait), "YES WAIT", "g"),

@@ -82,6 +82,25 @@ impl Clauses {
             return;
         }
         let now = after[receiver];
+        self.note(record, receiver, now);
+        for (place, known) in now.known.iter().enumerate() {
+            if let Some(earlier) = self.before[receiver].known.get(place) {
+                check_finality(earlier, known);
+            }
+            check_agreement(receiver, known, after);
+            self.check_commit_rule(known);
+        }
+
+        let kept = &mut self.before[receiver];
+        kept.tokens.clear();
+        kept.tokens.extend(now.tokens);
+        kept.known.clear();
+        kept.known.extend(now.known);
+    }
+
+    /// Notes what a call that was carried out has brought. Checks that the
+    /// receiver has become what the call asks for.
+    fn note(&mut self, record: &Record, receiver: usize, now: View) {
         let before = &self.before[receiver];
         match record {
             Record::Mint {
@@ -107,54 +126,35 @@ impl Clauses {
                     available: available(receiver as u8, transaction, &before.tokens),
                 });
             }
-            Record::Vote { .. } => {
+            Record::Vote {
+                sender,
+                transaction,
+                ..
+            } => {
                 assert_eq!(now.known.len(), before.known.len(), "known after a vote");
+                // Also after an abort: else it would never have heard all votes.
+                let mut known = now.known.iter();
+                let known = known.find(|known| known.transaction == *transaction);
+                let heard = known.and_then(|known| known.heard[usize::from(*sender)]);
+                assert!(heard.is_some(), "a vote was not noted");
             }
         }
+    }
 
-        for (place, known) in now.known.iter().enumerate() {
-            if let Some(earlier) = before.known.get(place) {
-                assert_eq!(
-                    known.transaction, earlier.transaction,
-                    "known in another order"
-                );
-                // A verdict heard stays, and so does the decision.
-                for (now, before) in known.heard.iter().zip(earlier.heard) {
-                    assert!(before.is_none() || *now == before, "a verdict has changed");
-                }
-                let decided = outcome(earlier);
-                assert!(
-                    decided == Outcome::Wait || outcome(known) == decided,
-                    "finality: {decided:?} has changed"
-                );
-            }
-            let decided = outcome(known);
-            if decided == Outcome::Wait {
-                continue;
-            }
-            for (number, other) in after.iter().enumerate() {
-                let mut same = other.known.iter();
-                if let Some(other) = same.find(|other| other.transaction == known.transaction) {
-                    let other = outcome(other);
-                    assert!(
-                        other == Outcome::Wait || other == decided,
-                        "agreement: {decided:?} at {receiver}, {other:?} at {number}"
-                    );
-                }
-            }
-            let all = self.all_available(&known.transaction);
-            assert_eq!(
-                decided == Outcome::Commit,
-                all,
-                "commit rule: {decided:?}, inputs available: {all}"
-            );
+    /// A shard that has heard all votes holds the transaction committed exactly
+    /// when each input was available. Of one that has decided before, by a no,
+    /// the rule says nothing.
+    fn check_commit_rule(&self, known: &Known) {
+        let mut shards = known.transaction.shards();
+        if !shards.all(|shard| known.heard[usize::from(shard)].is_some()) {
+            return;
         }
-
-        let kept = &mut self.before[receiver];
-        kept.tokens.clear();
-        kept.tokens.extend(now.tokens);
-        kept.known.clear();
-        kept.known.extend(now.known);
+        let (decided, all) = (outcome(known), self.all_available(&known.transaction));
+        assert_eq!(
+            decided == Outcome::Commit,
+            all,
+            "commit rule: {decided:?}, inputs available: {all}"
+        );
     }
 
     /// Runs the committed transactions one by one on one ledger, by last
@@ -263,17 +263,52 @@ fn available(shard: u8, transaction: &Transaction, tokens: &[Token]) -> [bool; S
     available
 }
 
-/// Document 01's decision.
+/// A verdict heard stays, and so does the decision, while votes still come in.
+fn check_finality(earlier: &Known, known: &Known) {
+    assert_eq!(
+        known.transaction, earlier.transaction,
+        "known in another order"
+    );
+    for (now, before) in known.heard.iter().zip(earlier.heard) {
+        assert!(before.is_none() || *now == before, "a verdict has changed");
+    }
+    let decided = outcome(earlier);
+    assert!(
+        decided == Outcome::Wait || outcome(known) == decided,
+        "finality: {decided:?} has changed"
+    );
+}
+
+/// No shard has decided the transaction otherwise, whatever votes it has heard.
+fn check_agreement(receiver: usize, known: &Known, after: &[View; SHARDS]) {
+    let decided = outcome(known);
+    if decided == Outcome::Wait {
+        return;
+    }
+    for (number, other) in after.iter().enumerate() {
+        let mut same = other.known.iter();
+        if let Some(other) = same.find(|other| other.transaction == known.transaction) {
+            let other = outcome(other);
+            assert!(
+                other == Outcome::Wait || other == decided,
+                "agreement: {decided:?} at {receiver}, {other:?} at {number}"
+            );
+        }
+    }
+}
+
+/// Document 02's decision: one no suffices for an abort, a commit needs every
+/// yes.
 fn outcome(known: &Known) -> Outcome {
     let heard = |shard: u8| known.heard[usize::from(shard)];
     let mut shards = known.transaction.shards();
-    if shards.any(|shard| heard(shard).is_none()) {
-        return Outcome::Wait;
+    if shards.any(|shard| heard(shard) == Some(Verdict::No)) {
+        return Outcome::Abort;
     }
     let mut shards = known.transaction.shards();
     if shards.all(|shard| heard(shard) == Some(Verdict::Yes)) {
         Outcome::Commit
     } else {
-        Outcome::Abort
+        Outcome::Wait
     }
 }

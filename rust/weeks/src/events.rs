@@ -1,15 +1,16 @@
 //! What happened at a call, beside its answer.
 
 use reference::{
-    Answer, Done, Input, Outcome, Output, Record, Refusal, Shard, Token, Transaction, Verdict,
+    Answer, Done, Input, Known, LIMITS, Outcome, Output, Record, Refusal, Shard, Token, TokenId,
+    Transaction, Verdict,
 };
 
 use crate::answers::label;
 use crate::tally::Tally;
-use crate::transactions::{known, receiver};
+use crate::transactions::{is_all_heard, known, receiver};
 
 /// Kinds of events at a shard.
-pub const SHARD_EVENTS: [&str; 17] = [
+pub const SHARD_EVENTS: [&str; 24] = [
     "no, with a pledge",
     "no, without a pledge",
     "no, token not held",
@@ -20,6 +21,13 @@ pub const SHARD_EVENTS: [&str; 17] = [
     "held off by the name alone",
     "held off, later committed",
     "held off, later aborted",
+    "aborted early, by its own no",
+    "aborted early, by a no heard",
+    "yes after an abort",
+    "no after an abort",
+    "all votes in after an early abort",
+    "not too full, another aborted early",
+    "not held off, another aborted early",
     "yes, with outputs only",
     "own vote again",
     "made token destroyed",
@@ -38,6 +46,7 @@ pub struct Before {
     /// The receiving shard's place among the shards.
     pub place: usize,
     pledged: usize,
+    held: usize,
 }
 
 impl Before {
@@ -46,8 +55,12 @@ impl Before {
     pub fn of(shards: &[Shard], record: &Record) -> Option<Self> {
         let number = receiver(record);
         let place = shards.iter().position(|shard| shard.number() == number)?;
-        let pledged = pledged(&shards[place]);
-        Some(Before { place, pledged })
+        let shard = &shards[place];
+        Some(Before {
+            place,
+            pledged: pledged(shard),
+            held: shard.tokens().len(),
+        })
     }
 }
 
@@ -158,9 +171,37 @@ impl Events<'_> {
                     "no, without a pledge"
                 });
                 self.causes_of_no(call);
+                if !is_all_heard(call.known()) {
+                    self.tally.add("aborted early, by its own no");
+                }
             }
         }
+        self.count_let_through(call, before);
         self.decide(call, outcome);
+    }
+
+    /// Counts a registration that would have been refused if transactions that
+    /// were aborted before all votes were in still waited for these votes.
+    fn count_let_through(&mut self, call: &Carried, before: Before) {
+        let here = call.shard.number();
+        let others = call.shard.known().iter();
+        let others = others.filter(|known| known.transaction != *call.transaction);
+        let open = others.filter(|known| !is_all_heard(known));
+        let open: Vec<&Transaction> = open.map(|known| &known.transaction).collect();
+        let outputs = open.iter().map(|open| outputs_at(here, open).count());
+        let to_come: usize = outputs.sum();
+        let new = outputs_at(here, call.transaction).count();
+        if before.held + to_come + new > LIMITS.tokens {
+            self.tally.add("not too full, another aborted early");
+        }
+        let makes = |open: &Transaction, token: TokenId| {
+            let mut indices = outputs_at(here, open).map(|(index, _)| index);
+            open.number == token.creator && indices.any(|index| index == token.index)
+        };
+        let mut inputs = inputs_at(here, call.transaction);
+        if inputs.any(|input| open.iter().any(|open| makes(open, input.token))) {
+            self.tally.add("not held off, another aborted early");
+        }
     }
 
     fn causes_of_no(&mut self, call: &Carried) {
@@ -171,8 +212,7 @@ impl Events<'_> {
             match call.shard.tokens().iter().find(named) {
                 None => {
                     self.tally.add("no, token not held");
-                    let waits = undecided(call.shard, input.token.creator);
-                    if waits.is_some_and(|creator| creator != call.transaction) {
+                    if undecided(call.shard, input.token.creator).is_some() {
                         self.tally.add("no, not to be made here");
                     }
                 }
@@ -193,9 +233,30 @@ impl Events<'_> {
                 if call.overtakes(sender) {
                     self.tally.add("vote overtaking another");
                 }
-                self.decide(call, outcome);
+                self.hear(call, sender, outcome);
             }
             _ => {}
+        }
+    }
+
+    /// A fresh vote was noted. One that comes after an abort decides nothing.
+    fn hear(&mut self, call: &Carried, sender: u8, outcome: Outcome) {
+        let now = call.known();
+        let mut before = *now;
+        let verdict = before.heard[usize::from(sender)].take();
+        let early = !is_all_heard(now);
+        if before.outcome() != Outcome::Abort {
+            if outcome == Outcome::Abort && early {
+                self.tally.add("aborted early, by a no heard");
+            }
+            return self.decide(call, outcome);
+        }
+        self.tally.add(match verdict {
+            Some(Verdict::No) => "no after an abort",
+            _ => "yes after an abort",
+        });
+        if !early {
+            self.tally.add("all votes in after an early abort");
         }
     }
 
@@ -231,6 +292,11 @@ impl Events<'_> {
 }
 
 impl Carried<'_> {
+    /// What the receiver now keeps of the transaction.
+    fn known(&self) -> &Known {
+        known(self.shard, self.transaction).expect("it is known after the call")
+    }
+
     /// Whether an earlier vote of this sender is still on its way to the shard.
     fn overtakes(&self, sender: u8) -> bool {
         let mut shards = self.shards.iter();
@@ -250,6 +316,12 @@ impl Carried<'_> {
 fn inputs_at(number: u8, transaction: &Transaction) -> impl Iterator<Item = &Input> {
     let inputs = transaction.used_inputs().iter();
     inputs.filter(move |input| input.token.shard == number)
+}
+
+/// The transaction's outputs at the shard of this number, each with its index.
+fn outputs_at(number: u8, transaction: &Transaction) -> impl Iterator<Item = (u8, &Output)> {
+    let outputs = (0..).zip(transaction.used_outputs());
+    outputs.filter(move |(_, output)| output.shard == number)
 }
 
 /// The undecided transaction that the shard knows by this number.
@@ -283,7 +355,6 @@ fn committed(shard: &Shard) -> impl Iterator<Item = &Transaction> {
 
 /// How many tokens were made at the shard.
 fn made(shard: &Shard) -> usize {
-    let outputs = committed(shard).flat_map(Transaction::used_outputs);
-    let here = outputs.filter(|output| output.shard == shard.number());
-    here.count()
+    let outputs = committed(shard).flat_map(|made| outputs_at(shard.number(), made));
+    outputs.count()
 }

@@ -50,6 +50,8 @@ enum Orders {
     LastShardLate,
     /// A delivery comes after both its shards have registered.
     NoneEarly,
+    /// As `NoneEarly`, and what is held off is sent again as in `HeldOffAgain`.
+    NoneEarlyHeldOffAgain,
     /// As `NoneEarly`, but too many to be played one by one: so many of them
     /// that every step is taken from every state that some order leads to.
     EveryTransition,
@@ -155,6 +157,20 @@ pub fn scenarios() -> Vec<Scenario> {
             &[(5, &[genesis(0), genesis(1)], &[2, 2])],
             Orders::LastShardLate,
             &[&[5]],
+        ),
+        Scenario::new(
+            "one no or two of three votes, and a transaction behind them",
+            &[1],
+            &[
+                (5, &[genesis(0), genesis(1)], &[1, 2]),
+                (6, &[(1, 5, 0), genesis(1)], &[1, 1]),
+            ],
+            Orders::NoneEarlyHeldOffAgain,
+            // Shard 0 has no token, and votes no on 5. Where 6 comes to shard 1
+            // before 5, it is voted no and keeps the token there pledged, so
+            // that shard 1 votes no on 5 as well. Else it is held off until
+            // shard 1 hears the no on 5, with shard 2's yes or without it.
+            &[&[]],
         ),
     ]
 }
@@ -363,7 +379,7 @@ impl Scenario {
         let mut held_off: Vec<usize> = Vec::new();
         for &place in order {
             let answer = call(place, &mut calls);
-            if self.orders == Orders::HeldOffAgain {
+            if self.orders.sends_again() {
                 held_off.retain(|&place| call(place, &mut calls) == Err(Refusal::HeldOff));
             }
             if answer == Err(Refusal::HeldOff) {
@@ -407,9 +423,17 @@ impl Scenario {
 }
 
 impl Orders {
-    /// Whether a step may come too early.
+    /// Whether a delivery may come too early.
     fn may_be_early(self) -> bool {
-        !matches!(self, Orders::NoneEarly | Orders::EveryTransition)
+        matches!(
+            self,
+            Orders::All | Orders::HeldOffAgain | Orders::LastShardLate
+        )
+    }
+
+    /// Whether a registration that is held off is sent again after each step.
+    fn sends_again(self) -> bool {
+        matches!(self, Orders::HeldOffAgain | Orders::NoneEarlyHeldOffAgain)
     }
 
     /// Whether `step` has to come after `other`.
@@ -423,13 +447,15 @@ impl Orders {
         };
         match (self, *step) {
             (
-                Orders::NoneEarly | Orders::EveryTransition,
+                _,
                 Step::Deliver {
                     transaction,
                     sender,
                     receiver,
                 },
-            ) => transaction == registered && (at == sender || at == receiver),
+            ) if !self.may_be_early() => {
+                transaction == registered && (at == sender || at == receiver)
+            }
             (Orders::LastShardLate, Step::Register { transaction, shard }) => {
                 let last = shards(&transactions[transaction]).pop();
                 transaction == registered && Some(shard) == last && at != shard

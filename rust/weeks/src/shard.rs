@@ -3,7 +3,7 @@
 use reference::{Input, LIMITS, Outcome, Record, SLOTS, Shard, TokenId, Transaction, Verdict};
 
 use crate::rng::Rng;
-use crate::transactions::{add_input, transfer, variant};
+use crate::transactions::{add_input, is_all_heard, transfer, variant};
 use crate::week::{Plan, Week, Wrong};
 
 /// What a week is like.
@@ -324,17 +324,24 @@ impl Week<'_, ShardStyle, Shard> {
         self.held(self.here(), token, wrong)
     }
 
-    /// An output of an undecided transaction, as if it were made here.
+    /// An output, as if it were made here, of a transaction that waits for
+    /// votes; now and then of one that was aborted while votes were missing, so
+    /// that 17 is also tried where one no has ended the wait.
     fn output_to_come(&mut self) -> Option<Input> {
+        let outcome = if self.rng.once_in(4) {
+            Outcome::Abort
+        } else {
+            Outcome::Wait
+        };
         let known = self.ledger.known().iter();
-        let undecided: Vec<Transaction> = known
-            .filter(|known| known.outcome() == Outcome::Wait)
+        let open: Vec<Transaction> = known
+            .filter(|known| known.outcome() == outcome && !is_all_heard(known))
             .map(|known| known.transaction)
             .collect();
-        if undecided.is_empty() {
+        if open.is_empty() {
             return None;
         }
-        let creator = self.rng.pick(&undecided);
+        let creator = self.rng.pick(&open);
         let mut input = self.output_of(&creator);
         input.token.shard = self.here();
         Some(input)

@@ -46,6 +46,13 @@ pub(crate) fn known<'a>(shard: &'a Shard, transaction: &Transaction) -> Option<&
         .find(|known| known.transaction == *transaction)
 }
 
+/// Whether the votes of all the transaction's shards are in. An abort may come
+/// before.
+pub(crate) fn is_all_heard(known: &Known) -> bool {
+    let mut shards = known.transaction.shards();
+    shards.all(|shard| known.heard[usize::from(shard)].is_some())
+}
+
 /// Adds an input, unless its token is among them.
 pub(crate) fn add_input(inputs: &mut Vec<Input>, input: Input) {
     if inputs.iter().all(|other| other.token != input.token) {

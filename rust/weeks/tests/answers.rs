@@ -59,7 +59,7 @@ fn givers() {
     assert_eq!(numbers(Giver::Cluster), cluster);
     let both = given_by(&[Giver::Shard, Giver::Cluster]);
     assert!(carried_out().iter().all(|words| both.contains(words)));
-    for never in ["YES ABORT", "NO COMMIT"] {
+    for never in ["YES ABORT", "NO COMMIT", "NO WAIT"] {
         assert!(!both.contains(&never) && !carried_out().contains(&never));
     }
     let others = never_given_by(&[Giver::Shard, Giver::Cluster]);

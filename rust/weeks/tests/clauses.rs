@@ -16,9 +16,16 @@ use weeks::{
 const WEEKS: u64 = 3000;
 
 /// What the clauses have to be tried on.
-const MET: [&str; 10] = [
+const MET: [&str; 17] = [
     "REFUSED 17",
     "held off, later committed",
+    "aborted early, by its own no",
+    "aborted early, by a no heard",
+    "yes after an abort",
+    "no after an abort",
+    "all votes in after an early abort",
+    "not too full, another aborted early",
+    "not held off, another aborted early",
     "HEARD COMMIT",
     "HEARD ABORT",
     "AGAIN COMMIT",
@@ -86,8 +93,9 @@ fn every_order_keeps_the_clauses() {
     }
 }
 
-/// The reference keeps its promises about a lone shard's answers: decisions
-/// come with the last vote, and twelve is never met in a cluster.
+/// The reference keeps its promises about answers: a no aborts at once, a
+/// registration decides nothing else where other shards take part, and twelve is
+/// never met in a cluster.
 #[test]
 fn answers_that_cannot_be() {
     let mut lone = Tally::default();
@@ -135,31 +143,40 @@ fn away(number: u32) -> Transaction {
     transaction
 }
 
-fn calls(transaction: Transaction) -> Vec<Record> {
-    let vote = |sender, receiver| Record::Vote {
+/// Token (0, 0, 0).
+fn mint() -> Record {
+    Record::Mint {
+        receiver: 0,
+        index: 0,
+        owner: 10,
+        amount: 3,
+    }
+}
+
+fn register(receiver: u8, transaction: Transaction) -> Record {
+    Record::Register {
+        receiver,
+        transaction,
+    }
+}
+
+fn vote(verdict: u8, sender: u8, receiver: u8, transaction: Transaction) -> Record {
+    Record::Vote {
         receiver,
         sender,
-        verdict: 1,
+        verdict,
         transaction,
-    };
+    }
+}
+
+fn calls(transaction: Transaction) -> Vec<Record> {
     vec![
-        Record::Mint {
-            receiver: 0,
-            index: 0,
-            owner: 10,
-            amount: 3,
-        },
-        Record::Register {
-            receiver: 0,
-            transaction,
-        },
-        Record::Register {
-            receiver: 1,
-            transaction,
-        },
-        vote(0, 1),
-        vote(1, 0),
-        vote(1, 0),
+        mint(),
+        register(0, transaction),
+        register(1, transaction),
+        vote(1, 0, 1, transaction),
+        vote(1, 1, 0, transaction),
+        vote(1, 1, 0, transaction),
     ]
 }
 
@@ -305,4 +322,63 @@ fn wrong_states_are_caught() {
         }
     };
     assert!(caught(&again, released), "a refused call releases a pledge");
+}
+
+/// Token (0, 0, 0) is shared out between the shards 1 and 2.
+fn shared() -> Transaction {
+    let mut transaction = away(5);
+    transaction.output_count = 2;
+    transaction.outputs[0].amount = 2;
+    transaction.outputs[1] = Output {
+        shard: 2,
+        owner: 10,
+        amount: 1,
+    };
+    transaction
+}
+
+/// A no that nobody has given aborts at shard 2, with a vote missing there, while
+/// all inputs are available: no token is ever made there.
+#[test]
+fn wrong_noes_are_caught() {
+    let shared = shared();
+    let mut records = vec![mint()];
+    records.extend([0, 1, 2].map(|shard| register(shard, shared)));
+    records.extend([(0, 2), (0, 1), (2, 1), (1, 2)].map(|(s, r)| vote(1, s, r, shared)));
+    assert!(!caught(&records, |_, _| ()), "nothing is wrong");
+
+    let wrong = |call: usize, shards: &mut Shards| {
+        if call >= 4 {
+            shards[2].0.clear();
+            shards[2].1[0].heard[0] = Some(Verdict::No);
+        }
+    };
+    assert!(!caught(&records[..6], wrong), "nobody decides otherwise");
+    assert!(caught(&records[..7], wrong), "shard 1 commits");
+
+    // Without what shard 1 hears: now shard 2 has all votes.
+    let records = [&records[..5], &records[7..]].concat();
+    assert!(!caught(&records[..5], wrong), "not all votes are in");
+    assert!(caught(&records, wrong), "each input was available");
+}
+
+/// Votes that come after an abort.
+#[test]
+fn wrong_states_after_a_no_are_caught() {
+    let shared = shared();
+    let mut records = Vec::from([0, 1, 2].map(|shard| register(shard, shared)));
+    records.push(vote(0, 0, 2, shared));
+    records.push(vote(1, 1, 2, shared));
+    assert!(!caught(&records, |_, _| ()), "nothing is wrong");
+    let after = |heard: [Option<Verdict>; 2]| {
+        move |call: usize, shards: &mut Shards| {
+            if call >= 4 {
+                shards[2].1[0].heard[..2].copy_from_slice(&heard);
+            }
+        }
+    };
+    let (no, yes) = (Some(Verdict::No), Some(Verdict::Yes));
+    assert!(!caught(&records, after([no, yes])), "nothing is wrong");
+    assert!(caught(&records, after([no, None])), "a vote is not noted");
+    assert!(caught(&records, after([yes, yes])), "the no is forgotten");
 }

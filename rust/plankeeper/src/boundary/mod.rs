@@ -17,7 +17,9 @@
 //! | 300 + outcome | a vote heard for the first time |
 //! | 400 + outcome | a vote that was heard before |
 //!
-//! The outcome is 0 wait, 1 commit or 2 abort.
+//! The outcome is 0 wait, 1 commit or 2 abort. 200, 201 and 212 are never given:
+//! a shard that votes no aborts at once, and one that votes yes has then heard
+//! no other vote.
 //!
 //! # Why this is safe
 //!

@@ -64,8 +64,8 @@ fn codes_of_a_cluster() {
     let mut codes = BTreeSet::new();
     play(&mut Cluster::new(), &cluster_story(), &mut codes);
     let every = [
-        3, 4, 5, 6, 7, 8, 9, 10, 11, 13, 14, 16, 17, 100, 200, 202, 210, 211, 300, 301, 302, 400,
-        401, 402,
+        3, 4, 5, 6, 7, 8, 9, 10, 11, 13, 14, 16, 17, 100, 202, 210, 211, 300, 301, 302, 400, 401,
+        402,
     ];
     assert_eq!(codes, every.into());
 }
@@ -77,8 +77,8 @@ fn codes_of_a_shard() {
         play(&mut Shard::new(number), &told, &mut codes);
     }
     let every = [
-        3, 4, 5, 6, 7, 8, 9, 10, 11, 12, 13, 14, 17, 100, 200, 202, 210, 211, 300, 301, 302, 400,
-        401, 402,
+        3, 4, 5, 6, 7, 8, 9, 10, 11, 12, 13, 14, 17, 100, 202, 210, 211, 300, 301, 302, 400, 401,
+        402,
     ];
     assert_eq!(codes, every.into());
 }

@@ -78,8 +78,18 @@ fn words_of_queries() {
     assert_eq!(memory.known_at(1, 1, &mut known), 2);
     assert_eq!(known[..35], *transaction(6, &[(1, 0)], &[1]).words());
     assert_eq!(known[35..], [0, 1, 0, 0, 0, 0, 0, 0]);
-    let outcomes = [5, 6, 7, 8, 9].map(|number| memory.outcome_of(1, number));
-    assert_eq!(outcomes, [1, 2, 1, 0, 3]);
+    // Transaction 8 is aborted by the no of shard 1 itself, which has heard no
+    // other vote; 11 by one that it has heard, while at shard 2 it waits.
+    let outcomes = [5, 6, 7, 8, 9, 11].map(|number| memory.outcome_of(1, number));
+    assert_eq!(outcomes, [1, 2, 1, 2, 3, 2]);
+    assert_eq!(memory.outcome_of(2, 11), 0);
+    assert_eq!(memory.known_at(1, 3, &mut known), 2);
+    assert_eq!((known[0], &known[35..]), (8, &[0, 1, 0, 0, 0, 0, 0, 0][..]));
+    assert_eq!(memory.known_at(1, 4, &mut known), 2);
+    assert_eq!(
+        (known[0], &known[35..]),
+        (11, &[0, 2, 2, 1, 2, 0, 0, 0][..])
+    );
 
     for (shard, k) in [(7, 128), (7, usize::MAX), (0, 0), (8, 0), (u32::MAX, 0)] {
         (token, known) = ([9; 5], [9; 43]);

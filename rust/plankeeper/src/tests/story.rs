@@ -75,13 +75,14 @@ pub fn transaction(number: u32, tokens: &[(u8, u8)], shards: &[u8]) -> Transacti
 }
 
 /// One of shard 1 alone, one that comes too late for the same token, one of two
-/// shards and one of three.
-fn transactions() -> [Transaction; 4] {
+/// shards, one of three and one of four, on which shard 3 votes no.
+fn transactions() -> [Transaction; 5] {
     [
         transaction(5, &[(1, 0)], &[1]),
         transaction(6, &[(1, 0)], &[1]),
         transaction(7, &[(1, 1)], &[2]),
         transaction(8, &[(1, 1), (2, 0), (3, 0)], &[1, 2, 3]),
+        transaction(11, &[(2, 1), (3, 1)], &[1, 4]),
     ]
 }
 
@@ -143,7 +144,7 @@ pub fn encode(record: &Record) -> Vec<u8> {
 
 /// Every answer that a cluster can give to a call by fields.
 pub fn cluster_story() -> Vec<Told> {
-    let [here, late, both, three] = transactions();
+    let [here, late, both, three, four] = transactions();
     // What shard 2 is to hold after `both`.
     let behind = successor(10, 7, 2);
     let mut told = vec![
@@ -151,6 +152,7 @@ pub fn cluster_story() -> Vec<Told> {
         (mint(1, 1), 100),
         (mint(1, 1), 14),
         (mint(2, 0), 100),
+        (mint(2, 1), 100),
         (mint(8, 0), 3),
         (mint(1, 128), 3),
         (register(1, here), 211),
@@ -170,14 +172,25 @@ pub fn cluster_story() -> Vec<Told> {
         (yes(1, 2, both), 301),
         (register(2, behind), 211),
         (yes(3, 2, both), 6),
-        (register(1, three), 200),
+        // `both` has taken the token of shard 1, and shard 3 never had one.
+        (register(1, three), 202),
         (register(2, three), 210),
-        (register(3, three), 200),
-        (no(1, 2, three), 300),
-        (no(1, 2, three), 400),
+        (register(3, three), 202),
+        (no(1, 2, three), 302),
+        (no(1, 2, three), 402),
         (yes(1, 2, three), 16),
         (no(3, 2, three), 302),
         (no(3, 2, three), 402),
+        (register(1, four), 210),
+        (register(2, four), 210),
+        (register(3, four), 202),
+        (yes(2, 1, four), 300),
+        (yes(2, 1, four), 400),
+        (no(3, 1, four), 302),
+        (yes(4, 1, four), 16),
+        (register(4, four), 210),
+        (yes(4, 1, four), 302),
+        (yes(4, 1, four), 402),
     ];
     told.extend(refused_forms());
     told.extend(full_shard());
@@ -187,9 +200,9 @@ pub fn cluster_story() -> Vec<Told> {
 /// Every answer that a lone shard can give to a call, first shard 1 and then
 /// shard 7.
 pub fn shard_stories() -> [(u8, Vec<Told>); 2] {
-    let [here, late, both, three] = transactions();
-    // What shard 1 would hold if `three` were committed.
-    let behind = successor(10, 8, 1);
+    let [here, late, both, three, four] = transactions();
+    // What shard 1 would hold if `four` were committed.
+    let behind = successor(10, 11, 1);
     let mut told = vec![
         (mint(1, 0), 100),
         (mint(1, 1), 100),
@@ -210,11 +223,18 @@ pub fn shard_stories() -> [(u8, Vec<Told>); 2] {
         (no(2, 1, both), 12),
         (yes(3, 1, both), 6),
         (register(2, both), 3),
-        (register(1, three), 200),
-        (yes(2, 1, three), 300),
+        (register(1, three), 202),
+        (yes(2, 1, three), 302),
+        (no(3, 1, three), 302),
+        (register(1, four), 210),
+        (yes(2, 1, four), 300),
         (register(1, behind), 17),
-        (yes(3, 1, three), 302),
+        (no(3, 1, four), 302),
         (register(1, behind), 202),
+        (yes(3, 1, four), 12),
+        (yes(4, 1, four), 302),
+        (yes(4, 1, four), 402),
+        (no(4, 1, four), 12),
     ];
     told.extend(refused_forms());
     [(1, told), (7, full_shard())]
