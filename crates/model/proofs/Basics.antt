@@ -248,12 +248,12 @@ any-of f {l = y ∷ l} (List·Memᴰ·tail m) e = go (f y) (any-of f m e)
     go true q = refl
     go false q = q
 
--- some element passes exactly if not all fail
-pub any-not-all : {A : Type 0} (f : A → Bool) (l : List A) → any f l ≡ not (all (λ (x : A). not (f x)) l)
-any-not-all f [] = refl
-any-not-all f (x ∷ l) = go (f x) (any-not-all f l)
+-- none passes exactly if all fail
+pub none-all : {A : Type 0} (f : A → Bool) (l : List A) → not (any f l) ≡ all (λ (x : A). not (f x)) l
+none-all f [] = refl
+none-all f (x ∷ l) = go (f x) (none-all f l)
   where
-    go : (b : Bool) → any f l ≡ not (all (λ y. not (f y)) l) → b || any f l ≡ not (not b && all (λ y. not (f y)) l)
+    go : (b : Bool) → not (any f l) ≡ all (λ y. not (f y)) l → not (b || any f l) ≡ not b && all (λ y. not (f y)) l
     go true h = refl
     go false h = h
 

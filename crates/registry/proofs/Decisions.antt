@@ -3,67 +3,107 @@ use Prim.Native.Nat.{ℕ, suc, _+_, _*_, _≤_, _<_}
 use native.Mathlib.Omega.{arith}
 use native.Mathlib.Nat.{mul-suc}
 use mathlib.Core.Path.{_≡_, refl, sym, ap, _∙_}
-use mathlib.Core.Bool.{Bool, true, false, cond, not, _&&_}
+use mathlib.Core.Bool.{Bool, true, false, cond, not, _&&_, and-true, or-false, Bool·not-not}
 use mathlib.Core.List.{List, [], _∷_, _++_, map}
-use lib.Dec.{ltb}
+use lib.Dec.{eqb, ltb}
 use lib.ListN.{length, getD, take, length-append, length-take}
 use Rattle.transaction.specs.declared.Output.{Output}
 use Rattle.transaction.specs.declared.Transaction.{Transaction}
 use Rattle.transaction.specs.Lists.{all, total}
-use Rattle.transaction.specs.Tokens.{inputShard, outputShard, usedInputs, usedOutputs, shardsOf, zeroOutput}
+use Rattle.transaction.specs.Tokens.{usedOutputs, shardsOf, zeroOutput}
 use Rattle.model.specs.declared.Known.{Known}
 use Rattle.model.specs.declared.Outcome.{Outcome}
 use Rattle.model.specs.declared.Outcome.the-variants.{Wait, Commit, Abort}
 use Rattle.model.specs.Lists.{keep}
-use Rattle.model.specs.Steps.{isNo, someNo, decide, outcomeOf, outputHere, outputsHere}
+use Rattle.model.specs.Steps.{isYes, isNo, someNo, decide, outcomeOf, outputHere, outputsHere}
 use Rattle.model.specs.Shard.{isUndecided, ifUndecided, reservedBy, reserved}
-use Rattle.model.proofs.Basics.{all-append, all-map, any-not-all}
+use Rattle.model.proofs.Basics.{none-all, all-append, all-map}
 use Rattle.model.proofs.Capacity.{keep-length}
 use Rattle.layout.specs.Layout.{knownSlots, shardOf, ledgerOf, noKnown, slotKnown}
 use Rattle.layout.proofs.Slots.{four-outputs}
 use Rattle.layout.proofs.Ledgers.{known-length, known-entry}
 use Rattle.loops.specs.Lists.{oneIf}
-use Rattle.loops.proofs.Fours.{keep-by}
-use Rattle.registry.specs.Agreement.{agrees, inputAgrees, outputAgrees}
+use Rattle.loops.proofs.Fours.{keep-by, all-by}
+use Rattle.registry.specs.declared.Votes.{Votes}
+use Rattle.registry.specs.Votes.{Tells, Joins}
 
--- every shard of the transaction agrees: those of its inputs, and those of its outputs
-pub all-agree : (spoken : Bool) (heard : List ℕ) (t : Transaction) {i o : Bool}
-    → i ≡ all (inputAgrees spoken heard) (take (t .«input_count») (t .inputs))
-    → o ≡ all (outputAgrees spoken heard) (take (t .«output_count») (t .outputs))
-    → i && o ≡ all (agrees spoken heard) (shardsOf t)
-all-agree spoken heard t ei eo =
-    rw (ei, eo)
-    (rw (← all-map (agrees spoken heard) inputShard (usedInputs t), ← all-map (agrees spoken heard) outputShard (usedOutputs t))
-    (sym (all-append (agrees spoken heard) (map inputShard (usedInputs t)) (map outputShard (usedOutputs t)))))
+-- told by what the one shard has said
+pub tells-one : (heard : List ℕ) {votes : Votes} {said shard at : ℕ} {used : Bool}
+    → (votes .«none_no» ≡ not (eqb said 1)) × (votes .«all_yes» ≡ eqb said 2)
+    → said ≡ getD heard shard 0
+    → shard ≡ at
+    → used ≡ true
+    → Tells votes heard (oneIf used at)
+tells-one heard {shard = shard} told es ea eu =
+    rw (eu, ← ea, or-false (isNo heard shard), and-true (isYes heard shard), ← es) told
 
--- the three outcomes, by whether none has said no and whether all have said yes
-module _ (t : Transaction) (heard : List ℕ) {none-no : Bool} (en : none-no ≡ all (agrees false heard) (shardsOf t)) where
-  -- some shard has said no
-  some-no : someNo t heard ≡ not none-no
-  some-no = any-not-all (isNo heard) (shardsOf t) ∙ ap not (sym en)
+-- of the shards of four slots, of which n are used
+module _ {A : Type 0} (d : A) (xs : List A) (long : length xs ≡ 4) (shardOf : A → ℕ) (heard : List ℕ) (n : ℕ) where
+  abbrev Slot : Votes → ℕ → Type 0
+  Slot votes i = Tells votes heard (oneIf (ltb i n) (shardOf (getD xs i d)))
 
-  pub decide-abort : not none-no ≡ true → Abort ≡ decide t heard
+  -- one question of one slot
+  one-at : (f : ℕ → Bool) (i : ℕ) {p : Bool} → p ≡ all f (oneIf (ltb i n) (shardOf (getD xs i d))) → p ≡ cond (ltb i n) (f (shardOf (getD xs i d))) true
+  one-at f i e = e ∙ go (ltb i n)
+    where
+      go : (b : Bool) → all f (oneIf b (shardOf (getD xs i d))) ≡ cond b (f (shardOf (getD xs i d))) true
+      go true = and-true (f (shardOf (getD xs i d)))
+      go false = refl
+
+  no-at : (i : ℕ) {votes : Votes} → Slot votes i → votes .«none_no» ≡ cond (ltb i n) (not (isNo heard (shardOf (getD xs i d)))) true
+  no-at i slot = one-at (λ q. not (isNo heard q)) i (slot .0 ∙ none-all (isNo heard) (oneIf (ltb i n) (shardOf (getD xs i d))))
+
+  pub tells-four : {a b c e two three votes : Votes} → Slot a 0 → Slot b 1 → Slot c 2 → Slot e 3
+      → Joins a b two
+      → Joins two c three
+      → Joins three e votes
+      → Tells votes heard (map shardOf (take n xs))
+  tells-four sa sb sc se j2 j3 j4 = (
+    rw (j4 .0, j3 .0, j2 .0, none-all (isNo heard) (map shardOf (take n xs)), all-map (λ q. not (isNo heard q)) shardOf (take n xs))
+        (all-by d xs long (λ x. not (isNo heard (shardOf x))) n (no-at 0 sa) (no-at 1 sb) (no-at 2 sc) (no-at 3 se)),
+    rw (j4 .1, j3 .1, j2 .1, all-map (isYes heard) shardOf (take n xs))
+        (all-by d xs long (λ x. isYes heard (shardOf x)) n
+        (one-at (isYes heard) 0 (sa .1))
+        (one-at (isYes heard) 1 (sb .1))
+        (one-at (isYes heard) 2 (sc .1))
+        (one-at (isYes heard) 3 (se .1))),
+  )
+
+-- of two lists of shards
+pub tells-both : (heard shards others : List ℕ) {a b votes : Votes}
+    → Tells a heard shards → Tells b heard others → Joins a b votes → Tells votes heard (shards ++ others)
+tells-both heard shards others ta tb j = (
+  rw (j .0, ta .0, tb .0, none-all (isNo heard) shards, none-all (isNo heard) others, none-all (isNo heard) (shards ++ others))
+      (sym (all-append (λ q. not (isNo heard q)) shards others)),
+  rw (j .1, ta .1, tb .1) (sym (all-append (isYes heard) shards others)),
+)
+
+-- the decision, by what is told of all shards
+module _ (t : Transaction) (heard : List ℕ) {votes : Votes} (told : Tells votes heard (shardsOf t)) where
+  some-no : someNo t heard ≡ not (votes .«none_no»)
+  some-no = sym (ap not (told .0) ∙ Bool·not-not (someNo t heard))
+
+  pub decide-abort : not (votes .«none_no») ≡ true → Abort ≡ decide t heard
   unfolding decide
   decide-abort n = rw (some-no, n) refl
 
-  module _ {all-yes : Bool} (ey : all-yes ≡ all (agrees true heard) (shardsOf t)) where
-    pub decide-commit : not none-no ≡ false → all-yes ≡ true → Commit ≡ decide t heard
-    unfolding decide
-    decide-commit n y = rw (some-no, n, ← ey, y) refl
+  pub decide-commit : not (votes .«none_no») ≡ false → votes .«all_yes» ≡ true → Commit ≡ decide t heard
+  unfolding decide
+  decide-commit n y = rw (some-no, n, ← told .1, y) refl
 
-    pub decide-wait : not none-no ≡ false → all-yes ≡ false → Wait ≡ decide t heard
-    unfolding decide
-    decide-wait n y = rw (some-no, n, ← ey, y) refl
+  pub decide-wait : not (votes .«none_no») ≡ false → votes .«all_yes» ≡ false → Wait ≡ decide t heard
+  unfolding decide
+  decide-wait n y = rw (some-no, n, ← told .1, y) refl
 
-    -- nothing is decided while neither holds
-    pub undecided-is : none-no && not all-yes ≡ isUndecided (decide t heard)
-    unfolding decide
-    undecided-is = rw (some-no, ← ey) (go none-no all-yes)
-      where
-        go : (n y : Bool) → n && not y ≡ isUndecided (cond (not n) Abort (cond y Commit Wait))
-        go true true = refl
-        go true false = refl
-        go false y = refl
+  -- nothing is decided while none is no and not all are yes
+  pub undecided-is : votes .«none_no» && not (votes .«all_yes») ≡ isUndecided (decide t heard)
+  unfolding decide
+  undecided-is = rw (some-no, ← told .1) (go (votes .«none_no») (votes .«all_yes»))
+    where
+      go : (n y : Bool) → n && not y ≡ isUndecided (cond (not n) Abort (cond y Commit Wait))
+      go true true = refl
+      go true false = refl
+      go false y = refl
 
 -- how many outputs are here
 one-length : {A : Type 0} (b : Bool) (x : A) → length (oneIf b x) ≡ cond b 1 0

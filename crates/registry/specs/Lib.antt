@@ -1,3 +1,3 @@
-pub mod Agreement
+pub mod Votes
 pub mod Numbers
 pub mod Made

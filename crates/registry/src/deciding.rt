@@ -1,15 +1,18 @@
 // Decision: abort as soon as one no is heard, the shard's own included; commit when votes of all the transaction's
 // shards are heard and all are yes. Of a known transaction only who takes part and what they said is read.
 ghost use mathlib.Core.Path.{_≡_};
-ghost use mathlib.Core.Bool.{true, cond};
+ghost use mathlib.Core.Bool.{not};
+ghost use mathlib.Core.List.{map};
 ghost use Prim.Native.Nat.{_<_};
+ghost use lib.Dec.{eqb};
 ghost use lib.ListN.{getD};
-ghost use Rattle.transaction.specs.Lists.{all};
-ghost use Rattle.transaction.specs.Tokens.{usedInputs, usedOutputs, shardsOf, zeroInput, zeroOutput};
+ghost use Rattle.transaction.specs.Tokens.{inputShard, outputShard, usedInputs, usedOutputs, shardsOf, zeroInput, zeroOutput};
 ghost use Rattle.model.specs.Steps.{outcomeOf};
 ghost use Rattle.model.specs.Shard.{isUndecided};
 ghost use Rattle.layout.specs.Layout.{knownSlots, slotKnown};
-ghost use Rattle.registry.specs.Agreement.{agrees, inputAgrees, outputAgrees};
+ghost use Rattle.loops.specs.Lists.{oneIf};
+ghost use Rattle.registry.specs.Votes.{Tells, Joins};
+use crate::Votes;
 use layout::Words;
 use layout::entries::heard_at;
 use layout::entries::input_count_at;
@@ -18,74 +21,90 @@ use layout::entries::output_count_at;
 use layout::entries::output_shard_at;
 use model::Outcome;
 
-// Has the shard said yes (spoken), or has it not said no. All slots are asked: to stop at the first no took longer.
-fn shard_agrees(s: &Words, k: usize, spoken: bool, shard: u8) -> bool
-    requires { ⌜ k < knownSlots ⌝ }
-    ensures { λ r. ⌜ r ≡ agrees spoken (slotKnown (now (s .entry)) k .heard) shard ⌝ }
+// What is heard of one shard's vote, by what it has said. The functions behind it tell the same of more and more shards.
+fn vote_of(said: u8) -> Votes
+    ensures { λ r. ⌜ (r .«none_no» ≡ not (eqb said 1)) × (r .«all_yes» ≡ eqb said 2) ⌝ }
 {
-    let said = heard_at(s, k, shard);
-    if spoken { said == 2 } else { said != 1 }
+    Votes {
+        none_no: said != 1,
+        all_yes: said == 2,
+    }
 }
 
-fn input_agrees(s: &Words, k: usize, spoken: bool, used: bool, i: usize) -> bool
+// Of two lots of shards. All slots are asked: to stop at the first no took longer.
+fn both(a: Votes, b: Votes) -> Votes
+    ensures { λ r. ⌜ Joins a b r ⌝ }
+{
+    Votes {
+        none_no: a.none_no & b.none_no,
+        all_yes: a.all_yes & b.all_yes,
+    }
+}
+
+// Of an input's shard. A slot that is not used counts as a yes.
+fn input_vote(s: &Words, k: usize, used: bool, i: usize) -> Votes
     requires { ⌜ (k < knownSlots) × (i < 4) ⌝ }
-    ensures { λ r. ⌜ r ≡ cond used
-        (inputAgrees spoken (slotKnown (now (s .entry)) k .heard)
-        (getD (slotKnown (now (s .entry)) k .transaction .inputs) i zeroInput)) true ⌝ }
+    ensures { λ r. ⌜ Tells r (slotKnown (now (s .entry)) k .heard)
+        (oneIf used (inputShard (getD (slotKnown (now (s .entry)) k .transaction .inputs) i zeroInput))) ⌝ }
 {
     if used {
         let shard = input_shard_at(s, k, i);
-        shard_agrees(s, k, spoken, shard)
+        let said = heard_at(s, k, shard);
+        vote_of(said)
     } else {
-        true
+        vote_of(2)
     }
 }
 
-fn output_agrees(s: &Words, k: usize, spoken: bool, used: bool, i: usize) -> bool
+// Of an output's shard.
+fn output_vote(s: &Words, k: usize, used: bool, i: usize) -> Votes
     requires { ⌜ (k < knownSlots) × (i < 4) ⌝ }
-    ensures { λ r. ⌜ r ≡ cond used
-        (outputAgrees spoken (slotKnown (now (s .entry)) k .heard)
-        (getD (slotKnown (now (s .entry)) k .transaction .outputs) i zeroOutput)) true ⌝ }
+    ensures { λ r. ⌜ Tells r (slotKnown (now (s .entry)) k .heard)
+        (oneIf used (outputShard (getD (slotKnown (now (s .entry)) k .transaction .outputs) i zeroOutput))) ⌝ }
 {
     if used {
         let shard = output_shard_at(s, k, i);
-        shard_agrees(s, k, spoken, shard)
+        let said = heard_at(s, k, shard);
+        vote_of(said)
     } else {
-        true
+        vote_of(2)
     }
 }
 
-fn inputs_agree(s: &Words, k: usize, spoken: bool) -> bool
+// Of the shards of all inputs.
+fn input_votes(s: &Words, k: usize) -> Votes
     requires { ⌜ k < knownSlots ⌝ }
-    ensures { λ r. ⌜ r ≡ all (inputAgrees spoken (slotKnown (now (s .entry)) k .heard))
-        (usedInputs (slotKnown (now (s .entry)) k .transaction)) ⌝ }
+    ensures { λ r. ⌜ Tells r (slotKnown (now (s .entry)) k .heard)
+        (map inputShard (usedInputs (slotKnown (now (s .entry)) k .transaction))) ⌝ }
 {
     let n = input_count_at(s, k);
-    input_agrees(s, k, spoken, 0 < n, 0)
-        & input_agrees(s, k, spoken, 1 < n, 1)
-        & input_agrees(s, k, spoken, 2 < n, 2)
-        & input_agrees(s, k, spoken, 3 < n, 3)
+    let a = input_vote(s, k, 0 < n, 0);
+    let b = input_vote(s, k, 1 < n, 1);
+    let c = input_vote(s, k, 2 < n, 2);
+    let d = input_vote(s, k, 3 < n, 3);
+    both(both(both(a, b), c), d)
 }
 
-fn outputs_agree(s: &Words, k: usize, spoken: bool) -> bool
+// Of those of all outputs.
+fn output_votes(s: &Words, k: usize) -> Votes
     requires { ⌜ k < knownSlots ⌝ }
-    ensures { λ r. ⌜ r ≡ all (outputAgrees spoken (slotKnown (now (s .entry)) k .heard))
-        (usedOutputs (slotKnown (now (s .entry)) k .transaction)) ⌝ }
+    ensures { λ r. ⌜ Tells r (slotKnown (now (s .entry)) k .heard)
+        (map outputShard (usedOutputs (slotKnown (now (s .entry)) k .transaction))) ⌝ }
 {
     let n = output_count_at(s, k);
-    output_agrees(s, k, spoken, 0 < n, 0)
-        & output_agrees(s, k, spoken, 1 < n, 1)
-        & output_agrees(s, k, spoken, 2 < n, 2)
-        & output_agrees(s, k, spoken, 3 < n, 3)
+    let a = output_vote(s, k, 0 < n, 0);
+    let b = output_vote(s, k, 1 < n, 1);
+    let c = output_vote(s, k, 2 < n, 2);
+    let d = output_vote(s, k, 3 < n, 3);
+    both(both(both(a, b), c), d)
 }
 
-// All its shards have said yes (spoken), or none has said no.
-fn all_agree(s: &Words, k: usize, spoken: bool) -> bool
+// Of all its shards.
+fn votes_at(s: &Words, k: usize) -> Votes
     requires { ⌜ k < knownSlots ⌝ }
-    ensures { λ r. ⌜ r ≡ all (agrees spoken (slotKnown (now (s .entry)) k .heard))
-        (shardsOf (slotKnown (now (s .entry)) k .transaction)) ⌝ }
+    ensures { λ r. ⌜ Tells r (slotKnown (now (s .entry)) k .heard) (shardsOf (slotKnown (now (s .entry)) k .transaction)) ⌝ }
 {
-    inputs_agree(s, k, spoken) & outputs_agree(s, k, spoken)
+    both(input_votes(s, k), output_votes(s, k))
 }
 
 // The outcome of the known transaction in a slot.
@@ -93,10 +112,11 @@ pub fn outcome_at(s: &Words, k: usize) -> Outcome
     requires { ⌜ k < knownSlots ⌝ }
     ensures { λ r. ⌜ r ≡ outcomeOf (slotKnown (now (s .entry)) k) ⌝ }
 {
-    if !all_agree(s, k, false) {
+    let votes = votes_at(s, k);
+    if !votes.none_no {
         return Outcome::Abort;
     }
-    if all_agree(s, k, true) {
+    if votes.all_yes {
         Outcome::Commit
     } else {
         Outcome::Wait
@@ -108,5 +128,6 @@ pub(crate) fn is_undecided(s: &Words, k: usize) -> bool
     requires { ⌜ k < knownSlots ⌝ }
     ensures { λ r. ⌜ r ≡ isUndecided (outcomeOf (slotKnown (now (s .entry)) k)) ⌝ }
 {
-    all_agree(s, k, false) & !all_agree(s, k, true)
+    let votes = votes_at(s, k);
+    votes.none_no & !votes.all_yes
 }

@@ -3,31 +3,25 @@ use borrow.Author.Needs.{needs}
 use Rattle.registry.proofs.deciding.outcome_at.Statement.{statement}
 use Rattle.registry.proofs.deciding.outcome_at.Tie as tie
 
-all-agree-requires : tie.Need-all-agree-requires
-all-agree-requires c κs = search needs
+votes-at-requires : tie.Need-votes-at-requires
+votes-at-requires c κs = search needs
 
 returns : tie.Need-returns
 returns c =
-    let silent : tie.After-all-agree = search in
-    decide-abort _ _ (silent .all-agree .ensures) (c .if1 .taken)
-
-all-agree-requires-2 : tie.Need-all-agree-requires-2
-all-agree-requires-2 c κs = search needs
+    let votes : tie.After-votes-at = search in
+    decide-abort _ _ (votes .votes-at .ensures) (c .if1 .taken)
 
 returns-2 : tie.Need-returns-2
 returns-2 c =
-    let spoken : tie.After-all-agree2 = search in
     let none-no : tie.Else1 = search in
-    let silent : tie.After-all-agree = search in
-    decide-commit _ _ (silent .all-agree .ensures) (spoken .all-agree2 .ensures) (none-no .if1 .left) (c .if2 .taken)
+    let votes : tie.After-votes-at = search in
+    decide-commit _ _ (votes .votes-at .ensures) (none-no .if1 .left) (c .if2 .taken)
 
 returns-3 : tie.Need-returns-3
 returns-3 c =
-    let spoken : tie.After-all-agree2 = search in
     let none-no : tie.Else1 = search in
-    let silent : tie.After-all-agree = search in
-    decide-wait _ _ (silent .all-agree .ensures) (spoken .all-agree2 .ensures) (none-no .if1 .left) (c .if2 .left)
+    let votes : tie.After-votes-at = search in
+    decide-wait _ _ (votes .votes-at .ensures) (none-no .if1 .left) (c .if2 .left)
 
 pub outcome-at-spec : {M : Type 1} → statement M
-outcome-at-spec =
-    tie.close (tie.spec all-agree-requires returns all-agree-requires-2 returns-2 returns-3)
+outcome-at-spec = tie.close (tie.spec votes-at-requires returns returns-2 returns-3)
