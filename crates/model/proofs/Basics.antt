@@ -248,15 +248,6 @@ any-of f {l = y ∷ l} (List·Memᴰ·tail m) e = go (f y) (any-of f m e)
     go true q = refl
     go false q = q
 
--- none passes exactly if all fail
-pub none-all : {A : Type 0} (f : A → Bool) (l : List A) → not (any f l) ≡ all (λ (x : A). not (f x)) l
-none-all f [] = refl
-none-all f (x ∷ l) = go (f x) (none-all f l)
-  where
-    go : (b : Bool) → not (any f l) ≡ all (λ y. not (f y)) l → not (b || any f l) ≡ not b && all (λ y. not (f y)) l
-    go true h = refl
-    go false h = h
-
 -- an element of a list that has none such
 pub any-none : {A : Type 0} (f : A → Bool) {l : List A} {x : A} → any f l ≡ false → List·Memᴰ x l → f x ≡ false
 any-none f e m = not-yes (λ y. clash (any-of f m y) e)

@@ -36,7 +36,7 @@ use Rattle.model.proofs.Basics.{
 use Rattle.model.proofs.Outcomes.{one≢two, outcome-yes, outcome-no, no-abort, outcome-commit, Marks, all-in-decides}
 use Rattle.model.proofs.Refusals.{part-in}
 
--- ---- One shard
+-- ---- The own vote
 
 -- a noted verdict is heard
 noted-heard : (b : Bool) → not (eqb (noted b) 0) ≡ true

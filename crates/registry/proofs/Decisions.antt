@@ -3,107 +3,123 @@ use Prim.Native.Nat.{ℕ, suc, _+_, _*_, _≤_, _<_}
 use native.Mathlib.Omega.{arith}
 use native.Mathlib.Nat.{mul-suc}
 use mathlib.Core.Path.{_≡_, refl, sym, ap, _∙_}
-use mathlib.Core.Bool.{Bool, true, false, cond, not, _&&_, and-true, or-false, Bool·not-not}
-use mathlib.Core.List.{List, [], _∷_, _++_, map}
+use mathlib.Core.Bool.{Bool, true, false, cond, _||_, _&&_, and-true, or-false}
+use mathlib.Core.List.{List, [], _∷_, _++_, map, map-append}
+use borrow.Author.Tests.{ne-eqb}
 use lib.Dec.{eqb, ltb}
 use lib.ListN.{length, getD, take, length-append, length-take}
 use Rattle.transaction.specs.declared.Output.{Output}
 use Rattle.transaction.specs.declared.Transaction.{Transaction}
-use Rattle.transaction.specs.Lists.{all, total}
-use Rattle.transaction.specs.Tokens.{usedOutputs, shardsOf, zeroOutput}
+use Rattle.transaction.specs.Lists.{any, all, total}
+use Rattle.transaction.specs.Tokens.{inputShard, outputShard, usedInputs, usedOutputs, zeroOutput}
+use Rattle.transaction.proofs.Slots.{any-append}
 use Rattle.model.specs.declared.Known.{Known}
 use Rattle.model.specs.declared.Outcome.{Outcome}
 use Rattle.model.specs.declared.Outcome.the-variants.{Wait, Commit, Abort}
 use Rattle.model.specs.Lists.{keep}
-use Rattle.model.specs.Steps.{isYes, isNo, someNo, decide, outcomeOf, outputHere, outputsHere}
+use Rattle.model.specs.Steps.{isYes, isNo, decide, outcomeOf, outputHere, outputsHere}
 use Rattle.model.specs.Shard.{isUndecided, ifUndecided, reservedBy, reserved}
-use Rattle.model.proofs.Basics.{none-all, all-append, all-map}
+use Rattle.model.proofs.Basics.{all-append}
 use Rattle.model.proofs.Capacity.{keep-length}
 use Rattle.layout.specs.Layout.{knownSlots, shardOf, ledgerOf, noKnown, slotKnown}
 use Rattle.layout.proofs.Slots.{four-outputs}
 use Rattle.layout.proofs.Ledgers.{known-length, known-entry}
 use Rattle.loops.specs.Lists.{oneIf}
-use Rattle.loops.proofs.Fours.{keep-by, all-by}
-use Rattle.registry.specs.declared.Votes.{Votes}
-use Rattle.registry.specs.Votes.{Tells, Joins}
+use Rattle.loops.proofs.Fours.{used-slots, keep-by}
+use Rattle.registry.specs.Decision.{decisionOf, together}
 
--- told by what the one shard has said
-pub tells-one : (heard : List ℕ) {votes : Votes} {said shard at : ℕ} {used : Bool}
-    → (votes .«none_no» ≡ not (eqb said 1)) × (votes .«all_yes» ≡ eqb said 2)
+-- the decision of one shard, by what it has said
+module _ {said : ℕ} where
+  pub said-no : said ≡ 1 → Abort ≡ cond (eqb said 1) Abort (cond (eqb said 2) Commit Wait)
+  said-no e = rw e refl
+
+  pub said-yes : said ≡ 2 → Commit ≡ cond (eqb said 1) Abort (cond (eqb said 2) Commit Wait)
+  said-yes e = rw e refl
+
+  pub said-other : (said ≡ 1 → ⊥) → (said ≡ 2 → ⊥) → Wait ≡ cond (eqb said 1) Abort (cond (eqb said 2) Commit Wait)
+  said-other m n = rw (ne-eqb said 1 m, ne-eqb said 2 n) refl
+
+-- that of the shard of a used slot
+pub decides-one : (heard : List ℕ) {decision : Outcome} {said shard at : ℕ} {used : Bool}
+    → decision ≡ cond (eqb said 1) Abort (cond (eqb said 2) Commit Wait)
     → said ≡ getD heard shard 0
     → shard ≡ at
     → used ≡ true
-    → Tells votes heard (oneIf used at)
-tells-one heard {shard = shard} told es ea eu =
-    rw (eu, ← ea, or-false (isNo heard shard), and-true (isYes heard shard), ← es) told
+    → decision ≡ decisionOf heard (oneIf used at)
+decides-one heard {shard = shard} decides es ea eu =
+    rw (eu, ← ea, or-false (isNo heard shard), and-true (isYes heard shard), ← es) decides
 
--- of the shards of four slots, of which n are used
+-- two decisions together, by their votes
+joined : (a b c e : Bool)
+    → together (cond a Abort (cond b Commit Wait)) (cond c Abort (cond e Commit Wait)) ≡ cond (a || c) Abort (cond (b && e) Commit Wait)
+joined true b c e = refl
+joined false true c e = refl
+joined false false true e = refl
+joined false false false true = refl
+joined false false false false = refl
+
+-- the shards of one list and those of another
+pub decides-both : (heard shards others : List ℕ) → together (decisionOf heard shards) (decisionOf heard others) ≡ decisionOf heard (shards ++ others)
+decides-both heard shards others =
+    joined (any (isNo heard) shards) (all (isYes heard) shards) (any (isNo heard) others) (all (isYes heard) others)
+    ∙ rw (any-append (isNo heard) shards others, all-append (isYes heard) shards others) refl
+
+-- the shards of four slots, of which n are used
 module _ {A : Type 0} (d : A) (xs : List A) (long : length xs ≡ 4) (shardOf : A → ℕ) (heard : List ℕ) (n : ℕ) where
-  abbrev Slot : Votes → ℕ → Type 0
-  Slot votes i = Tells votes heard (oneIf (ltb i n) (shardOf (getD xs i d)))
+  -- the shard of a slot, if it is used
+  abbrev asked : ℕ → List ℕ
+  asked i = oneIf (ltb i n) (shardOf (getD xs i d))
 
-  -- one question of one slot
-  one-at : (f : ℕ → Bool) (i : ℕ) {p : Bool} → p ≡ all f (oneIf (ltb i n) (shardOf (getD xs i d))) → p ≡ cond (ltb i n) (f (shardOf (getD xs i d))) true
-  one-at f i e = e ∙ go (ltb i n)
+  -- all of them, one behind the other
+  slots : asked 0 ++ asked 1 ++ asked 2 ++ asked 3 ≡ map shardOf (take n xs)
+  slots =
+      sym (ap (map shardOf) (used-slots d xs long n)
+      ∙ rw (
+        map-append shardOf (used 0 ++ used 1 ++ used 2) (used 3),
+        map-append shardOf (used 0 ++ used 1) (used 2),
+        map-append shardOf (used 0) (used 1),
+        one-map 0,
+        one-map 1,
+        one-map 2,
+        one-map 3,
+      ) refl)
     where
-      go : (b : Bool) → all f (oneIf b (shardOf (getD xs i d))) ≡ cond b (f (shardOf (getD xs i d))) true
-      go true = and-true (f (shardOf (getD xs i d)))
-      go false = refl
+      used : ℕ → List A
+      used i = oneIf (ltb i n) (getD xs i d)
 
-  no-at : (i : ℕ) {votes : Votes} → Slot votes i → votes .«none_no» ≡ cond (ltb i n) (not (isNo heard (shardOf (getD xs i d)))) true
-  no-at i slot = one-at (λ q. not (isNo heard q)) i (slot .0 ∙ none-all (isNo heard) (oneIf (ltb i n) (shardOf (getD xs i d))))
+      one-map : (i : ℕ) → map shardOf (used i) ≡ asked i
+      one-map i = go (ltb i n)
+        where
+          go : (b : Bool) → map shardOf (oneIf b (getD xs i d)) ≡ oneIf b (shardOf (getD xs i d))
+          go true = refl
+          go false = refl
 
-  pub tells-four : {a b c e two three votes : Votes} → Slot a 0 → Slot b 1 → Slot c 2 → Slot e 3
-      → Joins a b two
-      → Joins two c three
-      → Joins three e votes
-      → Tells votes heard (map shardOf (take n xs))
-  tells-four sa sb sc se j2 j3 j4 = (
-    rw (j4 .0, j3 .0, j2 .0, none-all (isNo heard) (map shardOf (take n xs)), all-map (λ q. not (isNo heard q)) shardOf (take n xs))
-        (all-by d xs long (λ x. not (isNo heard (shardOf x))) n (no-at 0 sa) (no-at 1 sb) (no-at 2 sc) (no-at 3 se)),
-    rw (j4 .1, j3 .1, j2 .1, all-map (isYes heard) shardOf (take n xs))
-        (all-by d xs long (λ x. isYes heard (shardOf x)) n
-        (one-at (isYes heard) 0 (sa .1))
-        (one-at (isYes heard) 1 (sb .1))
-        (one-at (isYes heard) 2 (sc .1))
-        (one-at (isYes heard) 3 (se .1))),
-  )
+  pub decides-four : {a b c e : Outcome}
+      → a ≡ decisionOf heard (asked 0)
+      → b ≡ decisionOf heard (asked 1)
+      → c ≡ decisionOf heard (asked 2)
+      → e ≡ decisionOf heard (asked 3)
+      → together (together (together a b) c) e ≡ decisionOf heard (map shardOf (take n xs))
+  decides-four ea eb ec ee =
+      rw (
+        ea,
+        eb,
+        ec,
+        ee,
+        decides-both heard (asked 0) (asked 1),
+        decides-both heard (asked 0 ++ asked 1) (asked 2),
+        decides-both heard (asked 0 ++ asked 1 ++ asked 2) (asked 3),
+      ) (ap (decisionOf heard) slots)
 
--- of two lists of shards
-pub tells-both : (heard shards others : List ℕ) {a b votes : Votes}
-    → Tells a heard shards → Tells b heard others → Joins a b votes → Tells votes heard (shards ++ others)
-tells-both heard shards others ta tb j = (
-  rw (j .0, ta .0, tb .0, none-all (isNo heard) shards, none-all (isNo heard) others, none-all (isNo heard) (shards ++ others))
-      (sym (all-append (λ q. not (isNo heard q)) shards others)),
-  rw (j .1, ta .1, tb .1) (sym (all-append (isYes heard) shards others)),
-)
-
--- the decision, by what is told of all shards
-module _ (t : Transaction) (heard : List ℕ) {votes : Votes} (told : Tells votes heard (shardsOf t)) where
-  some-no : someNo t heard ≡ not (votes .«none_no»)
-  some-no = sym (ap not (told .0) ∙ Bool·not-not (someNo t heard))
-
-  pub decide-abort : not (votes .«none_no») ≡ true → Abort ≡ decide t heard
-  unfolding decide
-  decide-abort n = rw (some-no, n) refl
-
-  pub decide-commit : not (votes .«none_no») ≡ false → votes .«all_yes» ≡ true → Commit ≡ decide t heard
-  unfolding decide
-  decide-commit n y = rw (some-no, n, ← told .1, y) refl
-
-  pub decide-wait : not (votes .«none_no») ≡ false → votes .«all_yes» ≡ false → Wait ≡ decide t heard
-  unfolding decide
-  decide-wait n y = rw (some-no, n, ← told .1, y) refl
-
-  -- nothing is decided while none is no and not all are yes
-  pub undecided-is : votes .«none_no» && not (votes .«all_yes») ≡ isUndecided (decide t heard)
-  unfolding decide
-  undecided-is = rw (some-no, ← told .1) (go (votes .«none_no») (votes .«all_yes»))
-    where
-      go : (n y : Bool) → n && not y ≡ isUndecided (cond (not n) Abort (cond y Commit Wait))
-      go true true = refl
-      go true false = refl
-      go false y = refl
+-- the decision, by the shards of the inputs and those of the outputs
+pub decides : (k : Known) {inputs outputs decision : Outcome}
+    → inputs ≡ decisionOf (k .heard) (map inputShard (usedInputs (k .transaction)))
+    → outputs ≡ decisionOf (k .heard) (map outputShard (usedOutputs (k .transaction)))
+    → decision ≡ together inputs outputs
+    → decision ≡ outcomeOf k
+unfolding decide
+decides k ei eo e =
+    rw (e, ei, eo) (decides-both (k .heard) (map inputShard (usedInputs (k .transaction))) (map outputShard (usedOutputs (k .transaction))))
 
 -- how many outputs are here
 one-length : {A : Type 0} (b : Bool) (x : A) → length (oneIf b x) ≡ cond b 1 0

@@ -1,3 +1,3 @@
-pub mod Votes
+pub mod Decision
 pub mod Numbers
 pub mod Made

@@ -4,9 +4,3 @@ pub mod awaiting; // inputs that await an undecided transaction
 pub mod deciding; // the decision from the verdicts heard
 pub mod finding; // known transactions by number and by every field
 pub mod reserving; // outputs here of undecided transactions
-
-// What is heard of the votes of some shards: whether none of them is no, and whether all are heard and are yes.
-pub struct Votes {
-    pub none_no: bool,
-    pub all_yes: bool,
-}
