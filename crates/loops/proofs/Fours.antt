@@ -1,15 +1,15 @@
--- Four slots and a count, slot by slot: keep and all, beside the laws of the transaction crate's proofs/Slots.
-use Prim.Native.Nat.{ℕ, zero, suc, _+_, _<_, _≤_}
+-- Four slots and a count, slot by slot: which are used and which are kept, beside the laws of the transaction crate's proofs/Slots.
+use Prim.Native.Nat.{ℕ, zero, suc, _+_}
 use mathlib.Core.Path.{_≡_, refl, sym, ap, _∙_}
-use mathlib.Core.Bool.{Bool, true, false, cond, _&&_, and-assoc, and-true}
+use mathlib.Core.Bool.{Bool, true, false, cond, _&&_}
 use mathlib.Core.List.{List, [], _∷_, _++_, append-assoc, append-nil}
 use native.Mathlib.Omega.{arith}
 use borrow.Author.Tests.{ne-eqb}
 use lib.Dec.{eqb, ltb, eqb·suc-suc}
-use lib.ListN.{length, getD, take, drop}
+use lib.ListN.{length, getD, take}
 use lib.Seq.{take-nil}
 use Rattle.transaction.specs.Lists.{all}
-use Rattle.transaction.proofs.Slots.{above, four, slots-by}
+use Rattle.transaction.proofs.Slots.{above, four}
 use Rattle.model.specs.Lists.{keep}
 use Rattle.model.proofs.Capacity.{keep-length}
 use Rattle.loops.specs.Lists.{oneIf}
@@ -68,18 +68,6 @@ module _ {A : Type 0} (d : A) (x : List A) (long : length x ≡ 4) where
   keep-by f n ep eq er es et =
       et ∙ rw (es, er, eq, ep)
       (sym (keep-of f (getD x 0 d) (getD x 1 d) (getD x 2 d) (getD x 3 d) n) ∙ ap (λ (l : List A). keep f (take n l)) (four d x long))
-
-  -- each of the used slots passes
-  pub all-by : (f : A → Bool) (n : ℕ) {p q r s : Bool}
-      → p ≡ cond (ltb 0 n) (f (getD x 0 d)) true → q ≡ cond (ltb 1 n) (f (getD x 1 d)) true
-      → r ≡ cond (ltb 2 n) (f (getD x 2 d)) true → s ≡ cond (ltb 3 n) (f (getD x 3 d)) true
-      → p && q && r && s ≡ all f (take n x)
-  all-by f n ep eq er es =
-      slots-by d x long f (λ (a : A). true) n ep eq er es ∙ rw (always (drop n x)) (and-true (all f (take n x)))
-    where
-      always : (l : List A) → all (λ (a : A). true) l ≡ true
-      always [] = refl
-      always (a ∷ l) = always l
 
 -- as many pass as there are: each passes
 pub all-kept : {A : Type 0} (f : A → Bool) (l : List A) → eqb (length (keep f l)) (length l) ≡ all f l

@@ -4,7 +4,7 @@ use native.Mathlib.Omega.{arith}
 use mathlib.Core.Path.{_≡_, refl, ap, sym, _∙_, subst}
 use mathlib.Core.Bool.{Bool, true, false, cond, _&&_, _||_, not, true≢false, false≢true, and-assoc}
 use mathlib.Core.Option.{Option, none, some}
-use mathlib.Core.List.{List, [], _∷_, _++_, List·Memᴰ, List·Memᴰ·head, List·Memᴰ·tail, map}
+use mathlib.Core.List.{List, [], _∷_, _++_, List·Memᴰ, List·Memᴰ·head, List·Memᴰ·tail}
 use borrow.Author.Tests.{eqb-true, eq-eqb, ne-eqb}
 use lib.Dec.{eqb}
 use lib.ListN.{length, getD, set, replicate}
@@ -222,11 +222,6 @@ all-of f (y ∷ l) h = and-intro (h y (List·Memᴰ·head refl)) (all-of f l (λ
 pub all-append : {A : Type 0} (f : A → Bool) (a b : List A) → all f (a ++ b) ≡ all f a && all f b
 all-append f [] b = refl
 all-append f (x ∷ a) b = ap (λ (c : Bool). f x && c) (all-append f a b) ∙ sym (and-assoc (f x) (all f a) (all f b))
-
--- all of a mapped list
-pub all-map : {A B : Type 0} (f : B → Bool) (g : A → B) (l : List A) → all f (map g l) ≡ all (λ (x : A). f (g x)) l
-all-map f g [] = refl
-all-map f g (x ∷ l) = ap (λ (c : Bool). f (g x) && c) (all-map f g l)
 
 -- where some element passes, there is one
 pub any-at : {A : Type 0} (f : A → Bool) (l : List A) → any f l ≡ true → (x : A) × List·Memᴰ x l × (f x ≡ true)

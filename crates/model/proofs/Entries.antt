@@ -1,16 +1,14 @@
 -- The known transactions of a shard: looked up by number, and entered.
 use Prim.Native.Nat.{ℕ, suc}
 use mathlib.Core.Path.{_≡_, refl, ap, sym, _∙_, subst}
-use mathlib.Core.Bool.{Bool, true, false, cond, _||_, not, false≢true, _&&_}
+use mathlib.Core.Bool.{Bool, true, false, cond, _||_, not, false≢true}
 use mathlib.Core.Option.{Option, none, some}
-use mathlib.Core.List.{List, [], _∷_, _++_, List·Memᴰ, map}
+use mathlib.Core.List.{List, [], _∷_, _++_, List·Memᴰ}
 use lib.Dec.{eqb}
 use lib.ListN.{getD, set}
-use Rattle.transaction.specs.declared.Input.{Input}
-use Rattle.transaction.specs.declared.Output.{Output}
 use Rattle.transaction.specs.declared.Transaction.{Transaction}
-use Rattle.transaction.specs.Lists.{any, all}
-use Rattle.transaction.specs.Tokens.{usedInputs, usedOutputs, inputShard, outputShard, shardsOf, sameTransaction}
+use Rattle.transaction.specs.Lists.{any}
+use Rattle.transaction.specs.Tokens.{sameTransaction}
 use Rattle.transaction.proofs.Same.{same-exactly}
 use Rattle.model.specs.declared.Known.{Known}
 use Rattle.model.specs.Lists.{find, lookup}
@@ -33,8 +31,6 @@ use Rattle.model.proofs.Basics.{
   any-none,
   any-no,
   find-at,
-  all-append,
-  all-map,
 }
 use Rattle.model.proofs.Lookups.{lookup-passes, lookup-mem, lookup-no, Alone, alone-lookup}
 
@@ -187,12 +183,3 @@ pub look-entry : (t : Transaction) (l : List Known) → OneEach l → {k : Known
 look-entry t l s {k} e w =
     let a : any (isFor t) l ≡ true = any-of (isFor t) (lookup-mem (numbered (t .number)) l e) (same-true w) in
     (a, some-inj (sym (entry-look t l s a .0) ∙ e))
-
--- ---- The shards of a transaction
-
--- a test of all shards of a transaction, by its inputs and by its outputs
-pub all-shards : (f : ℕ → Bool) (t : Transaction) → all f (shardsOf t)
-    ≡ all (λ (x : Input). f (inputShard x)) (usedInputs t) && all (λ (y : Output). f (outputShard y)) (usedOutputs t)
-all-shards f t =
-    all-append f (map inputShard (usedInputs t)) (map outputShard (usedOutputs t))
-    ∙ (λ i. all-map f inputShard (usedInputs t) i && all-map f outputShard (usedOutputs t) i)

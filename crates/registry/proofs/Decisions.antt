@@ -6,7 +6,7 @@ use mathlib.Core.Path.{_≡_, refl, sym, ap, _∙_}
 use mathlib.Core.Bool.{Bool, true, false, cond, _||_, _&&_, and-true, or-false}
 use mathlib.Core.List.{List, [], _∷_, _++_, map, map-append}
 use borrow.Author.Tests.{ne-eqb}
-use lib.Dec.{eqb, ltb}
+use lib.Dec.{ltb}
 use lib.ListN.{length, getD, take, length-append, length-take}
 use Rattle.transaction.specs.declared.Output.{Output}
 use Rattle.transaction.specs.declared.Transaction.{Transaction}
@@ -26,22 +26,22 @@ use Rattle.layout.proofs.Slots.{four-outputs}
 use Rattle.layout.proofs.Ledgers.{known-length, known-entry}
 use Rattle.loops.specs.Lists.{oneIf}
 use Rattle.loops.proofs.Fours.{used-slots, keep-by}
-use Rattle.registry.specs.Decision.{decisionOf, together}
+use Rattle.registry.specs.Decision.{bySaid, decisionOf, together}
 
 -- the decision of one shard, by what it has said
 module _ {said : ℕ} where
-  pub said-no : said ≡ 1 → Abort ≡ cond (eqb said 1) Abort (cond (eqb said 2) Commit Wait)
+  pub said-no : said ≡ 1 → Abort ≡ bySaid said
   said-no e = rw e refl
 
-  pub said-yes : said ≡ 2 → Commit ≡ cond (eqb said 1) Abort (cond (eqb said 2) Commit Wait)
+  pub said-yes : said ≡ 2 → Commit ≡ bySaid said
   said-yes e = rw e refl
 
-  pub said-other : (said ≡ 1 → ⊥) → (said ≡ 2 → ⊥) → Wait ≡ cond (eqb said 1) Abort (cond (eqb said 2) Commit Wait)
+  pub said-other : (said ≡ 1 → ⊥) → (said ≡ 2 → ⊥) → Wait ≡ bySaid said
   said-other m n = rw (ne-eqb said 1 m, ne-eqb said 2 n) refl
 
 -- that of the shard of a used slot
 pub decides-one : (heard : List ℕ) {decision : Outcome} {said shard at : ℕ} {used : Bool}
-    → decision ≡ cond (eqb said 1) Abort (cond (eqb said 2) Commit Wait)
+    → decision ≡ bySaid said
     → said ≡ getD heard shard 0
     → shard ≡ at
     → used ≡ true

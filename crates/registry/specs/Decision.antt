@@ -2,10 +2,15 @@
 use Prim.Native.Nat.{ℕ}
 use mathlib.Core.Bool.{cond}
 use mathlib.Core.List.{List}
+use lib.Dec.{eqb}
 use Rattle.transaction.specs.Lists.{any, all}
 use Rattle.model.specs.declared.Outcome.{Outcome}
 use Rattle.model.specs.declared.Outcome.the-variants.{Wait, Commit, Abort}
 use Rattle.model.specs.Steps.{isYes, isNo}
+
+-- the decision of one shard, by what is noted of it
+abbrev pub bySaid : ℕ → Outcome
+bySaid said = cond (eqb said 1) Abort (cond (eqb said 2) Commit Wait)
 
 -- the decision if these were all its shards
 abbrev pub decisionOf : List ℕ → List ℕ → Outcome

@@ -1,18 +1,15 @@
 // Decision: abort as soon as one no is heard, the shard's own included; commit when votes of all the transaction's
 // shards are heard and all are yes. Of a known transaction only who takes part and what they said is read.
 ghost use mathlib.Core.Path.{_≡_};
-ghost use mathlib.Core.Bool.{cond};
 ghost use mathlib.Core.List.{map};
 ghost use Prim.Native.Nat.{_<_};
-ghost use lib.Dec.{eqb};
 ghost use lib.ListN.{getD};
 ghost use Rattle.transaction.specs.Tokens.{inputShard, outputShard, usedInputs, usedOutputs, zeroInput, zeroOutput};
-ghost use Rattle.model.specs.declared.Outcome.the-variants.{Wait, Commit, Abort};
 ghost use Rattle.model.specs.Steps.{outcomeOf};
 ghost use Rattle.model.specs.Shard.{isUndecided};
 ghost use Rattle.layout.specs.Layout.{knownSlots, slotKnown};
 ghost use Rattle.loops.specs.Lists.{oneIf};
-ghost use Rattle.registry.specs.Decision.{decisionOf, together};
+ghost use Rattle.registry.specs.Decision.{bySaid, decisionOf, together};
 use layout::Words;
 use layout::entries::heard_at;
 use layout::entries::input_count_at;
@@ -23,7 +20,7 @@ use model::Outcome;
 
 // What one shard decides by what it has said.
 fn by_vote(said: u8) -> Outcome
-    ensures { λ r. ⌜ r ≡ cond (eqb said 1) Abort (cond (eqb said 2) Commit Wait) ⌝ }
+    ensures { λ r. ⌜ r ≡ bySaid said ⌝ }
 {
     if said == 1 {
         return Outcome::Abort;
