@@ -51,7 +51,20 @@ use Rattle.model.specs.Shard.{
 }
 use Rattle.model.specs.Cluster.{ledgerAt, gave, notGiven, atShard, clusterStep}
 use Rattle.model.specs.Model.{logAfter, mintedAfter, step, after, answers, play, playAnswers}
-use Rattle.model.specs.Demand.{outcomeIn, committed, serialFrom, serialOrder, Value, genesisLedger, takeInputs, addOutputs, spend, serialRun}
+use Rattle.model.specs.Demand.{
+  outcomeIn,
+  heardAllIn,
+  heardAllAt,
+  committed,
+  serialFrom,
+  serialOrder,
+  Value,
+  genesisLedger,
+  takeInputs,
+  addOutputs,
+  spend,
+  serialRun,
+}
 
 -- ---- Small transactions
 
@@ -274,6 +287,9 @@ pub record Examples : Type 0 where
   -- the pledge stays, and no later yes takes the place of the no
   early-held : tokensAfter early 0 ≡ token 0 0 10 3 9 ∷ []
   early-12 : shardStep house 0 (ledgerAt house (play house early .shards) 0) (deliver 0 1 1 three) .1 ≡ Refused 12
+  -- not all votes are in at that abort, and with the last one they are
+  early-missing : heardAllAt house (play house early) 0 three ≡ false
+  early-in : heardAllAt house (play house (early ++ (deliver 0 2 1 three ∷ []))) 0 three ≡ true
   -- aborted early, it reserves nothing and holds off nothing
   early-10 : playAnswers small (mint 0 0 10 3 ∷ register 0 three ∷ register 1 three ∷ register 0 (alone 6) ∷ deliver 0 1 0 three ∷ register 0 (alone 6) ∷ [])
       ≡ Minted ∷ Registered true Wait ∷ Registered false Abort ∷ Refused 10 ∷ Heard Abort ∷ Registered false Abort ∷ []
@@ -295,7 +311,7 @@ unfolding input output make tokensAfter token both known-at-both votes alone wro
     countsFit fieldsFit sameName namedTwice balanced mintFits inputsHere available availableHere pledges vote newlyKnown
     decide outputsHere madeHere commit afterMint afterRegister afterVote placeOf entryOf reservedBy reserved heldOff
     mintRefusals registerRefusals deliverForm deliverRefusals hear shardStep gave notGiven atShard clusterStep logAfter
-    mintedAfter step after answers play playAnswers outcomeIn committed serialFrom serialValue genesisLedger takeInputs addOutputs spend serialRun
+    mintedAfter step after answers play playAnswers outcomeIn heardAllIn committed serialFrom serialValue genesisLedger takeInputs addOutputs spend serialRun
 examples = record {
   seven-answers = refl;
   seven-0 = refl;
@@ -333,6 +349,8 @@ examples = record {
   early-no = refl;
   early-held = refl;
   early-12 = refl;
+  early-missing = refl;
+  early-in = refl;
   early-10 = refl;
   early-17 = refl;
 }

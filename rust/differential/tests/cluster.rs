@@ -4,7 +4,8 @@ use differential::{Player, Rng, SEED};
 use engine::{answer_code, cluster};
 use reference::decode;
 use weeks::{
-    CLUSTER_EVENTS, Giver, SHARD_EVENTS, cluster_week, count_weeks, given_by, never_given_by,
+    CLUSTER_EVENTS, EARLY_ABORTS, Giver, SHARD_EVENTS, cluster_week, count_weeks, given_by,
+    never_given_by,
 };
 
 const WEEKS: u64 = 83_000;
@@ -38,6 +39,7 @@ fn random_weeks_of_a_cluster() {
     ];
     tally.check(&title, &often, 10 * LEAST);
     tally.check(&title, &SHARD_EVENTS, LEAST);
+    tally.check(&title, &EARLY_ABORTS, LEAST);
     tally.check(&title, &CLUSTER_EVENTS, LEAST);
     tally.check_never(&title, &never_given_by(&[Giver::Cluster]));
 }

@@ -3,7 +3,8 @@
 use differential::{Player, Rng, SEED, Shards, full_shard_week, shards};
 use reference::Record;
 use weeks::{
-    Giver, Playable, SHARD_EVENTS, Tally, count_weeks, given_by, never_given_by, shard_week,
+    EARLY_ABORTS, Giver, Playable, SHARD_EVENTS, Tally, count_weeks, given_by, never_given_by,
+    shard_week,
 };
 
 const WEEKS: u64 = 42_000;
@@ -42,6 +43,7 @@ fn random_weeks_of_a_shard() {
     let title = format!("a shard, {calls} calls in {WEEKS} weeks");
     tally.report(&title, &given_by(&[Giver::Shard]), LEAST);
     tally.check(&title, &SHARD_EVENTS, LEAST);
+    tally.check(&title, &EARLY_ABORTS, LEAST);
     tally.check_never(&title, &never_given_by(&[Giver::Shard]));
 }
 

@@ -20,6 +20,12 @@ use records::{mint, register, transaction};
 
 const HEARD_ABORT: Answer = Ok(Done::Heard(Abort));
 
+/// Space for two tokens.
+const TWO_TOKENS: Limits = Limits {
+    tokens: 2,
+    ..LIMITS
+};
+
 fn three() -> Transaction {
     let inputs = [(0, 0, 0, 10, 3), (1, 0, 0, 20, 4)];
     transaction(5, &inputs, &[(1, 30, 5), (2, 30, 2)])
@@ -200,15 +206,11 @@ fn pledges_stay() {
     assert_eq!(pledges(&shard), [Some(8)]);
 }
 
-/// One token is held and one may be made: where there is space for two, 10
-/// refuses the next until the first no.
+/// One token is held and one may be made: 10 refuses the next until the first
+/// no.
 #[test]
 fn an_early_abort_gives_its_space_back() {
-    let limits = Limits {
-        tokens: 2,
-        ..LIMITS
-    };
-    let mut shard = waiting(limits);
+    let mut shard = waiting(TWO_TOKENS);
     assert_eq!(shard.register(1, &giving(7)), Err(Refusal::TokensFull));
     assert_eq!(hear(&mut shard, 0, No), HEARD_ABORT);
     assert_eq!(shard.register(1, &giving(7)), registered(Yes, Wait));
@@ -222,11 +224,7 @@ fn an_early_abort_gives_its_space_back() {
 /// What is aborted by its own no never had any.
 #[test]
 fn its_own_no_takes_no_space() {
-    let limits = Limits {
-        tokens: 2,
-        ..LIMITS
-    };
-    let mut shard = holding(limits);
+    let mut shard = holding(TWO_TOKENS);
     let inputs = [(0, 0, 0, 10, 3), (1, 0, 0, 21, 4)];
     let vain = transaction(4, &inputs, &[(1, 30, 7)]);
     assert_eq!(shard.register(1, &vain), registered(No, Abort));

@@ -10,7 +10,7 @@ use crate::tally::Tally;
 use crate::transactions::{is_all_heard, known, receiver};
 
 /// Kinds of events at a shard.
-pub const SHARD_EVENTS: [&str; 24] = [
+pub const SHARD_EVENTS: [&str; 17] = [
     "no, with a pledge",
     "no, without a pledge",
     "no, token not held",
@@ -21,13 +21,6 @@ pub const SHARD_EVENTS: [&str; 24] = [
     "held off by the name alone",
     "held off, later committed",
     "held off, later aborted",
-    "aborted early, by its own no",
-    "aborted early, by a no heard",
-    "yes after an abort",
-    "no after an abort",
-    "all votes in after an early abort",
-    "not too full, another aborted early",
-    "not held off, another aborted early",
     "yes, with outputs only",
     "own vote again",
     "made token destroyed",
@@ -35,6 +28,17 @@ pub const SHARD_EVENTS: [&str; 24] = [
     "128 tokens held",
     "32 transactions known",
     "freed space used again",
+];
+
+/// What an abort brings that comes before all votes are in, at a shard too.
+pub const EARLY_ABORTS: [&str; 7] = [
+    "aborted early, by its own no",
+    "aborted early, by a no heard",
+    "yes after an abort",
+    "no after an abort",
+    "all votes in after an early abort",
+    "not too full, another aborted early",
+    "not held off, another aborted early",
 ];
 
 /// What only a cluster shows.

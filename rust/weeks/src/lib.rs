@@ -26,7 +26,7 @@ pub use answers::{
 pub use case::Case;
 pub use clauses::{Clauses, View, views};
 pub use cluster::{ClusterStyle, cluster_week, cluster_week_of};
-pub use events::{Before, CLUSTER_EVENTS, Events, SHARD_EVENTS};
+pub use events::{Before, CLUSTER_EVENTS, EARLY_ABORTS, Events, SHARD_EVENTS};
 pub use ledger::Playable;
 pub use orders::{Scenario, scenarios};
 pub use rng::Rng;

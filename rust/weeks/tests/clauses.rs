@@ -9,23 +9,16 @@ use reference::{
     Verdict,
 };
 use weeks::{
-    Before, Case, Clauses, Giver, Rng, SEED, Tally, View, changes_nothing, cluster_week, label,
-    never_given_by, scenarios, shard_week, views,
+    Before, Case, Clauses, EARLY_ABORTS, Giver, Rng, SEED, Tally, View, changes_nothing,
+    cluster_week, label, never_given_by, scenarios, shard_week, views,
 };
 
 const WEEKS: u64 = 3000;
 
 /// What the clauses have to be tried on.
-const MET: [&str; 17] = [
+const MET: [&str; 10] = [
     "REFUSED 17",
     "held off, later committed",
-    "aborted early, by its own no",
-    "aborted early, by a no heard",
-    "yes after an abort",
-    "no after an abort",
-    "all votes in after an early abort",
-    "not too full, another aborted early",
-    "not held off, another aborted early",
     "HEARD COMMIT",
     "HEARD ABORT",
     "AGAIN COMMIT",
@@ -63,7 +56,9 @@ fn random_weeks_keep_the_clauses() {
             }
         }
     }
-    tally.report("clauses over random weeks", &MET, 100);
+    let title = "clauses over random weeks";
+    tally.report(title, &MET, 100);
+    tally.check(title, &EARLY_ABORTS, 100);
 }
 
 #[test]
