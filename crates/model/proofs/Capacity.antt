@@ -48,6 +48,12 @@ use Rattle.model.specs.Steps.{
   afterMint,
   afterRegister,
   afterVote,
+  freeing,
+  pledgeWhen,
+  ended,
+  pledgedToAborted,
+  afterTurn,
+  isPledgedTo,
 }
 use Rattle.model.specs.Shard.{Call, ifUndecided, reservedBy, reserved, shardStep}
 use Rattle.model.specs.Fit.{isSet, counted, Fit}
@@ -72,6 +78,8 @@ use Rattle.model.proofs.Effects.{
   did-hear,
   did-repeat,
   effect,
+  shard-turned,
+  did-turn,
 }
 use Rattle.model.proofs.Steps.{Inv, step-next, empty-inv}
 
@@ -184,6 +192,18 @@ hear-room me k q v tokens m fresh = go (case-outcome k)
     go (case-commit e) = absurd (eqb-apart {m = 0} {n = 2} refl (sym fresh ∙ outcome-yes k e q m))
     go (case-abort e) = subst (λ (o : Outcome). Room o after) (sym e) (subst (Room Abort) (sym (abort-stays k q v fresh e)) (omega arith))
 
+-- tokens that come free are still held
+freeing-length : (f : Token → Bool) (tokens : List Token) → length (freeing f tokens) ≡ length tokens
+unfolding freeing
+freeing-length f tokens = length-map tokens (pledgeWhen 0 f)
+
+-- so the end of pledges leaves as many tokens
+pub ended-length : (turned : Bool) (o : Outcome) (number : ℕ) (tokens : List Token) → length (ended turned o number tokens) ≡ length tokens
+ended-length turned Wait number tokens = refl
+ended-length turned Commit number tokens = refl
+ended-length false Abort number tokens = refl
+ended-length true Abort number tokens = freeing-length (isPledgedTo number) tokens
+
 -- ---- What holds of a ledger
 
 -- the empty ledger is fit
@@ -238,6 +258,7 @@ module _ (limits : Limits) (sized : limits .genesis ≤ limits .tokens) (me : �
       let held : length tokens ≡ length (ledger .tokens) = length-map (ledger .tokens) _ in
       let room = h .token-room in
       let after = settle-room (outcomeOf k) me t tokens in
+      let same = ended-length (ledger .turned) (outcomeOf k) (t .number) (settle (outcomeOf k) me t tokens) in
       let sum = total-append (reservedBy me) (ledger .known) (k ∷ []) in
       let count = length-append (ledger .known) (k ∷ []) in
       let below = h .known-room in
@@ -271,6 +292,7 @@ module _ (limits : Limits) (sized : limits .genesis ≤ limits .tokens) (me : �
       let room = f .token-room in
       let part = subst (λ (s : Transaction). List·Memᴰ sender (shardsOf s)) (sym whole) (part-in sender t (h .sender-part)) in
       let after = hear-room me k sender verdict (ledger .tokens) part fresh in
+      let same = ended-length (ledger .turned) (outcomeOf k′) (k .transaction .number) (settle (outcomeOf k′) me (k .transaction) (ledger .tokens)) in
       let count = length-set known (find (isFor t) known) k′ in
       let most = f .known-room in
       record {
@@ -284,6 +306,20 @@ module _ (limits : Limits) (sized : limits .genesis ≤ limits .tokens) (me : �
             (f .eight j) (mem-set known (find (isFor t) known) k′ m);
       }
 
+  -- a turn keeps it fit
+  turn-fit : Fit limits me (afterTurn ledger)
+  unfolding afterTurn
+  turn-fit =
+      let held = freeing-length (pledgedToAborted (ledger .known)) (ledger .tokens) in
+      record {
+        token-room = let h = f .token-room in omega arith;
+        known-room = f .known-room;
+        flags = f .flags;
+        only-given = λ e. let h = f .only-given e in omega arith;
+        checked = f .checked;
+        eight = f .eight;
+      }
+
   -- a call at a lone shard keeps it
   pub shard-fit : (call : Call) (r : Ledger × Answer) → ShardEffect limits me ledger call r → Fit limits me (r .0)
   shard-fit call _ (shard-refused h) = f
@@ -291,6 +327,7 @@ module _ (limits : Limits) (sized : limits .genesis ≤ limits .tokens) (me : �
   shard-fit call _ (shard-registered h) = register-fit h
   shard-fit call _ (shard-heard h e z) = vote-fit h z
   shard-fit call _ (shard-again h z) = f
+  shard-fit call _ (shard-turned h) = turn-fit
 
 -- every call at a lone shard keeps its ledger fit
 pub fit-step : (limits : Limits) → limits .genesis ≤ limits .tokens → (me : ℕ) (ledger : Ledger) → Fit limits me ledger
@@ -312,6 +349,9 @@ module _ (limits : Limits) (sized : limits .genesis ≤ limits .tokens) where
       set-elim (λ q l. Fit limits q l) (model .shards) (emptyLedger limits) p _
       (let e = w .eight in let b = shard-below p (h .form .receiver-fits) in omega arith)
       (register-fit limits sized p (ledgerAt limits (model .shards) p) (f p) h) (λ q n. f q)
+  step-fit place model w f call _ (did-turn {p = p} h) =
+      set-elim (λ q l. Fit limits q l) (model .shards) (emptyLedger limits) p _ (let e = w .eight in let b = shard-below p (h .receiver-fits) in omega arith)
+      (turn-fit limits sized p (ledgerAt limits (model .shards) p) (f p)) (λ q n. f q)
   step-fit place model w f call _ (did-hear {p = p} h g z) =
       set-elim (λ q l. Fit limits q l) (model .shards) (emptyLedger limits) p _
       (let e = w .eight in let b = shard-below p (h .form .receiver-fits) in omega arith)

@@ -16,12 +16,12 @@ use Rattle.transaction.specs.Tokens.{usedInputs, shardsOf}
 use Rattle.model.specs.declared.Known.{Known}
 use Rattle.model.specs.declared.Outcome.{Outcome}
 use Rattle.model.specs.declared.Outcome.the-variants.{Wait, Commit, Abort}
-use Rattle.model.specs.Steps.{Limits, Ledger, emptyLedger, heardFrom, heardAll, outcomeOf, isFor, entryOf}
+use Rattle.model.specs.Steps.{Limits, Ledger, emptyLedger, heardFrom, heardAll, outcomeOf, isFor, entryOf, inputsHere}
 use Rattle.model.specs.Shard.{Call}
 use Rattle.model.specs.Cluster.{ledgerAt}
 use Rattle.model.specs.Model.{Entry, Model, play}
 use Rattle.model.specs.Demand.{outcomeIn, heardAllIn, outcomeAt, heardAllAt, isCommit, commits, committed, WasAvailable}
-use Rattle.model.proofs.Basics.{eqb-eq, eqb-apart, both, Case, yes-case, no-case, case, any-at, any-of, place-of, getD-mem}
+use Rattle.model.proofs.Basics.{eqb-eq, eqb-apart, both, Case, yes-case, no-case, case, any-at, any-of, place-of, getD-mem, some-inj}
 use Rattle.model.proofs.Entries.{look, entry-look, look-entry, look-number}
 use Rattle.model.proofs.Outcomes.{
   commit≢wait,
@@ -38,9 +38,11 @@ use Rattle.model.proofs.Outcomes.{
   case-outcome,
   outcome-agree,
   outcome-stays,
+  abort≢commit,
+  abort≢wait,
 }
 use Rattle.model.proofs.Holdings.{here-shard, in-here}
-use Rattle.model.proofs.Invariant.{Voted, voted-available}
+use Rattle.model.proofs.Invariant.{Voted, voted-available, Aborted, Lasts}
 use Rattle.model.proofs.Steps.{Inv, Grows, play-inv, play-grows}
 
 -- only a commit is one
@@ -229,6 +231,43 @@ module _ (limits : Limits) (model : Model) (w : Inv limits model) where
   committed-of p n k e y =
       let known : List Known = ledgerAt limits (model .shards) p .known in
       committed-at p (k .transaction) (outcome-of p (k .transaction) k (ap (look known) (look-number known n e) ∙ e) refl ∙ y)
+
+  -- ---- Of committed transactions, none is aborted at any of its shards, and no two take one token
+
+  -- a registered transaction whose outcome at its shard is not abort is not aborted there
+  pub not-aborted : (p : ℕ) (r : Entry) → List·Memᴰ r (model .log) → r .shard ≡ p → outcomeAt limits model p (r .transaction) ≢ Abort
+      → Aborted (ledgerAt limits (model .shards) p .known) (r .transaction .number) → ⊥
+  not-aborted p r m at n a =
+      let h = w .at p .entered r m at in
+      let same : h .0 ≡ a .entry = some-inj (sym (h .1) ∙ a .is-known) in
+      n (outcome-of p (r .transaction) (h .0) (h .1) (h .2) ∙ ap outcomeOf same ∙ a .is-abort)
+
+  -- a committed transaction is aborted nowhere
+  pub commit-lives : (t : Transaction) → committed model t ≡ true → (p : ℕ) → outcomeAt limits model p t ≢ Abort
+  commit-lives t c p e =
+      let r = commit-at t c in
+      abort≢commit (sym e ∙ agree-at p (r .0) t (λ z. abort≢wait (sym e ∙ z)) (λ z. commit≢wait (sym (r .1) ∙ z)) ∙ r .1)
+
+  -- so its pledges last
+  commit-lasts : (t : Transaction) → committed model t ≡ true → (p : ℕ) (r : Entry) → List·Memᴰ r (model .log) → r .shard ≡ p → r .transaction ≡ t
+      → Lasts (ledgerAt limits (model .shards) p .turned) (ledgerAt limits (model .shards) p .known) (r .transaction .number)
+  commit-lasts t c p r m at e y =
+      not-aborted p r m at (subst (λ (z : Transaction). outcomeAt limits model p z ≢ Abort) (sym e) (commit-lives t c p))
+
+  -- two committed transactions that take one token are one
+  pub taken-once : (t s : Transaction) → committed model t ≡ true → committed model s ≡ true → (q : ℕ) (x y : Input)
+      → List·Memᴰ x (inputsHere q t) → List·Memᴰ y (inputsHere q s)
+      → x .token .creator ≡ y .token .creator → x .token .index ≡ y .token .index → t ≡ s
+  taken-once t s ct cs q x y mx my em ei =
+      let a = commit-at t ct in
+      let b = commit-at s cs in
+      let v = commit-votes (a .0) t (a .1) q (here-shard q t x mx .2) in
+      let u = commit-votes (b .0) s (b .1) q (here-shard q s y my .2) in
+      let same : v .entry ≡ u .entry =
+      w .at q .disjoint (v .entry) (u .entry) (v .logged) (u .logged) (v .at) (u .at)
+      (commit-lasts t ct q (v .entry) (v .logged) (v .at) (v .of)) (commit-lasts s cs q (u .entry) (u .logged) (u .at) (u .of))
+      x y (voted-available v x mx) (voted-available u y my) em ei in
+      sym (v .of) ∙ ap (λ (r : Entry). r .transaction) same ∙ u .of
 
 -- ---- Finality
 

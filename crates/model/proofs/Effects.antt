@@ -9,13 +9,13 @@ use lib.Seq.{set-getD}
 use Rattle.transaction.specs.declared.Transaction.{Transaction}
 use Rattle.transaction.specs.Lists.{firstOf}
 use Rattle.model.specs.declared.Answer.{Answer}
-use Rattle.model.specs.declared.Answer.the-variants.{Refused, Minted, Registered, Heard, Again}
-use Rattle.model.specs.Steps.{Limits, Ledger, emptyLedger, vote, newlyKnown, entryOf, heardFrom, hearing, outcomeOf, afterMint, afterRegister, afterVote}
-use Rattle.model.specs.Shard.{Call, mint, register, deliver, mintRefusals, registerRefusals, deliverForm, deliverRefusals, hear, shardStep}
+use Rattle.model.specs.declared.Answer.the-variants.{Refused, Minted, Registered, Heard, Again, Turned}
+use Rattle.model.specs.Steps.{Limits, Ledger, emptyLedger, vote, newlyKnown, entryOf, heardFrom, hearing, outcomeOf, afterMint, afterRegister, afterVote, afterTurn}
+use Rattle.model.specs.Shard.{Call, mint, register, deliver, turn, mintRefusals, registerRefusals, deliverForm, deliverRefusals, turnRefusals, hear, shardStep}
 use Rattle.model.specs.Cluster.{ledgerAt, gave, notGiven, atShard, clusterStep}
 use Rattle.model.specs.Model.{Entry, Genesis, Model, entryFor, logAfter, mintedAfter, step}
 use Rattle.model.proofs.Basics.{eqb-eq, eqb-yes, eqb-apart, clash, and-intro, not-yes, not-no}
-use Rattle.model.proofs.Refusals.{MintPasses, mint-passes, RegisterPasses, register-passes, DeliverPasses, deliver-passes, form-passes}
+use Rattle.model.proofs.Refusals.{MintPasses, mint-passes, RegisterPasses, register-passes, DeliverPasses, deliver-passes, form-passes, TurnPasses, turn-passes}
 
 -- ---- At one shard
 
@@ -35,6 +35,7 @@ module _ (limits : Limits) (me : ℕ) (ledger : Ledger) where
     shard-again : {receiver sender verdict : ℕ} {t : Transaction} → DeliverPasses limits me ledger receiver sender verdict t
         → (heardFrom sender (entryOf t (ledger .known)) ≡ 0 → ⊥)
         → ShardEffect (deliver receiver sender verdict t) (ledger, Again (outcomeOf (entryOf t (ledger .known))))
+    shard-turned : {receiver : ℕ} → TurnPasses limits me ledger receiver → ShardEffect (turn receiver) (afterTurn ledger, Turned)
 
   -- every call does one of these
   pub shard-effect : (call : Call) → ShardEffect call (shardStep limits me ledger call)
@@ -72,6 +73,12 @@ module _ (limits : Limits) (me : ℕ) (ledger : Ledger) where
           let z = eqb-eq (firstOf (deliverRefusals limits me ledger receiver sender verdict t)) 0 e in
           shard-again (deliver-passes limits me ledger receiver sender verdict t z) (eqb-apart f)
       go false e c f = shard-refused (eqb-apart e)
+  shard-effect (turn receiver) = go (eqb (firstOf (turnRefusals me ledger receiver)) 0) refl
+    where
+      go : (b : Bool) → eqb (firstOf (turnRefusals me ledger receiver)) 0 ≡ b
+          → ShardEffect (turn receiver) (cond b (afterTurn ledger, Turned) (ledger, Refused (firstOf (turnRefusals me ledger receiver))))
+      go true e = shard-turned (turn-passes limits me ledger receiver (eqb-eq (firstOf (turnRefusals me ledger receiver)) 0 e))
+      go false e = shard-refused (eqb-apart e)
 
 -- ---- At the cluster, with the model's notes
 
@@ -105,6 +112,7 @@ module _ (limits : Limits) (place : ℕ) (model : Model) where
     did-repeat : {p sender verdict : ℕ} {t : Transaction} → DeliverPasses limits p (at p) p sender verdict t
         → (heardFrom sender (entryOf t (at p .known)) ≡ 0 → ⊥)
         → Effect (deliver p sender verdict t) (model, Again (outcomeOf (entryOf t (at p .known))))
+    did-turn : {p : ℕ} → TurnPasses limits p (at p) p → Effect (turn p) (replaced p (afterTurn (at p)) (model .log) (model .minted), Turned)
 
   -- a ledger put back where it was changes nothing
   put-back : (p : ℕ) → replaced p (at p) (model .log) (model .minted) ≡ model
@@ -132,6 +140,12 @@ module _ (limits : Limits) (place : ℕ) (model : Model) where
   register-effect p t _ (shard-refused h) = back p (did-refuse h)
   register-effect p t _ (shard-registered h) = did-register h
 
+  -- a turn's effect from that at its shard
+  turn-effect : (p : ℕ) (r : Ledger × Answer) → ShardEffect limits p (at p) (turn p) r → Effect (turn p) (noted-at p (turn p) r)
+  unfolding logAfter mintedAfter
+  turn-effect p _ (shard-refused h) = back p (did-refuse h)
+  turn-effect p _ (shard-turned h) = did-turn h
+
   -- a vote's effect from that at its shard
   deliver-effect : (p sender verdict : ℕ) (t : Transaction) → notGiven limits (model .shards) p sender verdict t ≡ false
       → (r : Ledger × Answer) → ShardEffect limits p (at p) (deliver p sender verdict t) r
@@ -147,6 +161,7 @@ module _ (limits : Limits) (place : ℕ) (model : Model) where
   unfolding step clusterStep atShard logAfter mintedAfter
   effect (mint p index owner amount) = mint-effect p index owner amount _ (shard-effect limits p (at p) (mint p index owner amount))
   effect (register p t) = register-effect p t _ (shard-effect limits p (at p) (register p t))
+  effect (turn p) = turn-effect p _ (shard-effect limits p (at p) (turn p))
   effect (deliver p sender verdict t) = go (notGiven limits (model .shards) p sender verdict t) refl
     where
       done : List Ledger × Answer

@@ -13,7 +13,7 @@ use Rattle.transaction.specs.Tokens.{zeroInput, zeroOutput, takesPart, sameToke
 use Rattle.transaction.specs.Checks.{indexFits, valueFits, inputFits, outputFits, countsFit, fieldsFit, sameName, namedTwice, balanced, mintFits}
 use Rattle.model.specs.declared.Token.{Token}
 use Rattle.model.specs.declared.Outcome.the-variants.{Wait, Commit, Abort}
-use Rattle.model.specs.declared.Answer.the-variants.{Refused, Minted, Registered, Heard, Again}
+use Rattle.model.specs.declared.Answer.the-variants.{Refused, Minted, Registered, Heard, Again, Turned}
 use Rattle.model.specs.Lists.{andThen}
 use Rattle.model.specs.Steps.{
   Limits,
@@ -33,6 +33,8 @@ use Rattle.model.specs.Steps.{
   afterVote,
   placeOf,
   entryOf,
+  freeing,
+  afterTurn,
 }
 use Rattle.model.specs.Shard.{
   Call,
@@ -48,6 +50,8 @@ use Rattle.model.specs.Shard.{
   deliverRefusals,
   hear,
   shardStep,
+  turn,
+  turnRefusals,
 }
 use Rattle.model.specs.Cluster.{ledgerAt, gave, notGiven, atShard, clusterStep}
 use Rattle.model.specs.Model.{logAfter, mintedAfter, step, after, answers, play, playAnswers}
@@ -303,14 +307,35 @@ pub record Examples : Type 0 where
       ∷ []
       )
       ≡ Minted ∷ Registered true Wait ∷ Registered false Abort ∷ Refused 17 ∷ Heard Abort ∷ Registered false Abort ∷ []
+  -- turning frees what is pledged to an aborted transaction, and a third one spends it; once: 19; no such shard: 3
+  turn-frees : playAnswers house (torn-apart ++ (register 0 (alone 1) ∷ turn 0 ∷ turn 0 ∷ turn 8 ∷ register 0 (alone 2) ∷ []))
+      ≡ Minted ∷ Registered true Wait ∷ Registered false Abort ∷ Heard Abort ∷ Heard Abort ∷ Registered false Abort
+      ∷ Turned ∷ Refused 19 ∷ Refused 3 ∷ Registered true Commit ∷ []
+  turn-freed : tokensAfter (torn-apart ++ (turn 0 ∷ [])) 0 ≡ token 0 0 10 3 0 ∷ []
+  -- what is pledged to an undecided transaction stays pledged, and that one still commits
+  turn-waits : tokensAfter (mint 0 0 10 3 ∷ register 0 both ∷ turn 0 ∷ []) 0 ≡ token 0 0 10 3 5 ∷ []
+  turn-commits : playAnswers house (known-at-both ++ (turn 0 ∷ register 0 (alone 1) ∷ deliver 0 1 1 both ∷ turn 1 ∷ deliver 1 0 1 both ∷ []))
+      ≡ Minted ∷ Minted ∷ Registered true Wait ∷ Registered true Wait ∷ Turned ∷ Registered false Abort ∷ Heard Commit ∷ Turned ∷ Heard Commit ∷ []
+  -- at a turned shard an abort frees its tokens at once: inside a registration, by the last vote, and by an early no
+  turned-own : playAnswers house (turn 0 ∷ mint 0 0 10 3 ∷ register 0 half ∷ register 0 (alone 1) ∷ [])
+      ≡ Turned ∷ Minted ∷ Registered false Abort ∷ Registered true Commit ∷ []
+  turned-vote : tokensAfter (turn 0 ∷ torn-apart) 0 ≡ token 0 0 10 3 0 ∷ []
+  turned-early : tokensAfter (turn 0 ∷ early) 0 ≡ token 0 0 10 3 0 ∷ []
+  -- and stays turned: a second abort frees too
+  turned-still : tokensAfter (turn 0 ∷ mint 0 0 10 3 ∷ register 0 half ∷ register 0 torn ∷ register 1 torn ∷ deliver 0 1 0 torn ∷ []) 0
+      ≡ token 0 0 10 3 0 ∷ []
+  -- another shard's turn frees nothing here
+  turned-other : tokensAfter (turn 1 ∷ torn-apart) 0 ≡ token 0 0 10 3 8 ∷ []
+  -- at a lone shard: a turn of another shard is 3
+  lone-turn : shardStep house 0 (ledgerAt house (play house [] .shards) 0) (turn 1) .1 ≡ Refused 3
 
 -- each of them by computation
 pub examples : Examples
 unfolding input output make tokensAfter token both known-at-both votes alone wrong half other5 near5 pass torn
     torn-apart onward crossed three known-at-three early small takesPart sameToken sameInput sameOutput sameTransaction indexFits valueFits inputFits outputFits
     countsFit fieldsFit sameName namedTwice balanced mintFits inputsHere available availableHere pledges vote newlyKnown
-    decide outputsHere madeHere commit afterMint afterRegister afterVote placeOf entryOf reservedBy reserved heldOff
-    mintRefusals registerRefusals deliverForm deliverRefusals hear shardStep gave notGiven atShard clusterStep logAfter
+    decide outputsHere madeHere commit freeing afterMint afterRegister afterVote afterTurn placeOf entryOf reservedBy reserved heldOff
+    mintRefusals registerRefusals deliverForm deliverRefusals turnRefusals hear shardStep gave notGiven atShard clusterStep logAfter
     mintedAfter step after answers play playAnswers outcomeIn heardAllIn committed serialFrom serialValue genesisLedger takeInputs addOutputs spend serialRun
 examples = record {
   seven-answers = refl;
@@ -353,4 +378,14 @@ examples = record {
   early-in = refl;
   early-10 = refl;
   early-17 = refl;
+  turn-frees = refl;
+  turn-freed = refl;
+  turn-waits = refl;
+  turn-commits = refl;
+  turned-own = refl;
+  turned-vote = refl;
+  turned-early = refl;
+  turned-still = refl;
+  turned-other = refl;
+  lone-turn = refl;
 }

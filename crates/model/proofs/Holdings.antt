@@ -22,13 +22,15 @@ use Rattle.model.specs.Steps.{
   freeFor,
   available,
   pledgedTo,
-  pledgeIf,
+  pledgeWhen,
+  namedIn,
   pledges,
   tokenOf,
   tokensFrom,
   madeHere,
   stays,
   commit,
+  freeing,
 }
 use Rattle.model.specs.Demand.{inputValue, tokenValue, hasSpot, tokenAt, sameSpot}
 use Rattle.model.proofs.Basics.{
@@ -40,6 +42,7 @@ use Rattle.model.proofs.Basics.{
   clash,
   orElse,
   some≢none,
+  some-inj,
   CaseO,
   is-some,
   is-none,
@@ -154,48 +157,90 @@ available-token tokens x s e =
 
 -- ---- Pledges
 
--- a pledge changes neither creator, index nor value
-pledge-keeps : (n : ℕ) (xs : List Input) (t : Token) → ((pledgeIf n xs t) .creator ≡ t .creator)
-    × ((pledgeIf n xs t) .index ≡ t .index) × (tokenValue (pledgeIf n xs t) ≡ tokenValue t)
-pledge-keeps n xs t = go (any (namedBy t) xs)
+-- a change of pledge changes neither creator, index nor value
+pub pledge-keeps : (n : ℕ) (f : Token → Bool) (t : Token) → ((pledgeWhen n f t) .creator ≡ t .creator)
+    × ((pledgeWhen n f t) .index ≡ t .index) × (tokenValue (pledgeWhen n f t) ≡ tokenValue t)
+pledge-keeps n f t = go (f t)
   where
     go : (b : Bool) → ((cond b (pledgedTo n t) t) .creator ≡ t .creator)
         × ((cond b (pledgedTo n t) t) .index ≡ t .index) × (tokenValue (cond b (pledgedTo n t) t) ≡ tokenValue t)
     go true = (refl, refl, refl)
     go false = (refl, refl, refl)
 
--- a lookup after pledges
-pub tok-pledges : (n : ℕ) (xs : List Input) (tokens : List Token) (m i : ℕ) → tokenAt (pledges n xs tokens) m i ≡ mapOption (pledgeIf n xs) (tokenAt tokens m i)
-unfolding pledges
-tok-pledges n xs tokens m i =
-    lookup-map (hasSpot m i) (hasSpot m i) (pledgeIf n xs) (λ t j. eqb (pledge-keeps n xs t .0 j) m && eqb (pledge-keeps n xs t .1 j) i) tokens
+-- a lookup after changes of pledge
+pub tok-when : (n : ℕ) (f : Token → Bool) (tokens : List Token) (m i : ℕ)
+    → tokenAt (map (pledgeWhen n f) tokens) m i ≡ mapOption (pledgeWhen n f) (tokenAt tokens m i)
+tok-when n f tokens m i =
+    lookup-map (hasSpot m i) (hasSpot m i) (pledgeWhen n f) (λ t j. eqb (pledge-keeps n f t .0 j) m && eqb (pledge-keeps n f t .1 j) i) tokens
+
+-- they change no value
+value-when : (n : ℕ) (f : Token → Bool) (tokens : List Token) (m i : ℕ)
+    → mapOption tokenValue (tokenAt (map (pledgeWhen n f) tokens) m i) ≡ mapOption tokenValue (tokenAt tokens m i)
+value-when n f tokens m i = ap (mapOption tokenValue) (tok-when n f tokens m i) ∙ same (tokenAt tokens m i)
+  where
+    same : (o : Option Token) → mapOption tokenValue (mapOption (pledgeWhen n f) o) ≡ mapOption tokenValue o
+    same none = refl
+    same (some t) = ap some (pledge-keeps n f t .2)
+
+-- they make no token twice
+no-twice-when : (n : ℕ) (f : Token → Bool) (tokens : List Token) → NoTwice tokens → NoTwice (map (pledgeWhen n f) tokens)
+no-twice-when n f tokens s =
+    alone-map sameSpot (pledgeWhen n f)
+    (λ a b j. eqb (pledge-keeps n f b .0 j) (pledge-keeps n f a .0 j) && eqb (pledge-keeps n f b .1 j) (pledge-keeps n f a .1 j))
+    tokens s
+
+-- a token of which the test fails stays as it is
+tok-untouched : (n : ℕ) (f : Token → Bool) (tokens : List Token) (m i : ℕ) {t : Token}
+    → tokenAt tokens m i ≡ some t → f t ≡ false → tokenAt (map (pledgeWhen n f) tokens) m i ≡ some t
+tok-untouched n f tokens m i {t} e z =
+    tok-when n f tokens m i ∙ ap (mapOption (pledgeWhen n f)) e ∙ ap (λ (b : Bool). some (cond b (pledgedTo n t) t)) z
 
 -- pledges change no value
-pub value-pledged : (n : ℕ) (xs : List Input) (o : Option Token) → mapOption tokenValue (mapOption (pledgeIf n xs) o) ≡ mapOption tokenValue o
-value-pledged n xs none = refl
-value-pledged n xs (some t) = ap some (pledge-keeps n xs t .2)
+pub value-pledges : (n : ℕ) (xs : List Input) (tokens : List Token) (m i : ℕ)
+    → mapOption tokenValue (tokenAt (pledges n xs tokens) m i) ≡ mapOption tokenValue (tokenAt tokens m i)
+unfolding pledges
+value-pledges n xs tokens m i = value-when n (namedIn xs) tokens m i
 
--- a pledged token stays pledged
-pub pledge-stays : (n : ℕ) (xs : List Input) (t : Token) → (n ≡ 0 → ⊥) → (t .pledge ≡ 0 → ⊥) → (pledgeIf n xs t) .pledge ≡ 0 → ⊥
-pledge-stays n xs t h g = go (any (namedBy t) xs)
-  where
-    go : (b : Bool) → (cond b (pledgedTo n t) t) .pledge ≡ 0 → ⊥
-    go true e = h e
-    go false e = g e
-
--- the token of an available input is pledged
-pub pledge-set : (n : ℕ) (xs : List Input) (t : Token) (x : Input) → List·Memᴰ x xs → t .creator ≡ x .token .creator
-    → t .index ≡ x .token .index → (pledgeIf n xs t) .pledge ≡ n
-pledge-set n xs t x m a b =
-    ap (λ (c : Bool). (cond c (pledgedTo n t) t) .pledge) (any-of (namedBy t) m (and-intro (eqb-yes a) (eqb-yes b)))
-
--- pledges make no token twice
+-- and make no token twice
 pub no-twice-pledges : (n : ℕ) (xs : List Input) (tokens : List Token) → NoTwice tokens → NoTwice (pledges n xs tokens)
 unfolding pledges
-no-twice-pledges n xs tokens s =
-    alone-map sameSpot (pledgeIf n xs)
-    (λ a b j. eqb (pledge-keeps n xs b .0 j) (pledge-keeps n xs a .0 j) && eqb (pledge-keeps n xs b .1 j) (pledge-keeps n xs a .1 j))
-    tokens s
+no-twice-pledges n xs tokens s = no-twice-when n (namedIn xs) tokens s
+
+-- the token of one of the inputs is pledged
+pub tok-pledged : (n : ℕ) (xs : List Input) (tokens : List Token) (x : Input) → List·Memᴰ x xs
+    → {t : Token} → tokenAt tokens (x .token .creator) (x .token .index) ≡ some t
+    → tokenAt (pledges n xs tokens) (x .token .creator) (x .token .index) ≡ some (pledgedTo n t)
+unfolding pledges
+tok-pledged n xs tokens x m {t} e =
+    let r = tok-name tokens (x .token .creator) (x .token .index) e in
+    let named : namedIn xs t ≡ true = any-of (namedBy t) m (and-intro (eqb-yes (r .0)) (eqb-yes (r .1))) in
+    tok-when n (namedIn xs) tokens (x .token .creator) (x .token .index)
+    ∙ ap (mapOption (pledgeWhen n (namedIn xs))) e ∙ ap (λ (b : Bool). some (cond b (pledgedTo n t) t)) named
+
+-- a token that none of the inputs names stays as it is
+pub tok-unpledged : (n : ℕ) (xs : List Input) (tokens : List Token) (m i : ℕ) {t : Token}
+    → tokenAt tokens m i ≡ some t → namedIn xs t ≡ false → tokenAt (pledges n xs tokens) m i ≡ some t
+unfolding pledges
+tok-unpledged n xs tokens m i e z = tok-untouched n (namedIn xs) tokens m i e z
+
+-- ---- Tokens that come free
+
+-- freeing changes no value
+pub value-freeing : (f : Token → Bool) (tokens : List Token) (m i : ℕ)
+    → mapOption tokenValue (tokenAt (freeing f tokens) m i) ≡ mapOption tokenValue (tokenAt tokens m i)
+unfolding freeing
+value-freeing f tokens m i = value-when 0 f tokens m i
+
+-- and makes no token twice
+pub no-twice-freeing : (f : Token → Bool) (tokens : List Token) → NoTwice tokens → NoTwice (freeing f tokens)
+unfolding freeing
+no-twice-freeing f tokens s = no-twice-when 0 f tokens s
+
+-- a token that is not freed stays as it is
+pub tok-unfreed : (f : Token → Bool) (tokens : List Token) (m i : ℕ) {t : Token}
+    → tokenAt tokens m i ≡ some t → f t ≡ false → tokenAt (freeing f tokens) m i ≡ some t
+unfolding freeing
+tok-unfreed f tokens m i e z = tok-untouched 0 f tokens m i e z
 
 -- ---- Tokens made
 
@@ -223,6 +268,27 @@ made-from p n j (o ∷ l) m i {t} e = go (eqb (o .shard) p) refl e (made-from p 
             let w : j ≡ i = eqb-eq j i (r .1) in
             (sym (eqb-eq n m (r .0)), List·Memᴰ·head (sym (eqb-eq (o .shard) p y)), omega arith)
         hit false z q = let w : suc j ≤ i = h q .2 in (h q .0, List·Memᴰ·tail (h q .1), omega arith)
+
+-- a made token is pledged to none
+made-free : (p n j : ℕ) (l : List Output) (m i : ℕ) {t : Token} → tokenAt (tokensFrom p n j l) m i ≡ some t → t .pledge ≡ 0
+made-free p n j [] m i e = some≢none e refl
+made-free p n j (o ∷ l) m i {t} e = go (eqb (o .shard) p) (eqb n m && eqb j i) e (made-free p n (suc j) l m i)
+  where
+    rest : List Token
+    rest = tokensFrom p n (suc j) l
+
+    go : (b c : Bool) → tokenAt (cond b (tokenOf n j o ∷ rest) rest) m i ≡ some t → (tokenAt rest m i ≡ some t → t .pledge ≡ 0) → t .pledge ≡ 0
+    go false c q h = h q
+    go true c q h = hit (eqb n m && eqb j i) q
+      where
+        hit : (c : Bool) → cond c (some (tokenOf n j o)) (tokenAt rest m i) ≡ some t → t .pledge ≡ 0
+        hit true q = ap (λ (u : Token). u .pledge) (sym (some-inj q))
+        hit false q = h q
+
+-- the same of all that a transaction makes
+pub made-unpledged : (p : ℕ) (t : Transaction) (m i : ℕ) {k : Token} → tokenAt (madeHere p t) m i ≡ some k → k .pledge ≡ 0
+unfolding madeHere
+made-unpledged p t m i e = made-free p (t .number) 0 (usedOutputs t) m i e
 
 -- a made token's creator is the transaction
 pub made-number : (p : ℕ) (t : Transaction) (m i : ℕ) {k : Token} → tokenAt (madeHere p t) m i ≡ some k → m ≡ t .number

@@ -3,7 +3,7 @@
 use Prim.Native.Nat.{ℕ}
 use mathlib.Core.Path.{_≡_, refl, ap, sym, _∙_, subst}
 use mathlib.Core.Logic.{_↔_, _⊎_, inl, inr, ⊎-elim}
-use mathlib.Core.Bool.{Bool, true, false, cond}
+use mathlib.Core.Bool.{Bool, true, false, cond, true≢false}
 use mathlib.Core.Option.{Option, none, some}
 use mathlib.Core.List.{List, [], _∷_, List·Memᴰ, List·Memᴰ·head, List·Memᴰ·tail}
 use lib.Dec.{eqb}
@@ -17,13 +17,30 @@ use Rattle.model.specs.declared.Known.{Known}
 use Rattle.model.specs.declared.Outcome.{Outcome}
 use Rattle.model.specs.declared.Outcome.the-variants.{Wait, Commit, Abort}
 use Rattle.model.specs.Lists.{mapOption}
-use Rattle.model.specs.Steps.{Limits, Ledger, inputsHere, heardFrom, outcomeOf, madeHere, commit, settle}
+use Rattle.model.specs.Steps.{
+  Limits,
+  Ledger,
+  holding,
+  inputsHere,
+  heardFrom,
+  outcomeOf,
+  madeHere,
+  commit,
+  settle,
+  isAborted,
+  isPledgedTo,
+  freeing,
+  ended,
+  isAbortedFor,
+  pledgedToAborted,
+}
 use Rattle.model.specs.Model.{Entry}
 use Rattle.model.specs.Demand.{Value, inputValue, tokenValue, tokenAt}
 use Rattle.model.proofs.Basics.{
   eqb-eq,
   eqb-apart,
   not-yes,
+  both,
   clash,
   Case,
   yes-case,
@@ -39,10 +56,11 @@ use Rattle.model.proofs.Basics.{
   caseO,
   map-none,
   map-or,
+  any-at,
 }
-use Rattle.model.proofs.Entries.{look, OneEach, put, look-put-same, look-put-other, look-put-elim, one-each-put}
+use Rattle.model.proofs.Entries.{look, OneEach, mem-look, put, look-put-same, look-put-other, look-put-elim, one-each-put}
 use Rattle.model.proofs.Outcomes.{outcome-yes, abort≢commit, wait≢commit}
-use Rattle.model.proofs.Holdings.{NoTwice, taken, taken-by, here-shard, made-number, tok-commit, no-twice-commit}
+use Rattle.model.proofs.Holdings.{NoTwice, taken, taken-by, here-shard, made-number, tok-commit, no-twice-commit, value-freeing, no-twice-freeing, tok-unfreed}
 
 -- ---- Votes and registrations, as the log has them
 
@@ -99,11 +117,17 @@ pub record Consumed (p : ℕ) (known : List Known) (m i : ℕ) : Type 0 where
   pub is-commit : outcomeOf entry ≡ Commit
   pub is-taken : taken p (entry .transaction) m i ≡ true
 
--- the token is held, and pledged
-pub record Pledged (tokens : List Token) (m i : ℕ) : Type 0 where
+-- the token is held, and pledged to the transaction of that number
+pub record Pledged (tokens : List Token) (m i number : ℕ) : Type 0 where
   pub token : Token
   pub is-there : tokenAt tokens m i ≡ some token
-  pub is-pledged : token .pledge ≡ 0 → ⊥
+  pub is-pledged : token .pledge ≡ number
+
+-- the transaction of that number is aborted here
+pub record Aborted (known : List Known) (number : ℕ) : Type 0 where
+  pub entry : Known
+  pub is-known : look known number ≡ some entry
+  pub is-abort : outcomeOf entry ≡ Abort
 
 -- an available input was made before: as a genesis token, or by a transaction committed here that all its shards had registered
 pub data Source (p : ℕ) (genesis : ℕ → ℕ → Option Value) (known : List Known) (older : List Entry) (x : Input) : Type 0 where
@@ -136,17 +160,35 @@ pub record Core (log : List Entry) (p : ℕ) (tokens : List Token) (genesis : �
   pub there : (m i : ℕ) → (Consumed p known m i → ⊥) → mapOption tokenValue (tokenAt tokens m i) ≡ made p genesis known m i
   pub sources : Sources p genesis known log
 
+-- the pledges to the transaction of that number last: it is not aborted here, or the shard has not turned
+abbrev pub Lasts : Bool → List Known → ℕ → Type 0
+Lasts turned known number = turned ≡ true → Aborted known number → ⊥
+
+-- an input once available to a transaction whose pledges last is consumed, or held with its pledge
+abbrev pub Bound : List Entry → ℕ → Bool → List Known → List Token → Type 0
+Bound log p turned known tokens =
+    (r : Entry) → List·Memᴰ r log → r .shard ≡ p → Lasts turned known (r .transaction .number) → (x : Input) → List·Memᴰ x (r .available)
+    → Consumed p known (x .token .creator) (x .token .index) ⊎ Pledged tokens (x .token .creator) (x .token .index) (r .transaction .number)
+
+-- two such transactions never found one token available
+abbrev pub Disjoint : List Entry → ℕ → Bool → List Known → Type 0
+Disjoint log p turned known =
+    (r₁ r₂ : Entry) → List·Memᴰ r₁ log → List·Memᴰ r₂ log → r₁ .shard ≡ p → r₂ .shard ≡ p
+    → Lasts turned known (r₁ .transaction .number) → Lasts turned known (r₂ .transaction .number)
+    → (x₁ x₂ : Input) → List·Memᴰ x₁ (r₁ .available) → List·Memᴰ x₂ (r₂ .available)
+    → x₁ .token .creator ≡ x₂ .token .creator → x₁ .token .index ≡ x₂ .token .index → r₁ ≡ r₂
+
 -- the ledger of one shard
 pub record Ok (limits : Limits) (log : List Entry) (p : ℕ) (genesis : ℕ → ℕ → Option Value) (ledger : Ledger) : Type 0 where
   pub core : Core log p (ledger .tokens) genesis (ledger .known)
   pub flags : length (ledger .given) ≡ limits .genesis
   pub indices : (i : ℕ) → getD (ledger .given) i false ≡ isSome (genesis 0 i)
   pub no-twice : NoTwice (ledger .tokens)
-  -- what the log has of this shard is known here, and an input once available is consumed or still held with a pledge
+  -- what the log has of this shard is known here, and what it found available is bound, to one transaction whose pledges last
   pub entered : (r : Entry) → List·Memᴰ r log → r .shard ≡ p → (k : Known)
       × (look (ledger .known) (r .transaction .number) ≡ some k) × (k .transaction ≡ r .transaction)
-  pub bound : (r : Entry) → List·Memᴰ r log → r .shard ≡ p → (x : Input) → List·Memᴰ x (r .available)
-      → Consumed p (ledger .known) (x .token .creator) (x .token .index) ⊎ Pledged (ledger .tokens) (x .token .creator) (x .token .index)
+  pub bound : Bound log p (ledger .turned) (ledger .known) (ledger .tokens)
+  pub disjoint : Disjoint log p (ledger .turned) (ledger .known)
 
 -- ---- Sources of the inputs of a yes vote
 
@@ -210,6 +252,7 @@ module _ {log : List Entry} {p : ℕ} {tokens : List Token} {genesis : ℕ → �
 -- what must hold of the entry
 pub record Enters (log : List Entry) (p : ℕ) (known : List Known) (k : Known) : Type 0 where
   pub undecided : (j : Known) → look known (k .transaction .number) ≡ some j → outcomeOf j ≡ Commit → ⊥
+  pub still : (j : Known) → look known (k .transaction .number) ≡ some j → outcomeOf j ≡ Abort → outcomeOf k ≡ Abort
   pub positive : k .transaction .number ≡ 0 → ⊥
   pub distinct : namedTwice (k .transaction) ≡ false
   pub eight : length (k .heard) ≡ 8
@@ -226,6 +269,16 @@ module _ {log : List Entry} {p : ℕ} {tokens : List Token} {genesis : ℕ → �
   -- the tokens with its outcome
   abbrev after : List Token
   after = settle (outcomeOf k) p (k .transaction) tokens₁
+
+  -- what was aborted stays so
+  pub aborted-more : (n : ℕ) → Aborted known n → Aborted new n
+  aborted-more n a = go (case (eqb (k .transaction .number) n))
+    where
+      go : Case (eqb (k .transaction .number) n) → Aborted new n
+      go (yes-case y) =
+          let e : k .transaction .number ≡ n = eqb-eq (k .transaction .number) n y in
+          record { entry = k; is-known = look-put-same k known e; is-abort = en .still (a .entry) (ap (look known) e ∙ a .is-known) (a .is-abort) }
+      go (no-case y) = record { entry = a .entry; is-known = look-put-other k known (eqb-apart y) ∙ a .is-known; is-abort = a .is-abort }
 
   -- before, nothing had the number
   unmade-number : (m i : ℕ) → m ≡ k .transaction .number → made p genesis known m i ≡ none
@@ -382,15 +435,15 @@ module _ {log : List Entry} {p : ℕ} {tokens : List Token} {genesis : ℕ → �
   }
 
   -- a pledged token is consumed or stays pledged
-  pub bound-enter : (m i : ℕ) → Pledged tokens₁ m i → Consumed p new m i ⊎ Pledged after m i
-  bound-enter m i t = go (outcomeOf k) refl
+  pub bound-enter : (m i number : ℕ) → Pledged tokens₁ m i number → Consumed p new m i ⊎ Pledged after m i number
+  bound-enter m i number t = go (outcomeOf k) refl
     where
-      go : (o : Outcome) → outcomeOf k ≡ o → Consumed p new m i ⊎ Pledged (settle o p (k .transaction) tokens₁) m i
+      go : (o : Outcome) → outcomeOf k ≡ o → Consumed p new m i ⊎ Pledged (settle o p (k .transaction) tokens₁) m i number
       go Wait e = inr t
       go Abort e = inr t
       go Commit e = cut (case (taken p (k .transaction) m i))
         where
-          cut : Case (taken p (k .transaction) m i) → Consumed p new m i ⊎ Pledged (commit p (k .transaction) tokens₁) m i
+          cut : Case (taken p (k .transaction) m i) → Consumed p new m i ⊎ Pledged (commit p (k .transaction) tokens₁) m i number
           cut (yes-case y) = inl (consumed-new m i e y)
           cut (no-case n) = inr (record {
             token = t .token;
@@ -399,8 +452,8 @@ module _ {log : List Entry} {p : ℕ} {tokens : List Token} {genesis : ℕ → �
           })
 
   -- an input once available stays consumed or pledged
-  pub bound-more : (m i : ℕ) → Consumed p known m i ⊎ Pledged tokens₁ m i → Consumed p new m i ⊎ Pledged after m i
-  bound-more m i b = ⊎-elim (λ d. inl (consumed-more m i d)) (bound-enter m i) b
+  pub bound-more : (m i number : ℕ) → Consumed p known m i ⊎ Pledged tokens₁ m i number → Consumed p new m i ⊎ Pledged after m i number
+  bound-more m i number b = ⊎-elim (λ d. inl (consumed-more m i d)) (bound-enter m i number) b
 
   -- no token twice, once k is entered
   pub no-twice-enter : NoTwice tokens₁ → NoTwice after
@@ -415,3 +468,87 @@ module _ {log : List Entry} {p : ℕ} {tokens : List Token} {genesis : ℕ → �
       go Wait = n
       go Abort = n
       go Commit = no-twice-commit p (k .transaction) tokens₁ n absent
+
+-- ---- Pledges to aborted transactions end
+
+-- tokens that differ only in pledges that need not last
+pub record Frees (turned : Bool) (known : List Known) (tokens freed : List Token) : Type 0 where
+  pub same-value : (m i : ℕ) → mapOption tokenValue (tokenAt freed m i) ≡ mapOption tokenValue (tokenAt tokens m i)
+  pub once : NoTwice tokens → NoTwice freed
+  pub keeps : (m i n : ℕ) → Lasts turned known n → Pledged tokens m i n → Pledged freed m i n
+
+-- where nothing changes
+frees-none : (turned : Bool) (known : List Known) (tokens : List Token) → Frees turned known tokens tokens
+frees-none turned known tokens = record { same-value = λ m i. refl; once = λ s. s; keeps = λ m i n f b. b }
+
+-- tokens come free that are pledged to aborted transactions alone, at a turned shard
+frees-those : (known : List Known) (f : Token → Bool) (tokens : List Token) → ((t : Token) → f t ≡ true → Aborted known (t .pledge))
+    → Frees true known tokens (freeing f tokens)
+frees-those known f tokens a = record {
+  same-value = value-freeing f tokens;
+  once = no-twice-freeing f tokens;
+  keeps = λ m i n lasts b.
+      let bound : f (b .token) ≡ false = not-yes (λ y. lasts refl (subst (Aborted known) (b .is-pledged) (a (b .token) y))) in
+      record { token = b .token; is-pledged = b .is-pledged; is-there = tok-unfreed f tokens m i (b .is-there) bound };
+}
+
+-- those of an abort
+frees-ended : (known : List Known) (turned : Bool) (o : Outcome) (number : ℕ) (tokens : List Token) → (o ≡ Abort → Aborted known number)
+    → Frees turned known tokens (ended turned o number tokens)
+frees-ended known turned Wait number tokens a = frees-none turned known tokens
+frees-ended known turned Commit number tokens a = frees-none turned known tokens
+frees-ended known false Abort number tokens a = frees-none false known tokens
+frees-ended known true Abort number tokens a =
+    frees-those known (isPledgedTo number) tokens (λ t y. subst (Aborted known) (sym (eqb-eq (t .pledge) number y)) (a refl))
+
+-- an outcome that is abort
+aborted-is : (o : Outcome) → isAborted o ≡ true → o ≡ Abort
+aborted-is Wait e = absurd (true≢false (sym e))
+aborted-is Commit e = absurd (true≢false (sym e))
+aborted-is Abort e = refl
+
+-- those of a turn
+pub frees-turn : (known : List Known) → OneEach known → (tokens : List Token)
+    → Frees true known tokens (freeing (pledgedToAborted known) tokens)
+frees-turn known s tokens = frees-those known (pledgedToAborted known) tokens (λ t y.
+    let r = any-at (isAbortedFor t) known y in
+    let k : Known = r .0 in
+    let b = both (isAborted (outcomeOf k)) (isPledgedTo (k .transaction .number) t) (r .2) in
+    subst (Aborted known) (sym (eqb-eq (t .pledge) (k .transaction .number) (b .1)))
+    (record { entry = k; is-known = mem-look known s (r .1); is-abort = aborted-is (outcomeOf k) (b .0) }))
+
+-- the invariant does not depend on them
+pub frees-ok : {limits : Limits} {log : List Entry} {p : ℕ} {genesis : ℕ → ℕ → Option Value} {l : Ledger} (turned : Bool) (freed : List Token)
+    → (l .turned ≡ true → turned ≡ true) → Ok limits log p genesis l → Frees turned (l .known) (l .tokens) freed
+    → Ok limits log p genesis (record { tokens = freed; given = l .given; known = l .known; turned = turned })
+frees-ok turned freed stays o f = record {
+  core = record {
+    one-each = o .core .one-each;
+    number = o .core .number;
+    distinct = o .core .distinct;
+    eight = o .core .eight;
+    own = o .core .own;
+    votes = o .core .votes;
+    zero-only = o .core .zero-only;
+    gone = λ m i d. map-none tokenValue (tokenAt freed m i) (f .same-value m i ∙ ap (mapOption tokenValue) (o .core .gone m i d));
+    there = λ m i h. f .same-value m i ∙ o .core .there m i h;
+    sources = o .core .sources;
+  };
+  flags = o .flags;
+  indices = o .indices;
+  no-twice = f .once (o .no-twice);
+  entered = o .entered;
+  bound = λ r d at lasts x a.
+      ⊎-elim inl (λ b. inr (f .keeps (x .token .creator) (x .token .index) (r .transaction .number) lasts b)) (o .bound r d at (λ y. lasts (stays y)) x a);
+  disjoint = λ r₁ r₂ d₁ d₂ b₁ b₂ n₁ n₂. o .disjoint r₁ r₂ d₁ d₂ b₁ b₂ (λ y. n₁ (stays y)) (λ y. n₂ (stays y));
+}
+
+-- once a known transaction is entered and settled, its abort may free its tokens
+pub ended-ok : {limits : Limits} {log : List Entry} {p : ℕ} {genesis : ℕ → ℕ → Option Value} (l : Ledger) (k : Known) (settled : List Token)
+    → Ok limits log p genesis (holding l settled (put k (l .known)))
+    → Ok limits log p genesis (holding l (ended (l .turned) (outcomeOf k) (k .transaction .number) settled) (put k (l .known)))
+ended-ok l k settled o =
+    let freed = ended (l .turned) (outcomeOf k) (k .transaction .number) settled in
+    frees-ok (l .turned) freed (λ y. y) o
+    (frees-ended (put k (l .known)) (l .turned) (outcomeOf k) (k .transaction .number) settled
+    (λ e. record { entry = k; is-known = look-put-same k (l .known) refl; is-abort = e }))

@@ -1,7 +1,7 @@
 -- Further laws, each in one line: what a refused call and a repeat leave, tokens found available once, and amounts that balance.
 use Prim.Native.Nat.{ℕ, suc, _+_}
 use native.Mathlib.Omega.{arith}
-use mathlib.Core.Path.{_≡_, refl, ap, sym, _∙_}
+use mathlib.Core.Path.{_≡_, refl, ap, sym, _∙_, subst}
 use mathlib.Core.Logic.{_≢_}
 use mathlib.Core.Bool.{Bool, true, false, cond, true≢false}
 use mathlib.Core.List.{List, _++_, [], _∷_, List·Memᴰ, List·Memᴰ·head, List·Memᴰ·tail}
@@ -12,14 +12,15 @@ use Rattle.transaction.specs.declared.Transaction.{Transaction}
 use Rattle.transaction.specs.Lists.{total, repeats}
 use Rattle.transaction.specs.Tokens.{usedInputs, usedOutputs}
 use Rattle.transaction.specs.Checks.{inputAmount, outputAmount, balanced}
+use Rattle.model.specs.declared.Outcome.the-variants.{Abort}
 use Rattle.model.specs.declared.Answer.{Answer}
-use Rattle.model.specs.declared.Answer.the-variants.{Refused, Minted, Registered, Heard, Again}
-use Rattle.model.specs.Steps.{Limits, Ledger, emptyLedger}
-use Rattle.model.specs.Shard.{Call, mint, register, deliver, shardStep}
+use Rattle.model.specs.declared.Answer.the-variants.{Refused, Minted, Registered, Heard, Again, Turned}
+use Rattle.model.specs.Steps.{Limits, Ledger, emptyLedger, inputsHere}
+use Rattle.model.specs.Shard.{Call, mint, register, deliver, shardStep, turn}
 use Rattle.model.specs.Cluster.{ledgerAt, notGiven, atShard, clusterStep}
 use Rattle.model.specs.Model.{Entry, Model, emptyModel, entryFor, step, after, answers, play}
-use Rattle.model.specs.Demand.{committed}
-use Rattle.model.proofs.Basics.{eqb-eq}
+use Rattle.model.specs.Demand.{committed, outcomeAt}
+use Rattle.model.proofs.Basics.{eqb-eq, clash}
 use Rattle.model.proofs.Lookups.{alone-repeats}
 use Rattle.model.proofs.Entries.{sameNumber}
 use Rattle.model.proofs.Effects.{
@@ -37,12 +38,14 @@ use Rattle.model.proofs.Effects.{
   did-hear,
   did-repeat,
   effect,
+  shard-turned,
+  did-turn,
 }
 use Rattle.model.proofs.Steps.{play-inv}
 use Rattle.model.proofs.Order.{committed-logged}
-use Rattle.model.proofs.Holdings.{here-shard, in-here}
+use Rattle.model.proofs.Holdings.{in-here}
 use Rattle.model.proofs.Invariant.{voted-available}
-use Rattle.model.proofs.Decisions.{commit-at, commit-votes}
+use Rattle.model.proofs.Decisions.{not-aborted, taken-once}
 
 -- ---- What changes nothing
 
@@ -53,6 +56,7 @@ leaves Minted = false
 leaves (Registered verdict outcome) = false
 leaves (Heard outcome) = false
 leaves (Again outcome) = true
+leaves Turned = false
 
 -- by cases on what a call did at a shard
 shard-left : (limits : Limits) (me : ℕ) (ledger : Ledger) (call : Call) (r : Ledger × Answer)
@@ -62,6 +66,7 @@ shard-left limits me ledger call _ (shard-again h z) e = refl
 shard-left limits me ledger call _ (shard-minted h) e = absurd (true≢false (sym e))
 shard-left limits me ledger call _ (shard-registered h) e = absurd (true≢false (sym e))
 shard-left limits me ledger call _ (shard-heard h g z) e = absurd (true≢false (sym e))
+shard-left limits me ledger call _ (shard-turned h) e = absurd (true≢false (sym e))
 
 -- a refused call and a repeat change no shard
 pub shard-unchanged : (limits : Limits) (me : ℕ) (ledger : Ledger) (call : Call)
@@ -80,6 +85,7 @@ pub cluster-unchanged : (limits : Limits) (shards : List Ledger) (call : Call)
 unfolding clusterStep
 cluster-unchanged limits shards (mint p index owner amount) e = at-unchanged limits shards p (mint p index owner amount) e
 cluster-unchanged limits shards (register p t) e = at-unchanged limits shards p (register p t) e
+cluster-unchanged limits shards (turn p) e = at-unchanged limits shards p (turn p) e
 cluster-unchanged limits shards (deliver p sender verdict t) e = go (notGiven limits shards p sender verdict t) e
   where
     done : List Ledger × Answer
@@ -97,6 +103,7 @@ model-left limits place model call _ (did-repeat h z) e = refl
 model-left limits place model call _ (did-mint h) e = absurd (true≢false (sym e))
 model-left limits place model call _ (did-register h) e = absurd (true≢false (sym e))
 model-left limits place model call _ (did-hear h g z) e = absurd (true≢false (sym e))
+model-left limits place model call _ (did-turn h) e = absurd (true≢false (sym e))
 
 -- nor do they change the model's notes
 pub model-unchanged : (limits : Limits) (place : ℕ) (model : Model) (call : Call)
@@ -111,6 +118,7 @@ number-left limits me ledger call _ (shard-minted h) n e z = let y : _≡_ {A = 
 number-left limits me ledger call _ (shard-registered h) n e z = let y : _≡_ {A = ℕ} 0 1 = cc in omega arith
 number-left limits me ledger call _ (shard-heard h g w) n e z = let y : _≡_ {A = ℕ} 0 1 = cc in omega arith
 number-left limits me ledger call _ (shard-again h w) n e z = let y : _≡_ {A = ℕ} 0 1 = cc in omega arith
+number-left limits me ledger call _ (shard-turned h) n e z = let y : _≡_ {A = ℕ} 0 1 = cc in omega arith
 
 -- a refusal has a number
 pub refused-number : (limits : Limits) (me : ℕ) (ledger : Ledger) (call : Call) (n : ℕ) → shardStep limits me ledger call .1 ≡ Refused n → n ≢ 0
@@ -118,29 +126,35 @@ refused-number limits me ledger call = number-left limits me ledger call (shardS
 
 -- ---- Tokens and numbers
 
--- two distinct transactions never both found one token available
-pub available-once : (limits : Limits) (calls : List Call) (a b : Entry) (x y : Input)
-    → List·Memᴰ a (play limits calls .log) → List·Memᴰ b (play limits calls .log)
-    → a .shard ≡ b .shard → List·Memᴰ x (a .available) → List·Memᴰ y (b .available) → x .token ≡ y .token → a .transaction ≡ b .transaction
-available-once limits calls a b x y ma mb s mx my e =
+-- two distinct transactions that a shard has not aborted never both found one of its tokens available; of two that commit, never both
+pub available-once : (limits : Limits) (calls : List Call) (p : ℕ) (a b : Entry) (x y : Input)
+    → List·Memᴰ a (play limits calls .log) → List·Memᴰ b (play limits calls .log) → a .shard ≡ p → b .shard ≡ p
+    → outcomeAt limits (play limits calls) p (a .transaction) ≢ Abort → outcomeAt limits (play limits calls) p (b .transaction) ≢ Abort
+    → List·Memᴰ x (a .available) → List·Memᴰ y (b .available) → x .token ≡ y .token → a .transaction ≡ b .transaction
+available-once limits calls p a b x y ma mb sa sb na nb mx my e =
+    let model : Model = play limits calls in
+    let w = play-inv limits calls in
     ap (λ (r : Entry). r .transaction)
-    (play-inv limits calls .logged .disjoint a b ma mb s x y mx my (λ i. e i .creator) (λ i. e i .index))
+    (w .at p .disjoint a b ma mb sa sb (λ _. not-aborted limits model w p a ma sa na) (λ _. not-aborted limits model w p b mb sb nb)
+    x y mx my (λ i. e i .creator) (λ i. e i .index))
+
+-- at a shard that has not turned, two distinct transactions never did, whatever came of them
+pub available-once-unturned : (limits : Limits) (calls : List Call) (p : ℕ) (a b : Entry) (x y : Input)
+    → List·Memᴰ a (play limits calls .log) → List·Memᴰ b (play limits calls .log) → a .shard ≡ p → b .shard ≡ p
+    → ledgerAt limits (play limits calls .shards) p .turned ≡ false
+    → List·Memᴰ x (a .available) → List·Memᴰ y (b .available) → x .token ≡ y .token → a .transaction ≡ b .transaction
+available-once-unturned limits calls p a b x y ma mb sa sb n mx my e =
+    ap (λ (r : Entry). r .transaction)
+    (play-inv limits calls .at p .disjoint a b ma mb sa sb (λ y. clash y n) (λ y. clash y n) x y mx my (λ i. e i .creator) (λ i. e i .index))
 
 -- two distinct committed transactions never name one token: a token is destroyed once
 pub spent-once : (limits : Limits) (calls : List Call) (t s : Transaction) (x y : Input)
     → committed (play limits calls) t ≡ true → committed (play limits calls) s ≡ true
     → List·Memᴰ x (usedInputs t) → List·Memᴰ y (usedInputs s) → x .token ≡ y .token → t ≡ s
 spent-once limits calls t s x y ct cs mx my e =
-    let model : Model = play limits calls in
-    let w = play-inv limits calls in
-    let a = commit-at limits model w t ct in
-    let b = commit-at limits model w s cs in
-    let v = commit-votes limits model w (a .0) t (a .1) (x .token .shard) (here-shard (x .token .shard) t x (in-here t x mx) .2) in
-    let u = commit-votes limits model w (b .0) s (b .1) (y .token .shard) (here-shard (y .token .shard) s y (in-here s y my) .2) in
-    sym (v .of)
-    ∙ available-once limits calls (v .entry) (u .entry) x y (v .logged) (u .logged)
-    (v .at ∙ (λ i. e i .shard) ∙ sym (u .at)) (voted-available v x (in-here t x mx)) (voted-available u y (in-here s y my)) e
-    ∙ u .of
+    let q : ℕ = x .token .shard in
+    let there : List·Memᴰ y (inputsHere q s) = subst (λ (p : ℕ). List·Memᴰ y (inputsHere p s)) (sym (λ i. e i .shard)) (in-here s y my) in
+    taken-once limits (play limits calls) (play-inv limits calls) t s ct cs q x y (in-here t x mx) there (λ i. e i .creator) (λ i. e i .index)
 
 -- no shard knows two transactions of one number
 pub one-number : (limits : Limits) (calls : List Call) (p : ℕ) → repeats sameNumber (ledgerAt limits (play limits calls .shards) p .known) ≡ false
@@ -155,6 +169,7 @@ balanced-step limits place model f call _ (did-refuse h) = f
 balanced-step limits place model f call _ (did-mint h) = f
 balanced-step limits place model f call _ (did-hear h g z) = f
 balanced-step limits place model f call _ (did-repeat h z) = f
+balanced-step limits place model f call _ (did-turn h) = f
 balanced-step limits place model f call _ (did-register {p = p} {t = t} h) = go
   where
     go : (e : Entry) → List·Memᴰ e (entryFor limits place (model .shards) p t ∷ model .log) → balanced (e .transaction) ≡ true

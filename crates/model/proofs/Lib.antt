@@ -2,7 +2,8 @@
 -- Holdings (tokens), Refusals (what a table that answers 0 says), Effects (what a call can do). The invariant: Invariant (one shard), Steps (every list
 -- of calls).
 -- Demand 3: Decisions, Spending and Serial (the serial ledger), Order, and whole in Theorem; Bridge carries it to code.
--- Further laws: Votes (how many bring a decision), OneNo (the abort that one no brings), Capacity (the limits), Laws, HeldOff (17), Tables (refusals).
+-- Further laws: Votes (how many bring a decision), OneNo (the abort that one no brings), Turned (aborts that free tokens), Capacity (the limits),
+-- Laws, HeldOff (17), Tables (refusals).
 -- Examples plays cases of the papers.
 pub mod Basics
 pub mod Lookups
@@ -24,5 +25,6 @@ pub mod Capacity
 pub mod Laws
 pub mod HeldOff
 pub mod OneNo
+pub mod Turned
 pub mod Tables
 pub mod Examples

@@ -29,19 +29,20 @@ use Rattle.model.specs.Steps.{
   outcomeOf,
   outputsHere,
   madeHere,
-  settle,
   placeOf,
   entryOf,
   afterVote,
+  ended,
+  concluded,
 }
-use Rattle.model.specs.Shard.{Call, mint, register, deliver, isUndecided, ifUndecided, reservedBy, awaits, hear, shardStep}
+use Rattle.model.specs.Shard.{Call, mint, register, deliver, isUndecided, ifUndecided, reservedBy, awaits, hear, shardStep, turn}
 use Rattle.model.specs.Cluster.{ledgerAt, notGiven, atShard, clusterStep}
 use Rattle.model.specs.Model.{play}
 use Rattle.model.specs.Demand.{outcomeAt, heardAllAt, WasAvailable}
 use Rattle.model.proofs.Basics.{eqb-yes}
 use Rattle.model.proofs.Outcomes.{abort-stays}
 use Rattle.model.proofs.Refusals.{shard-below, part-in}
-use Rattle.model.proofs.Effects.{ShardEffect, shard-refused, shard-minted, shard-registered, shard-heard, shard-again, shard-effect}
+use Rattle.model.proofs.Effects.{ShardEffect, shard-refused, shard-minted, shard-registered, shard-heard, shard-again, shard-effect, shard-turned}
 use Rattle.model.proofs.Steps.{play-inv}
 use Rattle.model.proofs.Decisions.{decided-exact, all-in-at}
 use Rattle.model.proofs.Votes.{own-no, own-yes}
@@ -66,6 +67,7 @@ at-once-by limits me ledger call _ (shard-refused h) verdict o e = let z : _≡_
 at-once-by limits me ledger call _ (shard-minted h) verdict o e = let z : _≡_ {A = ℕ} 0 1 = cc in absurd (omega arith)
 at-once-by limits me ledger call _ (shard-heard h f z) verdict o e = let y : _≡_ {A = ℕ} 0 1 = cc in absurd (omega arith)
 at-once-by limits me ledger call _ (shard-again h z) verdict o e = let y : _≡_ {A = ℕ} 0 1 = cc in absurd (omega arith)
+at-once-by limits me ledger call _ (shard-turned h) verdict o e = let y : _≡_ {A = ℕ} 0 1 = cc in absurd (omega arith)
 
 -- at a lone shard
 pub at-once : (limits : Limits) (me : ℕ) (ledger : Ledger) (call : Call) (verdict : Bool) (o : Outcome)
@@ -78,6 +80,7 @@ pub at-once-in : (limits : Limits) (shards : List Ledger) (call : Call) (verdict
 unfolding clusterStep atShard
 at-once-in limits shards (mint p index owner amount) verdict o e = at-once limits p (ledgerAt limits shards p) (mint p index owner amount) verdict o e
 at-once-in limits shards (register p t) verdict o e = at-once limits p (ledgerAt limits shards p) (register p t) verdict o e
+at-once-in limits shards (turn p) verdict o e = at-once limits p (ledgerAt limits shards p) (turn p) verdict o e
 at-once-in limits shards (deliver p sender said t) verdict o e = go (notGiven limits shards p sender said t) e
   where
     done : Ledger × Answer
@@ -98,12 +101,13 @@ abort-reserves me k e = ap (λ (o : Outcome). ifUndecided o (length (outputsHere
 pub abort-awaited : (me : ℕ) (x : Input) (k : Known) → outcomeOf k ≡ Abort → awaits me x k ≡ false
 abort-awaited me x k e = ap (λ (o : Outcome). isUndecided o && any (names x) (madeHere me (k .transaction))) e
 
--- a later fresh vote is noted and answers HEARD ABORT, and no token changes
+-- a later fresh vote is noted and answers HEARD ABORT; the tokens are those of an abort, and so as they were (Turned: `late-vote-in`)
 pub late-vote : (me : ℕ) (ledger : Ledger) (sender verdict : ℕ) (t : Transaction)
     → heardFrom sender (entryOf t (ledger .known)) ≡ 0 → outcomeOf (entryOf t (ledger .known)) ≡ Abort
     → hear me ledger sender verdict t
     ≡ (
-      holding ledger (ledger .tokens) (set (ledger .known) (placeOf t (ledger .known)) (hearing sender verdict (entryOf t (ledger .known)))),
+      holding ledger (ended (ledger .turned) Abort (entryOf t (ledger .known) .transaction .number) (ledger .tokens))
+          (set (ledger .known) (placeOf t (ledger .known)) (hearing sender verdict (entryOf t (ledger .known)))),
       Heard Abort,
     )
 unfolding hear afterVote
@@ -112,7 +116,9 @@ late-vote me ledger sender verdict t fresh e =
     let heard : Known = hearing sender verdict k in
     let known : List Known = set (ledger .known) (placeOf t (ledger .known)) heard in
     let stays : outcomeOf heard ≡ Abort = abort-stays k sender verdict fresh e in
-    λ i. cond (eqb-yes fresh i) (holding ledger (settle (stays i) me (k .transaction) (ledger .tokens)) known, Heard (stays i)) (ledger, Again (outcomeOf k))
+    λ i. cond (eqb-yes fresh i)
+    (holding ledger (concluded (ledger .turned) (stays i) me (k .transaction) (ledger .tokens)) known, Heard (stays i))
+    (ledger, Again (outcomeOf k))
 
 -- ---- The commit rule, sooner
 

@@ -14,7 +14,7 @@ use Rattle.model.specs.Demand.{committed, isLast, serialFrom, serialOrde
 use Rattle.model.proofs.Basics.{not-yes, both, and-intro, Case, yes-case, no-case, case}
 use Rattle.model.proofs.Entries.{same-eq, same-true}
 use Rattle.model.proofs.Outcomes.{commit≢wait}
-use Rattle.model.proofs.Effects.{Effect, did-refuse, did-mint, did-register, did-hear, did-repeat, effect}
+use Rattle.model.proofs.Effects.{Effect, did-refuse, did-mint, did-register, did-hear, did-repeat, effect, did-turn}
 use Rattle.model.proofs.Steps.{Inv}
 use Rattle.model.proofs.Decisions.{knows, commit-at}
 use Rattle.model.proofs.Serial.{last-entry, last-tail, late}
@@ -124,6 +124,7 @@ placed-step limits place model h call _ (did-mint n) = placed-same place (model 
 placed-step limits place model h call _ (did-register {p = p} {t = t} n) = placed-new place (model .log) (entryFor limits place (model .shards) p t) refl h
 placed-step limits place model h call _ (did-hear n g z) = placed-same place (model .log) h
 placed-step limits place model h call _ (did-repeat n z) = placed-same place (model .log) h
+placed-step limits place model h call _ (did-turn n) = placed-same place (model .log) h
 
 -- after every list of calls
 falls-after : (limits : Limits) (place : ℕ) (model : Model) (calls : List Call) → Placed place (model .log) → Falls (after limits place model calls .log)

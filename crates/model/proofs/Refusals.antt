@@ -14,7 +14,18 @@ use Rattle.transaction.specs.Checks.{shardFits, indexFits, valueFits, countsFit
 use Rattle.transaction.proofs.Causes.{counts}
 use Rattle.model.specs.declared.Known.{Known}
 use Rattle.model.specs.Steps.{Limits, Ledger, isFor, entryOf, heardFrom, outputsHere}
-use Rattle.model.specs.Shard.{hasNumber, isOther, reserved, otherVerdict, mintRefusals, registerRefusals, deliverForm, deliverRest, deliverRefusals}
+use Rattle.model.specs.Shard.{
+  hasNumber,
+  isOther,
+  reserved,
+  otherVerdict,
+  mintRefusals,
+  registerRefusals,
+  deliverForm,
+  deliverRest,
+  deliverRefusals,
+  turnRefusals,
+}
 use Rattle.model.proofs.Basics.{eqb-eq, eqb-apart, both, not-no, not-is, passed, first-append, any-at}
 
 -- ---- Parts of the field checks
@@ -44,7 +55,7 @@ nothing : (l : List Known) → length l ≡ 0 → l ≡ []
 nothing [] e = refl
 nothing (k ∷ l) e = absurd (omega arith)
 
--- ---- The three tables
+-- ---- The four tables
 
 module _ (limits : Limits) (me : ℕ) (ledger : Ledger) (receiver : ℕ) where
   -- a genesis token that passes
@@ -70,6 +81,19 @@ module _ (limits : Limits) (me : ℕ) (ledger : Ledger) (receiver : ℕ) where
         none-known = nothing (ledger .known) (eqb-eq (length (ledger .known)) 0 (not-no (eqb (length (ledger .known)) 0) (g .1 .1 .0)));
         ungiven = g .1 .1 .1 .0;
       }
+
+  -- a turn that passes
+  pub record TurnPasses : Type 0 where
+    pub addressed : receiver ≡ me
+    pub receiver-fits : shardFits receiver ≡ true
+    pub unturned : ledger .turned ≡ false
+
+  -- what its table says
+  pub turn-passes : firstOf (turnRefusals me ledger receiver) ≡ 0 → TurnPasses
+  unfolding turnRefusals
+  turn-passes e =
+      let g = passed (turnRefusals me ledger receiver) refl e in
+      record { addressed = eqb-eq receiver me (not-no (eqb receiver me) (g .0)); receiver-fits = not-no (shardFits receiver) (g .1 .0); unturned = g .1 .1 .0 }
 
   -- what both kinds of record that carry a transaction have passed
   pub record FormPasses (t : Transaction) : Type 0 where

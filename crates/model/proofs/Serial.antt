@@ -77,7 +77,7 @@ use Rattle.model.proofs.Invariant.{
   Sources,
 }
 use Rattle.model.proofs.Steps.{Once, genesisAt, Inv}
-use Rattle.model.proofs.Decisions.{outcome-of, agree-at, commit-votes, commit-at, committed-of}
+use Rattle.model.proofs.Decisions.{outcome-of, agree-at, commit-votes, commit-at, committed-of, taken-once}
 use Rattle.model.proofs.Spending.{Spends, spends}
 
 -- ---- Transactions that no newer entry of the log is of
@@ -370,12 +370,8 @@ module _ (limits : Limits) (model : Model) (w : Inv limits model) where
       spent-not : (q : ℕ) (x : Input) → List·Memᴰ x (inputsHere q t) → Spent (r ∷ newer) q (x .token .creator) (x .token .index) → ⊥
       spent-not q x m d =
           let y = taken-by q (d .transaction) (x .token .creator) (x .token .index) (d .is-taken) in
-          let v₁ = voted-commit t c q (here-shard q t x m .2) in
-          let v₂ = voted-commit (d .transaction) (d .is-committed) q (here-shard q (d .transaction) (y .input) (y .is-here) .2) in
-          let same-entry : v₁ .entry ≡ v₂ .entry =
-          w .logged .disjoint (v₁ .entry) (v₂ .entry) (v₁ .logged) (v₂ .logged) (v₁ .at ∙ sym (v₂ .at)) x (y .input)
-          (voted-available v₁ x m) (voted-available v₂ (y .input) (y .is-here)) (sym (y .is-creator)) (sym (y .is-index)) in
-          last-entry (r ∷ newer) (d .transaction) (d .is-last) r (List·Memᴰ·head refl) (sym (v₁ .of) ∙ ap (λ (e : Entry). e .transaction) same-entry ∙ v₂ .of)
+          last-entry (r ∷ newer) (d .transaction) (d .is-last) r (List·Memᴰ·head refl)
+          (taken-once limits model w t (d .transaction) c (d .is-committed) q x (y .input) m (y .is-here) (sym (y .is-creator)) (sym (y .is-index)))
 
       -- each input is present
       is-present : (x : Input) → List·Memᴰ x (usedInputs t) → ih .ledger (x .token) ≡ some (inputValue x)

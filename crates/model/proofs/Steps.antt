@@ -26,9 +26,11 @@ use Rattle.model.specs.Steps.{
   holding,
   genesisToken,
   inputsHere,
+  namedBy,
   available,
   availableHere,
-  pledgeIf,
+  pledgedTo,
+  namedIn,
   pledges,
   vote,
   noted,
@@ -38,12 +40,16 @@ use Rattle.model.specs.Steps.{
   hearing,
   outcomeOf,
   settle,
+  freeing,
+  concluded,
   isFor,
   placeOf,
   entryOf,
   afterMint,
   afterRegister,
   afterVote,
+  pledgedToAborted,
+  afterTurn,
 }
 use Rattle.model.specs.Shard.{Call}
 use Rattle.model.specs.Cluster.{emptyShards, ledgerAt, hasGiven, gave}
@@ -73,6 +79,7 @@ use Rattle.model.proofs.Basics.{
   all-at,
   all-of,
   any-at,
+  any-no,
   keep-in,
   keep-out,
   set-elim,
@@ -92,8 +99,8 @@ use Rattle.model.proofs.Entries.{
   whole-known,
   entry-look,
 }
-use Rattle.model.proofs.Outcomes.{outcome-yes}
-use Rattle.model.proofs.Holdings.{idOf, tok-name, mem-tok, available-token, tok-pledges, value-pledged, pledge-stays, pledge-set, no-twice-pledges}
+use Rattle.model.proofs.Outcomes.{outcome-yes, abort-stays}
+use Rattle.model.proofs.Holdings.{idOf, tok-name, mem-tok, available-token, value-pledges, no-twice-pledges, tok-pledged, tok-unpledged}
 use Rattle.model.proofs.Invariant.{
   Voted,
   voted-more,
@@ -103,6 +110,9 @@ use Rattle.model.proofs.Invariant.{
   made,
   Consumed,
   Pledged,
+  Lasts,
+  Bound,
+  Disjoint,
   Source,
   from-genesis,
   from-commit,
@@ -112,13 +122,17 @@ use Rattle.model.proofs.Invariant.{
   unmade,
   held-made,
   Enters,
+  aborted-more,
   core-enter,
   bound-enter,
   bound-more,
   no-twice-enter,
+  frees-turn,
+  frees-ok,
+  ended-ok,
 }
 use Rattle.model.proofs.Refusals.{shard-below, number-positive, part-in}
-use Rattle.model.proofs.Effects.{Effect, did-refuse, did-mint, did-register, did-hear, did-repeat, effect}
+use Rattle.model.proofs.Effects.{Effect, did-refuse, did-mint, did-register, did-hear, did-repeat, did-turn, effect}
 
 -- ---- The log
 
@@ -132,10 +146,6 @@ pub record Logged (log : List Entry) : Type 0 where
   pub once : Once log
   pub member : (r : Entry) → List·Memᴰ r log → List·Memᴰ (r .shard) (shardsOf (r .transaction))
   pub unique : (r₁ r₂ : Entry) → List·Memᴰ r₁ log → List·Memᴰ r₂ log → r₁ .shard ≡ r₂ .shard → r₁ .transaction ≡ r₂ .transaction → r₁ ≡ r₂
-  -- a token is found available once
-  pub disjoint : (r₁ r₂ : Entry) → List·Memᴰ r₁ log → List·Memᴰ r₂ log → r₁ .shard ≡ r₂ .shard
-      → (x₁ x₂ : Input) → List·Memᴰ x₁ (r₁ .available) → List·Memᴰ x₂ (r₂ .available)
-      → x₁ .token .creator ≡ x₂ .token .creator → x₁ .token .index ≡ x₂ .token .index → r₁ ≡ r₂
 
 -- ---- The invariant of the model
 
@@ -193,19 +203,14 @@ ok-other {log = log} {p} {genesis} {l} r h o = record {
   flags = o .flags;
   indices = o .indices;
   no-twice = o .no-twice;
-  entered = ent;
-  bound = bnd;
+  entered = λ r₀ m at. o .entered r₀ (old r₀ m at) at;
+  bound = λ r₀ m at. o .bound r₀ (old r₀ m at) at;
+  disjoint = λ r₁ r₂ m₁ m₂ a₁ a₂. o .disjoint r₁ r₂ (old r₁ m₁ a₁) (old r₂ m₂ a₂) a₁ a₂;
 }
   where
-    ent : (r₀ : Entry) → List·Memᴰ r₀ (r ∷ log) → r₀ .shard ≡ p → (k : Known)
-        × (look (l .known) (r₀ .transaction .number) ≡ some k) × (k .transaction ≡ r₀ .transaction)
-    ent r₀ (List·Memᴰ·head e) at = absurd (h (ap (λ (c : Entry). c .shard) (sym e) ∙ at))
-    ent r₀ (List·Memᴰ·tail m) at = o .entered r₀ m at
-
-    bnd : (r₀ : Entry) → List·Memᴰ r₀ (r ∷ log) → r₀ .shard ≡ p → (x : Input) → List·Memᴰ x (r₀ .available)
-        → Consumed p (l .known) (x .token .creator) (x .token .index) ⊎ Pledged (l .tokens) (x .token .creator) (x .token .index)
-    bnd r₀ (List·Memᴰ·head e) at = absurd (h (ap (λ (c : Entry). c .shard) (sym e) ∙ at))
-    bnd r₀ (List·Memᴰ·tail m) at = o .bound r₀ m at
+    old : (r₀ : Entry) → List·Memᴰ r₀ (r ∷ log) → r₀ .shard ≡ p → List·Memᴰ r₀ log
+    old r₀ (List·Memᴰ·head e) at = absurd (h (ap (λ (c : Entry). c .shard) (sym e) ∙ at))
+    old r₀ (List·Memᴰ·tail m) at = m
 
 -- ---- What was made has a source
 
@@ -299,6 +304,7 @@ module _ {limits : Limits} {log : List Entry} {p : ℕ} {genesis : ℕ → ℕ �
   enters₁ : Enters (r ∷ log) p (l .known) k
   enters₁ = record {
     undecided = λ j e y. some≢none e unknown;
+    still = λ j e y. some≢none e unknown;
     positive = positive;
     distinct = distinct;
     eight = length-set (replicate 8 0) p (noted (vote p (l .tokens) t));
@@ -319,44 +325,70 @@ module _ {limits : Limits} {log : List Entry} {p : ℕ} {genesis : ℕ → ℕ �
 
   -- pledges change no value
   keeps : (m i : ℕ) → mapOption tokenValue (tokenAt tokens₁ m i) ≡ mapOption tokenValue (tokenAt (l .tokens) m i)
-  keeps m i =
-      ap (mapOption tokenValue) (tok-pledges (t .number) (availableHere p (l .tokens) t) (l .tokens) m i)
-      ∙ value-pledged (t .number) (availableHere p (l .tokens) t) (tokenAt (l .tokens) m i)
+  keeps m i = value-pledges (t .number) (availableHere p (l .tokens) t) (l .tokens) m i
 
-  -- what was pledged stays pledged
-  pledged-more : (m i : ℕ) → Pledged (l .tokens) m i → Pledged tokens₁ m i
-  pledged-more m i b = record {
-    token = pledgeIf (t .number) (availableHere p (l .tokens) t) (b .token);
-    is-pledged = pledge-stays (t .number) (availableHere p (l .tokens) t) (b .token) positive (b .is-pledged);
-    is-there = tok-pledges (t .number) (availableHere p (l .tokens) t) (l .tokens) m i
-        ∙ ap (mapOption (pledgeIf (t .number) (availableHere p (l .tokens) t))) (b .is-there);
+  -- a token that is pledged is no available input's
+  unnamed : (m i n : ℕ) → (n ≡ 0 → ⊥) → (b : Pledged (l .tokens) m i n) → namedIn (availableHere p (l .tokens) t) (b .token) ≡ false
+  unnamed m i n f b = any-no (namedBy (b .token)) (availableHere p (l .tokens) t) (λ x a y.
+      let found = available-token (l .tokens) x (o .no-twice) (available-in p (l .tokens) t x a .1) in
+      let here = tok-name (l .tokens) m i (b .is-there) in
+      let z = both (eqb (b .token .creator) (x .token .creator)) (eqb (b .token .index) (x .token .index)) y in
+      let creator : x .token .creator ≡ m = sym (eqb-eq (b .token .creator) (x .token .creator) (z .0)) ∙ here .0 in
+      let index : x .token .index ≡ i = sym (eqb-eq (b .token .index) (x .token .index) (z .1)) ∙ here .1 in
+      let same : b .token ≡ found .token = some-inj (sym (b .is-there) ∙ (λ j. tokenAt (l .tokens) (sym creator j) (sym index j)) ∙ found .is-there) in
+      f (sym (b .is-pledged) ∙ ap (λ (u : Token). u .pledge) same ∙ found .is-free))
+
+  -- what was pledged stays pledged to the same transaction
+  pledged-more : (m i n : ℕ) → (n ≡ 0 → ⊥) → Pledged (l .tokens) m i n → Pledged tokens₁ m i n
+  pledged-more m i n f b = record {
+    token = b .token;
+    is-pledged = b .is-pledged;
+    is-there = tok-unpledged (t .number) (availableHere p (l .tokens) t) (l .tokens) m i (b .is-there) (unnamed m i n f b);
   }
 
   -- an available input is pledged
-  pledged-new : (x : Input) → List·Memᴰ x (availableHere p (l .tokens) t) → Pledged tokens₁ (x .token .creator) (x .token .index)
+  pledged-new : (x : Input) → List·Memᴰ x (availableHere p (l .tokens) t) → Pledged tokens₁ (x .token .creator) (x .token .index) (t .number)
   pledged-new x m =
       let a = available-token (l .tokens) x (o .no-twice) (available-in p (l .tokens) t x m .1) in
-      let n = tok-name (l .tokens) (x .token .creator) (x .token .index) (a .is-there) in
       record {
-        token = pledgeIf (t .number) (availableHere p (l .tokens) t) (a .token);
-        is-there = tok-pledges (t .number) (availableHere p (l .tokens) t) (l .tokens) (x .token .creator) (x .token .index)
-            ∙ ap (mapOption (pledgeIf (t .number) (availableHere p (l .tokens) t))) (a .is-there);
-        is-pledged = λ z. positive (sym (pledge-set (t .number) (availableHere p (l .tokens) t) (a .token) x m (n .0) (n .1)) ∙ z);
+        token = pledgedTo (t .number) (a .token);
+        is-pledged = refl;
+        is-there = tok-pledged (t .number) (availableHere p (l .tokens) t) (l .tokens) x m (a .is-there);
       }
+
+  -- a registered transaction's number is not 0
+  numbered : (r₀ : Entry) → List·Memᴰ r₀ log → r₀ .shard ≡ p → r₀ .transaction .number ≡ 0 → ⊥
+  numbered r₀ d at = let h = o .entered r₀ d at in o .core .number (r₀ .transaction .number) (h .0) (h .1)
+
+  -- pledges that last now did before
+  lasted : (n : ℕ) → Lasts (l .turned) (put k (l .known)) n → Lasts (l .turned) (l .known) n
+  lasted n lasts y b = lasts y (aborted-more core₁ k tokens₁ enters₁ keeps n b)
+
+  -- the token of an available input is bound to no registration of a transaction whose pledges last
+  free : (r₀ : Entry) → List·Memᴰ r₀ log → r₀ .shard ≡ p → Lasts (l .turned) (l .known) (r₀ .transaction .number)
+      → (x x₀ : Input) → List·Memᴰ x (availableHere p (l .tokens) t) → List·Memᴰ x₀ (r₀ .available)
+      → x .token .creator ≡ x₀ .token .creator → x .token .index ≡ x₀ .token .index → ⊥
+  free r₀ d at lasts x x₀ a a₀ em ei =
+      let f = available-token (l .tokens) x (o .no-twice) (available-in p (l .tokens) t x a .1) in
+      let e : tokenAt (l .tokens) (x₀ .token .creator) (x₀ .token .index) ≡ some (f .token) = (λ j. tokenAt (l .tokens) (sym em j) (sym ei j)) ∙ f .is-there in
+      ⊎-elim (λ c. some≢none e (o .core .gone (x₀ .token .creator) (x₀ .token .index) c))
+      (λ w. numbered r₀ d at (sym (w .is-pledged) ∙ ap (λ (u : Token). u .pledge) (some-inj (sym (w .is-there) ∙ e)) ∙ f .is-free))
+      (o .bound r₀ d at lasts x₀ a₀)
 
   -- the shard's ledger after it
   pub register-ok : Ok limits (r ∷ log) p genesis (afterRegister p l t)
   unfolding afterRegister newlyKnown
   register-ok =
-      subst (λ (known : List Known). Ok limits (r ∷ log) p genesis (holding l (settle (outcomeOf k) p t tokens₁) known))
-      (sym (append-put k (l .known) unknown)) (record {
+      subst (λ (known : List Known). Ok limits (r ∷ log) p genesis (holding l (concluded (l .turned) (outcomeOf k) p t tokens₁) known))
+      (sym (append-put k (l .known) unknown)) (ended-ok l k (settle (outcomeOf k) p t tokens₁) (record {
         core = core-enter core₁ k tokens₁ enters₁ keeps;
         flags = o .flags;
         indices = o .indices;
         no-twice = no-twice-enter core₁ k tokens₁ enters₁ keeps (no-twice-pledges (t .number) (availableHere p (l .tokens) t) (l .tokens) (o .no-twice));
         entered = ent;
         bound = bnd;
-      })
+        disjoint = dis;
+      }))
     where
       ent : (r₀ : Entry) → List·Memᴰ r₀ (r ∷ log) → r₀ .shard ≡ p → (j : Known)
           × (look (put k (l .known)) (r₀ .transaction .number) ≡ some j) × (j .transaction ≡ r₀ .transaction)
@@ -366,15 +398,24 @@ module _ {limits : Limits} {log : List Entry} {p : ℕ} {genesis : ℕ → ℕ �
           let h = o .entered r₀ m at in
           (h .0, look-put-other k (l .known) (λ n. some≢none (ap (look (l .known)) n ∙ h .1) unknown) ∙ h .1, h .2)
 
-      bnd : (r₀ : Entry) → List·Memᴰ r₀ (r ∷ log) → r₀ .shard ≡ p → (x : Input) → List·Memᴰ x (r₀ .available)
-          → Consumed p (put k (l .known)) (x .token .creator) (x .token .index)
-          ⊎ Pledged (settle (outcomeOf k) p t tokens₁) (x .token .creator) (x .token .index)
-      bnd r₀ (List·Memᴰ·head e) at x a =
-          bound-enter core₁ k tokens₁ enters₁ keeps (x .token .creator) (x .token .index)
-          (pledged-new x (subst (λ (c : Entry). List·Memᴰ x (c .available)) e a))
-      bnd r₀ (List·Memᴰ·tail d) at x a =
-          bound-more core₁ k tokens₁ enters₁ keeps (x .token .creator) (x .token .index)
-          (⊎-elim inl (λ b. inr (pledged-more (x .token .creator) (x .token .index) b)) (o .bound r₀ d at x a))
+      bnd : Bound (r ∷ log) p (l .turned) (put k (l .known)) (settle (outcomeOf k) p t tokens₁)
+      bnd r₀ (List·Memᴰ·head e) at lasts x a =
+          let new = pledged-new x (subst (λ (c : Entry). List·Memᴰ x (c .available)) e a) in
+          bound-enter core₁ k tokens₁ enters₁ keeps (x .token .creator) (x .token .index) (r₀ .transaction .number)
+          (subst (Pledged tokens₁ (x .token .creator) (x .token .index)) (ap (λ (c : Entry). c .transaction .number) (sym e)) new)
+      bnd r₀ (List·Memᴰ·tail d) at lasts x a =
+          let n = r₀ .transaction .number in
+          bound-more core₁ k tokens₁ enters₁ keeps (x .token .creator) (x .token .index) n
+          (⊎-elim inl (λ b. inr (pledged-more (x .token .creator) (x .token .index) n (numbered r₀ d at) b)) (o .bound r₀ d at (lasted n lasts) x a))
+
+      dis : Disjoint (r ∷ log) p (l .turned) (put k (l .known))
+      dis r₁ r₂ (List·Memᴰ·head e₁) (List·Memᴰ·head e₂) b₁ b₂ n₁ n₂ x₁ x₂ a₁ a₂ em ei = e₁ ∙ sym e₂
+      dis r₁ r₂ (List·Memᴰ·head e₁) (List·Memᴰ·tail d₂) b₁ b₂ n₁ n₂ x₁ x₂ a₁ a₂ em ei =
+          absurd (free r₂ d₂ b₂ (lasted (r₂ .transaction .number) n₂) x₁ x₂ (subst (λ (c : Entry). List·Memᴰ x₁ (c .available)) e₁ a₁) a₂ em ei)
+      dis r₁ r₂ (List·Memᴰ·tail d₁) (List·Memᴰ·head e₂) b₁ b₂ n₁ n₂ x₁ x₂ a₁ a₂ em ei =
+          absurd (free r₁ d₁ b₁ (lasted (r₁ .transaction .number) n₁) x₂ x₁ (subst (λ (c : Entry). List·Memᴰ x₂ (c .available)) e₂ a₂) a₁ (sym em) (sym ei))
+      dis r₁ r₂ (List·Memᴰ·tail d₁) (List·Memᴰ·tail d₂) b₁ b₂ n₁ n₂ x₁ x₂ a₁ a₂ em ei =
+          o .disjoint r₁ r₂ d₁ d₂ b₁ b₂ (lasted (r₁ .transaction .number) n₁) (lasted (r₂ .transaction .number) n₂) x₁ x₂ a₁ a₂ em ei
 
   -- nothing that was known is forgotten
   pub register-grows : Grows (l .known) (afterRegister p l t .known)
@@ -387,19 +428,9 @@ module _ {limits : Limits} {log : List Entry} {p : ℕ} {genesis : ℕ → ℕ �
     λ q h. refl,
   )
 
-  -- the token of an available input is bound to no registration
-  free : (r₀ : Entry) → List·Memᴰ r₀ log → r₀ .shard ≡ p → (x x₀ : Input) → List·Memᴰ x (availableHere p (l .tokens) t) → List·Memᴰ x₀ (r₀ .available)
-      → x .token .creator ≡ x₀ .token .creator → x .token .index ≡ x₀ .token .index → ⊥
-  free r₀ d at x x₀ a a₀ em ei =
-      let f = available-token (l .tokens) x (o .no-twice) (available-in p (l .tokens) t x a .1) in
-      let e : tokenAt (l .tokens) (x₀ .token .creator) (x₀ .token .index) ≡ some (f .token) = (λ j. tokenAt (l .tokens) (sym em j) (sym ei j)) ∙ f .is-there in
-      ⊎-elim (λ c. some≢none e (o .core .gone (x₀ .token .creator) (x₀ .token .index) c))
-      (λ w. w .is-pledged (ap (λ (u : Token). u .pledge) (some-inj (sym (w .is-there) ∙ e)) ∙ f .is-free))
-      (o .bound r₀ d at x₀ a₀)
-
   -- the log after it
   pub register-logged : Logged log → Logged (r ∷ log)
-  register-logged w = record { once = (first-time, w .once); member = mem; unique = uni; disjoint = dis }
+  register-logged w = record { once = (first-time, w .once); member = mem; unique = uni }
     where
       first-time : (r₀ : Entry) → List·Memᴰ r₀ log → r₀ .shard ≡ p → r₀ .transaction ≡ t → ⊥
       first-time r₀ m at e = let h = o .entered r₀ m at in some≢none (ap (λ (c : Transaction). look (l .known) (c .number)) (sym e) ∙ h .1) unknown
@@ -419,16 +450,6 @@ module _ {limits : Limits} {log : List Entry} {p : ℕ} {genesis : ℕ → ℕ �
       uni r₁ r₂ (List·Memᴰ·head e₁) (List·Memᴰ·tail m₂) a b = absurd (first-time r₂ m₂ (sym a ∙ shard-of e₁) (sym b ∙ transaction-of e₁))
       uni r₁ r₂ (List·Memᴰ·tail m₁) (List·Memᴰ·head e₂) a b = absurd (first-time r₁ m₁ (a ∙ shard-of e₂) (b ∙ transaction-of e₂))
       uni r₁ r₂ (List·Memᴰ·tail m₁) (List·Memᴰ·tail m₂) a b = w .unique r₁ r₂ m₁ m₂ a b
-
-      dis : (r₁ r₂ : Entry) → List·Memᴰ r₁ (r ∷ log) → List·Memᴰ r₂ (r ∷ log) → r₁ .shard ≡ r₂ .shard
-          → (x₁ x₂ : Input) → List·Memᴰ x₁ (r₁ .available) → List·Memᴰ x₂ (r₂ .available)
-          → x₁ .token .creator ≡ x₂ .token .creator → x₁ .token .index ≡ x₂ .token .index → r₁ ≡ r₂
-      dis r₁ r₂ (List·Memᴰ·head e₁) (List·Memᴰ·head e₂) a x₁ x₂ a₁ a₂ em ei = e₁ ∙ sym e₂
-      dis r₁ r₂ (List·Memᴰ·head e₁) (List·Memᴰ·tail d₂) a x₁ x₂ a₁ a₂ em ei =
-          absurd (free r₂ d₂ (sym a ∙ shard-of e₁) x₁ x₂ (subst (λ (c : Entry). List·Memᴰ x₁ (c .available)) e₁ a₁) a₂ em ei)
-      dis r₁ r₂ (List·Memᴰ·tail d₁) (List·Memᴰ·head e₂) a x₁ x₂ a₁ a₂ em ei =
-          absurd (free r₁ d₁ (a ∙ shard-of e₂) x₂ x₁ (subst (λ (c : Entry). List·Memᴰ x₂ (c .available)) e₂ a₂) a₁ (sym em) (sym ei))
-      dis r₁ r₂ (List·Memᴰ·tail d₁) (List·Memᴰ·tail d₂) a x₁ x₂ a₁ a₂ em ei = w .disjoint r₁ r₂ d₁ d₂ a x₁ x₂ a₁ a₂ em ei
 
 -- ---- A fresh vote
 
@@ -466,6 +487,9 @@ module _ {limits : Limits} {log : List Entry} {p : ℕ} {genesis : ℕ → ℕ �
         let same-k : k₀ ≡ j = some-inj (sym is-known ∙ ap (look (l .known)) (sym num) ∙ e) in
         eqb-apart {m = 0} {n = 2} refl
         (sym unheard ∙ outcome-yes k₀ (ap outcomeOf same-k ∙ y) q (subst (λ (a : Transaction). List·Memᴰ q (shardsOf a)) (sym whole) member));
+    still = λ j e y.
+        let same-k : k₀ ≡ j = some-inj (sym is-known ∙ ap (look (l .known)) (sym num) ∙ e) in
+        abort-stays k₀ q v unheard (ap outcomeOf same-k ∙ y);
     positive = λ e. o .core .number (t .number) k₀ is-known (sym num ∙ e);
     distinct = o .core .distinct (t .number) k₀ is-known;
     eight = length-set (k₀ .heard) q (v + 1) ∙ o .core .eight (t .number) k₀ is-known;
@@ -485,16 +509,23 @@ module _ {limits : Limits} {log : List Entry} {p : ℕ} {genesis : ℕ → ℕ �
   pub vote-ok : Ok limits log p genesis (afterVote p l q v t)
   unfolding afterVote
   vote-ok =
-      subst (λ (known : List Known). Ok limits log p genesis (holding l (settle (outcomeOf k′) p (k₀ .transaction) (l .tokens)) known))
-      (sym set-known) (record {
+      subst (λ (known : List Known). Ok limits log p genesis (holding l (concluded (l .turned) (outcomeOf k′) p (k₀ .transaction) (l .tokens)) known))
+      (sym set-known) (ended-ok l k′ (settle (outcomeOf k′) p (k₀ .transaction) (l .tokens)) (record {
         core = core-enter (o .core) k′ (l .tokens) enters₂ (λ m i. refl);
         flags = o .flags;
         indices = o .indices;
         no-twice = no-twice-enter (o .core) k′ (l .tokens) enters₂ (λ m i. refl) (o .no-twice);
         entered = ent;
-        bound = λ r d at x a. bound-more (o .core) k′ (l .tokens) enters₂ (λ m i. refl) (x .token .creator) (x .token .index) (o .bound r d at x a);
-      })
+        bound = λ r d at lasts x a.
+            bound-more (o .core) k′ (l .tokens) enters₂ (λ m i. refl) (x .token .creator) (x .token .index) (r .transaction .number)
+            (o .bound r d at (lasted (r .transaction .number) lasts) x a);
+        disjoint = λ r₁ r₂ d₁ d₂ b₁ b₂ n₁ n₂.
+            o .disjoint r₁ r₂ d₁ d₂ b₁ b₂ (lasted (r₁ .transaction .number) n₁) (lasted (r₂ .transaction .number) n₂);
+      }))
     where
+      lasted : (n : ℕ) → Lasts (l .turned) (put k′ (l .known)) n → Lasts (l .turned) (l .known) n
+      lasted n lasts y b = lasts y (aborted-more (o .core) k′ (l .tokens) enters₂ (λ m i. refl) n b)
+
       ent : (r : Entry) → List·Memᴰ r log → r .shard ≡ p → (j : Known)
           × (look (put k′ (l .known)) (r .transaction .number) ≡ some j) × (j .transaction ≡ r .transaction)
       ent r m at = let h = o .entered r m at in go h (case (eqb (k₀ .transaction .number) (r .transaction .number)))
@@ -609,6 +640,7 @@ module _ {limits : Limits} {log : List Entry} {p : ℕ} {genesis : ℕ → ℕ �
     no-twice = alone-append sameSpot (l .tokens) (token ∷ []) (o .no-twice) (refl, tt) apart;
     entered = λ r m at. absurd (nobody r m at);
     bound = λ r m at. absurd (nobody r m at);
+    disjoint = λ r₁ r₂ m₁ m₂ a₁. absurd (nobody r₁ m₁ a₁);
   }
     where
       -- no token held has the new one's creator and index
@@ -627,6 +659,14 @@ module _ {limits : Limits} {log : List Entry} {p : ℕ} {genesis : ℕ → ℕ �
           set-elim (λ j b. b ≡ isSome (genesis′ 0 j)) (l .given) false i true long
           (sym (ap (λ (b : Bool). isSome (cond b (some value) (genesis 0 i))) (spot 0 i ∙ eqb-same i)))
           (λ j n. o .indices j ∙ sym (ap (λ (b : Bool). isSome (cond b (some value) (genesis 0 j))) (spot 0 j ∙ eqb-no (λ z. n (sym z)))))
+
+-- ---- A turn
+
+module _ {limits : Limits} {log : List Entry} {p : ℕ} {genesis : ℕ → ℕ → Option Value} {l : Ledger} (o : Ok limits log p genesis l) where
+  -- the shard's ledger after it
+  pub turn-ok : Ok limits log p genesis (afterTurn l)
+  unfolding afterTurn
+  turn-ok = frees-ok true (freeing (pledgedToAborted (l .known)) (l .tokens)) (λ y. refl) o (frees-turn (l .known) (o .core .one-each) (l .tokens))
 
 -- ---- One call
 
@@ -679,6 +719,19 @@ module _ (limits : Limits) (place : ℕ) (model : Model) (w : Inv limits model) 
   pub step-next : (call : Call) (r : Model × Answer) → Effect limits place model call r → Next limits model (r .0)
   step-next call _ (did-refuse h) = stay w
   step-next call _ (did-repeat h z) = stay w
+  step-next call _ (did-turn {p = p} h) =
+      let l : Ledger = afterTurn (at p) in
+      let below : p < length (model .shards) = in-range (shard-below p (h .receiver-fits)) in
+      record {
+        inv = record {
+          eight = length-set (model .shards) p l ∙ w .eight;
+          at = set-elim (λ q l. Ok limits (model .log) q (genesisAt (model .minted) q) l) (model .shards) (emptyLedger limits) p l below
+              (turn-ok (w .at p)) (λ q n. w .at q);
+          logged = w .logged;
+        };
+        grows = set-elim (λ q l. Grows (at q .known) (l .known)) (model .shards) (emptyLedger limits) p l below
+            (unfold afterTurn in grows-refl (at p .known)) (λ q n. grows-refl (at q .known));
+      }
   step-next call _ (did-mint {p = p} {index = i} {owner = owner} {amount = amount} h) =
       let g : Genesis = record { shard = p; index = i; owner = owner; amount = amount } in
       let l : Ledger = afterMint (at p) i owner amount in
@@ -771,8 +824,9 @@ empty-inv limits = record {
     no-twice = tt;
     entered = λ r m. elim m [ ];
     bound = λ r m. elim m [ ];
+    disjoint = λ r₁ r₂ m. elim m [ ];
   });
-  logged = record { once = tt; member = λ r m. elim m [ ]; unique = λ r₁ r₂ m. elim m [ ]; disjoint = λ r₁ r₂ m. elim m [ ] };
+  logged = record { once = tt; member = λ r m. elim m [ ]; unique = λ r₁ r₂ m. elim m [ ] };
 }
 
 -- the invariant of a play

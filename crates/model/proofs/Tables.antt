@@ -13,7 +13,7 @@ use Rattle.transaction.specs.Lists.{any, all, firstOf}
 use Rattle.transaction.specs.Checks.{shardFits, indexFits, valueFits, mintFits}
 use Rattle.model.specs.declared.Known.{Known}
 use Rattle.model.specs.declared.Answer.{Answer}
-use Rattle.model.specs.declared.Answer.the-variants.{Refused, Minted, Registered, Heard, Again}
+use Rattle.model.specs.declared.Answer.the-variants.{Refused, Minted, Registered, Heard, Again, Turned}
 use Rattle.model.specs.Steps.{
   Limits,
   Ledger,
@@ -28,6 +28,7 @@ use Rattle.model.specs.Steps.{
   afterMint,
   afterRegister,
   afterVote,
+  afterTurn,
 }
 use Rattle.model.specs.Shard.{
   Call,
@@ -45,6 +46,8 @@ use Rattle.model.specs.Shard.{
   unless,
   hear,
   shardStep,
+  turn,
+  turnRefusals,
 }
 use Rattle.model.specs.Cluster.{ledgerAt, gave, notGiven, atShard, clusterStep}
 use Rattle.model.specs.Model.{Model, play}
@@ -221,6 +224,7 @@ abbrev pub receiverOf : Call → ℕ
 receiverOf (mint receiver index owner amount) = receiver
 receiverOf (register receiver t) = receiver
 receiverOf (deliver receiver sender verdict t) = receiver
+receiverOf (turn receiver) = receiver
 
 -- the first two tests of a table, where the second is met
 three-first : (r n : ℕ) (c : Bool) (rest : ℕ) → c ≡ true → cond (not (eqb r r)) n (cond c n rest) ≡ n
@@ -250,6 +254,11 @@ deliver-three : (limits : Limits) (p : ℕ) (ledger : Ledger) (sender verdict : 
 unfolding deliverRefusals deliverForm
 deliver-three limits p ledger sender verdict t h = three-first p 3 (not (shardFits p)) _ (ap not h)
 
+-- and that of a turn
+turn-three : (p : ℕ) (ledger : Ledger) → shardFits p ≡ false → firstOf (turnRefusals p ledger p) ≡ 3
+unfolding turnRefusals
+turn-three p ledger h = three-first p 3 (not (shardFits p)) _ (ap not h)
+
 -- the receiving shard's refusal is the cluster's
 refused-at : (limits : Limits) (shards : List Ledger) (p : ℕ) (call : Call) (n : ℕ)
     → shardStep limits p (ledgerAt limits shards p) call ≡ (ledgerAt limits shards p, Refused n)
@@ -274,6 +283,8 @@ no-such-shard limits shards (register p t) h =
           (outcomeOf (newlyKnown p (ledgerAt limits shards p .tokens) t)),
     ))
     (register-three limits p (ledgerAt limits shards p) t h))
+no-such-shard limits shards (turn p) h =
+    refused-at limits shards p (turn p) 3 (ap (λ (n : ℕ). unless n (ledgerAt limits shards p) (afterTurn (ledgerAt limits shards p), Turned)) (turn-three p (ledgerAt limits shards p) h))
 no-such-shard limits shards (deliver p sender verdict t) h =
     ap (λ (n : ℕ). cond (eqb n 0 && not (gave (ledgerAt limits shards sender) sender verdict t)) (shards, Refused 16)
     (atShard limits shards p (deliver p sender verdict t))) (form-three limits p sender verdict t h)

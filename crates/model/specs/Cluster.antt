@@ -10,7 +10,7 @@ use Rattle.model.specs.declared.Known.{Known}
 use Rattle.model.specs.declared.Answer.{Answer}
 use Rattle.model.specs.declared.Answer.the-variants.{Refused}
 use Rattle.model.specs.Steps.{Limits, Ledger, emptyLedger, isFor, heardFrom}
-use Rattle.model.specs.Shard.{Call, mint, register, deliver, deliverForm, shardStep}
+use Rattle.model.specs.Shard.{Call, mint, register, deliver, turn, deliverForm, shardStep}
 
 -- eight shards, each empty at first
 abbrev pub emptyShards : Limits → List Ledger
@@ -48,3 +48,4 @@ clusterStep limits shards (deliver receiver sender verdict t) =
     cond (notGiven limits shards receiver sender verdict t)
     (shards, Refused 16)
     (atShard limits shards receiver (deliver receiver sender verdict t))
+clusterStep limits shards (turn receiver) = atShard limits shards receiver (turn receiver)

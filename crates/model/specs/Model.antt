@@ -6,7 +6,7 @@ use Rattle.transaction.specs.declared.Input.{Input}
 use Rattle.transaction.specs.declared.Transaction.{Transaction}
 use Rattle.model.specs.declared.Answer.{Answer}
 use Rattle.model.specs.Steps.{Limits, Ledger, availableHere}
-use Rattle.model.specs.Shard.{Call, mint, register, deliver}
+use Rattle.model.specs.Shard.{Call, mint, register, deliver, turn}
 use Rattle.model.specs.Answers.{carriedOut}
 use Rattle.model.specs.Cluster.{emptyShards, ledgerAt, clusterStep}
 
@@ -52,6 +52,7 @@ unfoldable pub logAfter : Limits → ℕ → Model → Call → Answer → List 
 logAfter limits place model (mint receiver index owner amount) answer = model .log
 logAfter limits place model (register receiver t) answer = noteIf answer (entryFor limits place (model .shards) receiver t) (model .log)
 logAfter limits place model (deliver receiver sender verdict t) answer = model .log
+logAfter limits place model (turn receiver) answer = model .log
 
 -- an opening that is carried out is noted
 unfoldable pub mintedAfter : Model → Call → Answer → List Genesis
@@ -59,6 +60,7 @@ mintedAfter model (mint receiver index owner amount) answer =
     noteIf answer (record { shard = receiver; index = index; owner = owner; amount = amount }) (model .minted)
 mintedAfter model (register receiver t) answer = model .minted
 mintedAfter model (deliver receiver sender verdict t) answer = model .minted
+mintedAfter model (turn receiver) answer = model .minted
 
 -- the call at that place of the list: the cluster's step, with the model's notes
 unfoldable pub step : Limits → ℕ → Model → Call → Model × Answer

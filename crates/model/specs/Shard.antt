@@ -9,12 +9,12 @@ use Rattle.transaction.specs.declared.Input.{Input}
 use Rattle.transaction.specs.declared.Transaction.{Transaction}
 use Rattle.transaction.specs.Lists.{any, total, firstOf}
 use Rattle.transaction.specs.Tokens.{takesPart}
-use Rattle.transaction.specs.Checks.{registerChecks, voteChecks, mintChecks}
+use Rattle.transaction.specs.Checks.{registerChecks, voteChecks, mintChecks, turnChecks}
 use Rattle.model.specs.declared.Known.{Known}
 use Rattle.model.specs.declared.Outcome.{Outcome}
 use Rattle.model.specs.declared.Outcome.the-variants.{Wait, Commit, Abort}
 use Rattle.model.specs.declared.Answer.{Answer}
-use Rattle.model.specs.declared.Answer.the-variants.{Refused, Minted, Registered, Heard, Again}
+use Rattle.model.specs.declared.Answer.the-variants.{Refused, Minted, Registered, Heard, Again, Turned}
 use Rattle.model.specs.Steps.{
   Limits,
   Ledger,
@@ -32,14 +32,16 @@ use Rattle.model.specs.Steps.{
   afterMint,
   afterRegister,
   afterVote,
+  afterTurn,
 }
 
 -- The calls: an opening (receiver, index, owner, amount), a registration (receiver, transaction),
--- a vote (receiver, sender, verdict with 1 for yes and 0 for no, transaction).
+-- a vote (receiver, sender, verdict with 1 for yes and 0 for no, transaction), a turn (receiver).
 pub data Call : Type 0 where
   mint : ℕ → ℕ → ℕ → ℕ → Call
   register : ℕ → Transaction → Call
   deliver : ℕ → ℕ → ℕ → Transaction → Call
+  turn : ℕ → Call
 
 -- has the known transaction this number
 abbrev pub hasNumber : Transaction → Known → Bool
@@ -155,6 +157,20 @@ deliverRefusals limits me ledger receiver sender verdict t =
     deliverForm limits me receiver sender verdict t
     ++ deliverRest ledger sender verdict t
 
+-- kind 4 (document 02, 4), the form: 3
+abbrev pub turnForm : ℕ → ℕ → List (Bool × ℕ)
+turnForm me receiver = (not (eqb receiver me), 3) ∷ turnChecks receiver
+
+-- the rest: 19, the shard has turned already
+abbrev pub turnRest : Ledger → List (Bool × ℕ)
+turnRest ledger = (ledger .turned, 19) ∷ []
+
+-- kind 4: 3, 19
+unfoldable pub turnRefusals : ℕ → Ledger → ℕ → List (Bool × ℕ)
+turnRefusals me ledger receiver =
+    turnForm me receiver
+    ++ turnRest ledger
+
 -- ---- One call at a lone shard
 
 -- refused with the first number that fits, and all left as it was; else carried out
@@ -180,3 +196,6 @@ shardStep limits me ledger (register receiver t) =
 shardStep limits me ledger (deliver receiver sender verdict t) =
     unless (firstOf (deliverRefusals limits me ledger receiver sender verdict t)) ledger
     (hear me ledger sender verdict t)
+shardStep limits me ledger (turn receiver) =
+    unless (firstOf (turnRefusals me ledger receiver)) ledger
+    (afterTurn ledger, Turned)

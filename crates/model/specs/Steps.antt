@@ -26,19 +26,21 @@ pub record Limits : Type 0 where
 abbrev pub house : Limits
 house = record { tokens = 128; transactions = 32; genesis = 128 }
 
--- What a shard notes: the tokens held, each with its pledge; the genesis indices given; the known transactions with the verdicts heard.
+-- What a shard notes: the tokens held, each with its pledge; the genesis indices given; the known transactions with the verdicts heard;
+-- whether it has turned (document 02, 4), so that aborts free their tokens.
 pub record Ledger : Type 0 where
   pub tokens : List Token
   pub given : List Bool
   pub known : List Known
+  pub turned : Bool
 
--- nothing held, given or known
+-- nothing held, given or known, and not turned
 abbrev pub emptyLedger : Limits → Ledger
-emptyLedger limits = record { tokens = []; given = replicate (limits .genesis) false; known = [] }
+emptyLedger limits = record { tokens = []; given = replicate (limits .genesis) false; known = []; turned = false }
 
 -- the ledger with these tokens, these genesis indices given and these known transactions, and all else as it was
 abbrev pub noting : Ledger → List Token → List Bool → List Known → Ledger
-noting ledger tokens given known = record { tokens = tokens; given = given; known = known }
+noting ledger tokens given known = record { tokens = tokens; given = given; known = known; turned = ledger .turned }
 
 -- with these tokens and these known transactions
 abbrev pub holding : Ledger → List Token → List Known → Ledger
@@ -175,7 +177,7 @@ decide t heard = cond (someNo t heard) Abort (cond (allYes t heard) Commit Wait)
 abbrev pub outcomeOf : Known → Outcome
 outcomeOf k = decide (k .transaction) (k .heard)
 
--- ---- Commit destroys the inputs here and makes the outputs here; abort changes no token
+-- ---- Commit destroys the inputs here and makes the outputs here; abort changes no token, but for the pledges that end at a shard that has turned
 
 -- the output is at this shard
 abbrev pub outputHere : ℕ → Output → Bool
@@ -213,6 +215,30 @@ settle Wait me t tokens = tokens
 settle Commit me t tokens = commit me t tokens
 settle Abort me t tokens = tokens
 
+-- ---- At a shard that has turned (document 02, 4) an abort ends the pledges to its transaction
+
+-- the outcome is abort
+abbrev pub isAborted : Outcome → Bool
+isAborted Wait = false
+isAborted Commit = false
+isAborted Abort = true
+
+-- the token is pledged to the transaction of that number
+abbrev pub isPledgedTo : ℕ → Token → Bool
+isPledgedTo number token = eqb (token .pledge) number
+
+-- the tokens of which a test holds come free: they are pledged to no transaction
+unfoldable pub freeing : (Token → Bool) → List Token → List Token
+freeing test tokens = map (pledgeWhen 0 test) tokens
+
+-- an abort frees the tokens pledged to the transaction of that number, where the shard has turned
+abbrev pub ended : Bool → Outcome → ℕ → List Token → List Token
+ended turned decided number tokens = cond (isAborted decided && turned) (freeing (isPledgedTo number) tokens) tokens
+
+-- the tokens after a decision on the transaction, at a shard that has turned or has not
+abbrev pub concluded : Bool → Outcome → ℕ → Transaction → List Token → List Token
+concluded turned decided me t tokens = ended turned decided (t .number) (settle decided me t tokens)
+
 -- ---- What a registration and a fresh vote leave behind, with the decision that they bring
 
 -- the ledger after a registration
@@ -220,7 +246,7 @@ unfoldable pub afterRegister : ℕ → Ledger → Transaction → Ledger
 afterRegister me ledger t =
     let k = newlyKnown me (ledger .tokens) t in
     let tokens = pledges (t .number) (availableHere me (ledger .tokens) t) (ledger .tokens) in
-    holding ledger (settle (outcomeOf k) me t tokens) (ledger .known ++ (k ∷ []))
+    holding ledger (concluded (ledger .turned) (outcomeOf k) me t tokens) (ledger .known ++ (k ∷ []))
 
 -- is it this transaction, every field of it
 abbrev pub isFor : Transaction → Known → Bool
@@ -242,4 +268,24 @@ entryOf t known = getD known (placeOf t known) nothingKnown
 unfoldable pub afterVote : ℕ → Ledger → ℕ → ℕ → Transaction → Ledger
 afterVote me ledger sender verdict t =
     let k = hearing sender verdict (entryOf t (ledger .known)) in
-    holding ledger (settle (outcomeOf k) me (k .transaction) (ledger .tokens)) (set (ledger .known) (placeOf t (ledger .known)) k)
+    holding ledger (concluded (ledger .turned) (outcomeOf k) me (k .transaction) (ledger .tokens)) (set (ledger .known) (placeOf t (ledger .known)) k)
+
+-- ---- Turning (document 02, 4): tokens pledged to transactions that the shard has aborted come free, and from then on each abort frees its own
+
+-- the known transaction is aborted here, and the token is pledged to it
+abbrev pub isAbortedFor : Token → Known → Bool
+isAbortedFor token k = isAborted (outcomeOf k) && isPledgedTo (k .transaction .number) token
+
+-- the token is pledged to a transaction that the shard has aborted
+abbrev pub pledgedToAborted : List Known → Token → Bool
+pledgedToAborted known token = any (isAbortedFor token) known
+
+-- the ledger after turning
+unfoldable pub afterTurn : Ledger → Ledger
+afterTurn ledger =
+    record {
+      tokens = freeing (pledgedToAborted (ledger .known)) (ledger .tokens);
+      given = ledger .given;
+      known = ledger .known;
+      turned = true;
+    }

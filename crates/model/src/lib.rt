@@ -26,11 +26,12 @@ pub enum Outcome {
 }
 
 // What a call answers: refused with the table's number; a genesis token given (opened); a registration with the
-// own verdict and the outcome here; a fresh vote and a repeated one with the outcome here.
+// own verdict and the outcome here; a fresh vote and a repeated one with the outcome here; a shard turned.
 pub enum Answer {
     Refused(u8),
     Minted,
     Registered(bool, Outcome),
     Heard(Outcome),
     Again(Outcome),
+    Turned,
 }

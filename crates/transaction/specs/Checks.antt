@@ -97,3 +97,7 @@ mintFits genesis receiver index owner amount = shardFits receiver && indexFits g
 
 abbrev pub mintChecks : ℕ → ℕ → ℕ → ℕ → ℕ → List (Bool × ℕ)
 mintChecks genesis receiver index owner amount = (not (mintFits genesis receiver index owner amount), 3) ∷ []
+
+-- a turn (document 02, 4)
+abbrev pub turnChecks : ℕ → List (Bool × ℕ)
+turnChecks receiver = (not (shardFits receiver), 3) ∷ []
