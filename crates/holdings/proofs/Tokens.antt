@@ -13,10 +13,11 @@ use Rattle.transaction.specs.Lists.{any}
 use Rattle.transaction.specs.Tokens.{zeroInput}
 use Rattle.transaction.proofs.Slots.{any-append}
 use Rattle.model.specs.declared.Token.{Token}
-use Rattle.model.specs.declared.Outcome.the-variants.{Commit}
+use Rattle.model.specs.declared.Outcome.the-variants.{Commit, Abort}
 use Rattle.model.specs.Lists.{keep}
+use Rattle.model.proofs.Basics.{eqb-yes, eqb-no}
 use Rattle.model.proofs.Capacity.{keep-length}
-use Rattle.model.specs.Steps.{names, namedBy, pledgedTo, pledgeIf, pledges, stays, inputsHere, madeHere, commit}
+use Rattle.model.specs.Steps.{names, namedBy, pledgedTo, pledgeIf, pledges, stays, inputsHere, madeHere, commit, pledgeWhen, isPledgedTo, freeing, ended}
 use Rattle.loops.specs.Lists.{oneIf}
 use Rattle.loops.proofs.Loops.{append-one}
 use Rattle.loops.proofs.Fours.{used-slots}
@@ -38,7 +39,7 @@ use Rattle.layout.specs.Layout.{
 }
 use Rattle.layout.proofs.Slots.{length-tokens}
 use Rattle.layout.proofs.Ledgers.{held-length}
-use Rattle.holdings.specs.Held.{adding, destroying, Room, Holds, Changes, Settling}
+use Rattle.holdings.specs.Held.{adding, destroying, Room, Holds, Changes, Settling, Settles}
 use Rattle.holdings.proofs.Made.{slot, made-by}
 
 -- the tokens of a shard that words become
@@ -308,3 +309,28 @@ module _ (place : ℕ) (ws : List ℕ) {me : ℕ} {t : Transaction}
   pub settled : {vs : List ℕ} → Changes (commit me t) ws vs
       → Changes (commit (shardOf ws .number) (slotKnown ws place .transaction)) ws vs
   settled {vs} p = rw (em, et) at p
+
+-- ---- Tokens that come free
+
+-- a token's turn in the loop that frees
+module _ (number : ℕ) {pledge : ℕ} {y : Token} (is : pledge ≡ y .pledge) where
+  pub freed-if : pledge ≡ number → pledgedTo 0 y ≡ pledgeWhen 0 (isPledgedTo number) y
+  freed-if e = rw (eqb-yes (sym is ∙ e)) refl
+
+  pub freed-not : (pledge ≡ number → ⊥) → pledgeWhen 0 (isPledgedTo number) y ≡ y
+  freed-not n = rw (eqb-no (λ e. n (is ∙ e))) refl
+
+-- an abort frees the tokens of the transaction in a slot where the shard has turned, and changes nothing else
+module _ (place : ℕ) (ws : List ℕ) where
+  -- what the abort leaves, by whether the shard has turned
+  abbrev Leaves : Bool → List ℕ → Type 0
+  Leaves turned vs = Holds (shardOf ws) (ended turned Abort (slotKnown ws place .transaction .number) (ledgerOf ws .tokens)) vs
+
+  pub abort-frees : {number : ℕ} → number ≡ slotKnown ws place .transaction .number → shardOf ws .turned ≡ true
+      → {vs : List ℕ} → Changes (freeing (isPledgedTo number)) ws vs → Settles Abort place ws vs
+  unfolding view
+  abort-frees {number} e turned {vs} p = subst (λ (b : Bool). Leaves b vs) (sym turned) (rw e at p)
+
+  pub abort-leaves : shardOf ws .turned ≡ false → Room ws → Settles Abort place ws ws
+  unfolding view
+  abort-leaves turned r = subst (λ (b : Bool). Leaves b ws) (sym turned) (holds-same ws r)

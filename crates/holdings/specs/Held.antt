@@ -9,7 +9,7 @@ use Rattle.transaction.specs.declared.Output.{Output}
 use Rattle.model.specs.declared.Token.{Token}
 use Rattle.model.specs.declared.Outcome.{Outcome}
 use Rattle.model.specs.Lists.{keep}
-use Rattle.model.specs.Steps.{outputHere, tokenOf, stays, settle}
+use Rattle.model.specs.Steps.{outputHere, tokenOf, stays, concluded}
 use Rattle.loops.specs.Lists.{oneIf}
 use Rattle.layout.specs.Layout.{
   shardWords,
@@ -58,7 +58,8 @@ Changes f ws vs = Holds (shardOf ws) (f (ledgerOf ws .tokens)) vs
 
 -- the tokens after a decision on the known transaction in a slot
 abbrev pub settledAt : Outcome → ℕ → List ℕ → List Token
-settledAt decided place ws = settle decided (shardOf ws .number) (slotKnown ws place .transaction) (ledgerOf ws .tokens)
+settledAt decided place ws =
+    concluded (ledgerOf ws .turned) decided (shardOf ws .number) (slotKnown ws place .transaction) (ledgerOf ws .tokens)
 
 -- they fit, so that the decision can be carried out
 pub record Settling (decided : Outcome) (place : ℕ) (ws : List ℕ) : Type 0 where

@@ -11,6 +11,7 @@ ghost use Rattle.holdings.specs.Held.{inputsOf, madeFrom, adding, destro
 use crate::Inputs;
 use crate::availability::inputs_here;
 use crate::availability::names_token;
+use crate::freeing::abort_at;
 use layout::Words;
 use layout::counts::held;
 use layout::counts::own_number;
@@ -116,7 +117,7 @@ fn commit_at(s: &mut Words, place: usize)
     commit_here(s, me, t);
 }
 
-// The tokens after a decision on the known transaction in a slot: a commit changes them, and nothing else does.
+// The tokens after a decision on the known transaction in a slot: a commit changes them, an abort may free some.
 pub fn settle_at(s: &mut Words, place: usize, decided: Outcome)
     requires { ⌜ Settling decided place (now s) ⌝ }
     ensures { λ _. ⌜ Settles decided place (now (s .entry)) (now (s .exit)) ⌝ }
@@ -124,6 +125,6 @@ pub fn settle_at(s: &mut Words, place: usize, decided: Outcome)
     match decided {
         Outcome::Commit => commit_at(s, place),
         Outcome::Wait => {}
-        Outcome::Abort => {}
+        Outcome::Abort => abort_at(s, place),
     }
 }

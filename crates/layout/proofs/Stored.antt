@@ -67,6 +67,9 @@ use Rattle.layout.specs.Layout.{
   slotKnown,
   PutsToken,
   PutsKnown,
+  turnedPlace,
+  withTurned,
+  flag,
 }
 use Rattle.layout.proofs.Regions.{
   length-tab,
@@ -123,6 +126,7 @@ module _ (ws vs : List ℕ) where
       rw (
         word-kept p numberPlace (λ x y. omega arith),
         word-kept p knownPlace (λ x y. omega arith),
+        word-kept p turnedPlace (λ x y. omega arith),
         given-kept p (λ j x y z w. omega arith),
         tokens-kept p (λ j x y z w. omega arith),
         known-kept p (λ j x y z w. omega arith),
@@ -133,6 +137,18 @@ module _ (ws vs : List ℕ) where
       rw (
         word-kept p numberPlace (λ x y. omega arith),
         word-kept p heldPlace (λ x y. omega arith),
+        word-kept p turnedPlace (λ x y. omega arith),
+        given-kept p (λ j x y z w. omega arith),
+        tokens-kept p (λ j x y z w. omega arith),
+        known-kept p (λ j x y z w. omega arith),
+      )
+
+  pub turned-stored : Within turnedPlace (turnedPlace + 1) ws vs → shardOf vs ≡ withTurned (shardOf ws) (flag vs turnedPlace)
+  turned-stored p =
+      rw (
+        word-kept p numberPlace (λ x y. omega arith),
+        word-kept p heldPlace (λ x y. omega arith),
+        word-kept p knownPlace (λ x y. omega arith),
         given-kept p (λ j x y z w. omega arith),
         tokens-kept p (λ j x y z w. omega arith),
         known-kept p (λ j x y z w. omega arith),
@@ -165,6 +181,7 @@ module _ (ws vs : List ℕ) (k : ℕ) where
         word-kept p numberPlace (λ x y. omega arith),
         word-kept p heldPlace (λ x y. omega arith),
         word-kept p knownPlace (λ x y. omega arith),
+        word-kept p turnedPlace (λ x y. omega arith),
         given-kept p (λ j x y z w. omega arith),
         known-kept p (λ j x y z w. omega arith),
         at,
@@ -179,6 +196,7 @@ module _ (ws vs : List ℕ) (k : ℕ) where
         word-kept p numberPlace (λ x y. omega arith),
         word-kept p heldPlace (λ x y. omega arith),
         word-kept p knownPlace (λ x y. omega arith),
+        word-kept p turnedPlace (λ x y. omega arith),
         given-kept p (λ j x y z w. omega arith),
         tokens-kept p (λ j x y z w. omega arith),
         at,
@@ -193,6 +211,7 @@ module _ (ws vs : List ℕ) (k : ℕ) where
         word-kept p numberPlace (λ x y. omega arith),
         word-kept p heldPlace (λ x y. omega arith),
         word-kept p knownPlace (λ x y. omega arith),
+        word-kept p turnedPlace (λ x y. omega arith),
         tokens-kept p (λ j x y z w. omega arith),
         known-kept p (λ j x y z w. omega arith),
         at,
@@ -212,6 +231,13 @@ module _ (ws : List ℕ) (long : length ws ≡ shardWords) where
       let p = stored knownPlace (knownPlace + 1) knownPlace n ws (omega arith) (omega arith) in
       let there : word (set ws knownPlace n) knownPlace ≡ n = getD-set-same ws knownPlace n 0 (omega arith) in
       record { is = count-stored ws (set ws knownPlace n) p ∙ ap (withKnown (shardOf ws)) there; long = p .long ∙ long }
+
+  pub turned-put : Becomes (withTurned (shardOf ws) true) (set ws turnedPlace 1)
+  turned-put =
+      let p = stored turnedPlace (turnedPlace + 1) turnedPlace 1 ws (omega arith) (omega arith) in
+      let there : flag (set ws turnedPlace 1) turnedPlace ≡ true =
+      ap (λ (w : ℕ). not (eqb w 0)) (getD-set-same ws turnedPlace 1 0 (omega arith)) in
+      record { is = turned-stored ws (set ws turnedPlace 1) p ∙ ap (withTurned (shardOf ws)) there; long = p .long ∙ long }
 
   pub flag-put : (k : ℕ) → k < genesisSlots
       → Becomes (withGiven (shardOf ws) (set (shardOf ws .given) k true)) (set ws (givenPlace + k) 1)

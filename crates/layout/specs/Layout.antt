@@ -53,7 +53,7 @@ knownSize = heardOffset + 8
 
 -- ---- Places
 
--- the shard's number, how many tokens it holds, how many transactions it knows
+-- the shard's number, how many tokens it holds, how many transactions it knows, whether it has turned
 abbrev pub numberPlace : ℕ
 numberPlace = 0
 
@@ -63,9 +63,12 @@ heldPlace = 1
 abbrev pub knownPlace : ℕ
 knownPlace = 2
 
+abbrev pub turnedPlace : ℕ
+turnedPlace = 3
+
 -- the flags of the genesis indices given, the tokens, the known transactions
 abbrev pub givenPlace : ℕ
-givenPlace = 3
+givenPlace = 4
 
 abbrev pub tokensPlace : ℕ
 tokensPlace = givenPlace + genesisSlots
@@ -152,8 +155,11 @@ abbrev pub knownAt : List ℕ → ℕ → Known
 knownAt ws k = knownIn ws (entryPlace k)
 
 -- a flag is any word but 0
+abbrev pub flag : List ℕ → ℕ → Bool
+flag ws i = not (eqb (word ws i) 0)
+
 abbrev pub givenAt : List ℕ → ℕ → Bool
-givenAt ws k = not (eqb (word ws (givenPlace + k)) 0)
+givenAt ws k = flag ws (givenPlace + k)
 
 unfoldable pub tokensOf : List ℕ → List Token
 tokensOf ws = tab tokenSlots (tokenAt ws)
@@ -166,7 +172,7 @@ givenOf ws = tab genesisSlots (givenAt ws)
 
 -- ---- The shard that the words stand for
 
--- a shard (document 01: a pantry): its number, the counts, and all slots, used or not
+-- a shard (document 01: a pantry): its number, the counts, all slots, used or not, and whether it has turned (document 02, 4)
 pub record Shard : Type 0 where
   pub number : ℕ
   pub held : ℕ
@@ -174,6 +180,7 @@ pub record Shard : Type 0 where
   pub tokens : List Token
   pub transactions : List Known
   pub given : List Bool
+  pub turned : Bool
 
 abbrev pub shardOf : List ℕ → Shard
 shardOf ws =
@@ -184,37 +191,55 @@ shardOf ws =
       tokens = tokensOf ws;
       transactions = transactionsOf ws;
       given = givenOf ws;
+      turned = flag ws turnedPlace;
     }
 
 -- its ledger as the reference model has it: the tokens and the known transactions are the first ones of their slots, in
 -- order
 unfoldable pub view : Shard → Ledger
-view s = record { tokens = take (s .held) (s .tokens); given = s .given; known = take (s .known) (s .transactions) }
+view s =
+    record {
+      tokens = take (s .held) (s .tokens);
+      given = s .given;
+      known = take (s .known) (s .transactions);
+      turned = s .turned;
+    }
 
 abbrev pub ledgerOf : List ℕ → Ledger
 ledgerOf ws = view (shardOf ws)
 
 -- ---- A shard with one part changed
 
--- with these counts and slots, and all else as it was
-abbrev pub storing : Shard → ℕ → List Token → ℕ → List Known → List Bool → Shard
-storing s held tokens known transactions given =
-    record { number = s .number; held = held; known = known; tokens = tokens; transactions = transactions; given = given }
+-- with these counts, slots and flags, and all else as it was
+abbrev pub storing : Shard → ℕ → List Token → ℕ → List Known → List Bool → Bool → Shard
+storing s held tokens known transactions given turned =
+    record {
+      number = s .number;
+      held = held;
+      known = known;
+      tokens = tokens;
+      transactions = transactions;
+      given = given;
+      turned = turned;
+    }
 
 abbrev pub withTokens : Shard → List Token → Shard
-withTokens s l = storing s (s .held) l (s .known) (s .transactions) (s .given)
+withTokens s l = storing s (s .held) l (s .known) (s .transactions) (s .given) (s .turned)
 
 abbrev pub withHeld : Shard → ℕ → Shard
-withHeld s n = storing s n (s .tokens) (s .known) (s .transactions) (s .given)
+withHeld s n = storing s n (s .tokens) (s .known) (s .transactions) (s .given) (s .turned)
 
 abbrev pub withKnown : Shard → ℕ → Shard
-withKnown s n = storing s (s .held) (s .tokens) n (s .transactions) (s .given)
+withKnown s n = storing s (s .held) (s .tokens) n (s .transactions) (s .given) (s .turned)
 
 abbrev pub withTransactions : Shard → List Known → Shard
-withTransactions s l = storing s (s .held) (s .tokens) (s .known) l (s .given)
+withTransactions s l = storing s (s .held) (s .tokens) (s .known) l (s .given) (s .turned)
 
 abbrev pub withGiven : Shard → List Bool → Shard
-withGiven s l = storing s (s .held) (s .tokens) (s .known) (s .transactions) l
+withGiven s l = storing s (s .held) (s .tokens) (s .known) (s .transactions) l (s .turned)
+
+abbrev pub withTurned : Shard → Bool → Shard
+withTurned s b = storing s (s .held) (s .tokens) (s .known) (s .transactions) (s .given) b
 
 -- the words stand for this shard, and are as many as a shard has
 pub record Becomes (s : Shard) (ws : List ℕ) : Type 0 where

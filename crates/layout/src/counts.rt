@@ -1,16 +1,17 @@
-// The shard's number, how many tokens it holds and transactions it knows, the genesis indices given; and an empty
-// shard.
+// The shard's number, how many tokens it holds and transactions it knows, the genesis indices given, whether it has
+// turned; and an empty shard.
 ghost use mathlib.Core.Path.{_≡_};
 ghost use mathlib.Core.Bool.{true, false};
 ghost use Prim.Native.Nat.{_%_, _≤_, _<_};
 ghost use lib.ListN.{length, getD, set};
 ghost use Rattle.layout.specs.Layout.{shardWords, tokenSlots, knownSlots, genesisSlots, shardOf};
-ghost use Rattle.layout.specs.Layout.{withHeld, withKnown, withGiven, Becomes, Cleared};
+ghost use Rattle.layout.specs.Layout.{withHeld, withKnown, withGiven, withTurned, Becomes, Cleared};
 use crate::GIVEN_PLACE;
 use crate::HELD_PLACE;
 use crate::KNOWN_PLACE;
 use crate::NUMBER_PLACE;
 use crate::SHARD_WORDS;
+use crate::TURNED_PLACE;
 use crate::Words;
 
 // A word of a byte.
@@ -52,6 +53,13 @@ pub fn is_given(s: &Words, index: usize) -> bool
     s[GIVEN_PLACE + index] != 0
 }
 
+// The shard has turned.
+pub fn is_turned(s: &Words) -> bool
+    ensures { λ r. ⌜ r ≡ shardOf (now (s .entry)) .turned ⌝ }
+{
+    s[TURNED_PLACE] != 0
+}
+
 pub fn set_held(s: &mut Words, n: usize)
     requires { ⌜ (n ≤ tokenSlots) × (length (now s) ≡ shardWords) ⌝ }
     ensures { λ _. ⌜ Becomes (withHeld (shardOf (now (s .entry))) n) (now (s .exit)) ⌝ }
@@ -73,6 +81,14 @@ pub fn give(s: &mut Words, index: usize)
         (now (s .exit)) ⌝ }
 {
     s[GIVEN_PLACE + index] = 1;
+}
+
+// The shard turns.
+pub fn set_turned(s: &mut Words)
+    requires { ⌜ length (now s) ≡ shardWords ⌝ }
+    ensures { λ _. ⌜ Becomes (withTurned (shardOf (now (s .entry))) true) (now (s .exit)) ⌝ }
+{
+    s[TURNED_PLACE] = 1;
 }
 
 // An empty shard of that number, whatever stood here.

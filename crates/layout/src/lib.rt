@@ -1,7 +1,7 @@
 // A shard (document 01: a pantry) as one array of words that its caller owns, and what stands where in it. Above this
 // crate nothing speaks of single words. The names here are those of specs/Layout.antt. Internal: a caller holds the
 // words, and the calls of `shard` and `cluster` alone change them.
-pub mod counts; // the number, the counts, the flags of the genesis indices given, and an empty shard
+pub mod counts; // the number, the counts, the flags, and an empty shard
 pub mod tokens; // the tokens held
 pub mod entries; // the known transactions, read
 pub mod stores; // the known transactions, stored
@@ -35,7 +35,9 @@ pub const HELD_PLACE: usize = 1;
 
 pub const KNOWN_PLACE: usize = 2;
 
-pub const GIVEN_PLACE: usize = 3;
+pub const TURNED_PLACE: usize = 3;
+
+pub const GIVEN_PLACE: usize = 4;
 
 pub const TOKENS_PLACE: usize = GIVEN_PLACE + GENESIS_SLOTS;
 

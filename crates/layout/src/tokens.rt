@@ -44,6 +44,14 @@ pub fn amount_at(s: &Words, k: usize) -> u32
     s[TOKENS_PLACE + k * TOKEN_SIZE + 3]
 }
 
+// Only its pledge, for what comes free.
+pub fn pledge_at(s: &Words, k: usize) -> u32
+    requires { ⌜ k < tokenSlots ⌝ }
+    ensures { λ r. ⌜ r ≡ slotToken (now (s .entry)) k .pledge ⌝ }
+{
+    s[TOKENS_PLACE + k * TOKEN_SIZE + 4]
+}
+
 pub fn put_token(s: &mut Words, k: usize, t: Token)
     requires { ⌜ (k < tokenSlots) × (length (now s) ≡ shardWords) ⌝ }
     ensures { λ _. ⌜ PutsToken (now (s .entry)) k t (now (s .exit)) ⌝ }
