@@ -11,11 +11,11 @@ use lib.Seq.{drop-at}
 use Rattle.transaction.specs.declared.Transaction.{Transaction}
 use Rattle.transaction.specs.Lists.{firstOf}
 use Rattle.transaction.specs.Tokens.{zeroInput, zeroOutput, blankTransaction}
-use Rattle.transaction.specs.Checks.{houseGenesis, registerChecks, voteChecks, mintChecks}
+use Rattle.transaction.specs.Checks.{houseGenesis, registerChecks, voteChecks, mintChecks, turnChecks}
 use Rattle.transaction.proofs.Slots.{four}
 use Rattle.transaction.proofs.Long.{Long}
 use Rattle.reader.specs.declared.Record.{Record}
-use Rattle.reader.specs.declared.Record.the-variants.{Register, Vote, Mint}
+use Rattle.reader.specs.declared.Record.the-variants.{Register, Vote, Mint, Turn}
 use Rattle.reader.specs.declared.Answer.the-variants.{Read}
 use Rattle.reader.specs.declared.Reading.{Reading}
 use Rattle.reader.specs.Layout.{joined, wordAt, inputAt, outputAt, inputsAt, outputsAt, transactionAt, bodyLength}
@@ -35,6 +35,10 @@ use Rattle.reader.proofs.Cases.{
   record-3,
   transaction-3,
   taken-3,
+  cause-4,
+  record-4,
+  transaction-4,
+  taken-4,
 }
 use Rattle.writer.specs.Layout.{
   wordOf,
@@ -46,9 +50,10 @@ use Rattle.writer.specs.Layout.{
   registerBytes,
   voteBytes,
   mintBytes,
+  turnBytes,
 }
-use Rattle.writer.specs.Writing.{registerCause, voteCause, mintCause, lentAfter}
-use Rattle.writer.proofs.Stores.{length-transaction, length-register, length-vote, length-mint}
+use Rattle.writer.specs.Writing.{registerCause, voteCause, mintCause, turnCause, lentAfter}
+use Rattle.writer.proofs.Stores.{length-transaction, length-register, length-vote, length-mint, length-turn}
 use Rattle.writer.proofs.Writes.{fields-pass}
 use Rattle.codec.specs.Records.{recordBytes, recordCause, readBack}
 
@@ -188,6 +193,30 @@ module _ (r i o a : ℕ) (l : List ℕ) where
       (sym (transaction-3 whole mint-whole refl))
       (sym (taken-3 whole mint-whole refl)))
 
+-- a record of kind 4
+module _ (r : ℕ) (l : List ℕ) where
+  turn-whole : headCause (turnBytes r ++ l) ≡ 0
+  unfolding turnBytes bodyLength
+  turn-whole =
+      sym (head-whole (turnBytes r ++ l) {n = 1} (λ e. omega arith) refl (λ e. omega arith) (omega arith))
+
+  pub turn-rest : restOf (turnBytes r ++ l) ≡ l
+  unfolding restOf turnBytes
+  turn-rest = rw (taken-4 (turnBytes r ++ l) turn-whole refl) refl
+
+  pub turn-back : firstOf (turnChecks r) ≡ 0
+      → readingOf (turnBytes r ++ l) ≡ record { answer = Read (Turn r); transaction = blankTransaction; taken = 2 }
+  unfolding turnBytes
+  turn-back pass =
+      let whole = turnBytes r ++ l in
+      sym
+      (reading-good whole turn-whole
+      (sym pass ∙ sym (cause-4 whole turn-whole refl))
+      refl
+      (sym (record-4 whole turn-whole refl))
+      (sym (transaction-4 whole turn-whole refl))
+      (sym (taken-4 whole turn-whole refl)))
+
 -- a record of any kind: its reading where its number is 0, and the reading of what stood there before where not
 by-cause : (number : ℕ) (bytes before : List ℕ) {good : Reading}
     → (number ≡ 0 → readingOf (bytes ++ drop (length bytes) before) ≡ good)
@@ -218,3 +247,8 @@ written-reads-back (Mint r i o a) t before long =
     (λ z.
     let pass = fields-pass (mintChecks houseGenesis r i o a) 11 (length before) (unfold mintCause in z) in
     rw (length-mint r i o a) (mint-back r i o a (drop 11 before) pass))
+written-reads-back (Turn r) t before long =
+    by-cause (turnCause r (length before)) (turnBytes r) before
+    (λ z.
+    let pass = fields-pass (turnChecks r) 2 (length before) (unfold turnCause in z) in
+    rw (length-turn r) (turn-back r (drop 2 before) pass))

@@ -9,7 +9,7 @@ use lib.Dec.{eqb, ltb}
 use lib.ListN.{length, getD, take, drop}
 use lib.Seq.{take-add, drop-drop, drop-cons}
 use Rattle.transaction.specs.Lists.{firstOf}
-use Rattle.transaction.specs.Checks.{houseGenesis, registerChecks, voteChecks, mintChecks}
+use Rattle.transaction.specs.Checks.{houseGenesis, registerChecks, voteChecks, mintChecks, turnChecks}
 use Rattle.reader.specs.declared.Record.{Record}
 use Rattle.reader.specs.declared.Answer.the-variants.{Read, Refused}
 use Rattle.reader.specs.declared.Reading.{Reading}
@@ -42,6 +42,10 @@ use Rattle.reader.proofs.Cases.{
   record-3,
   taken-3,
   long-3,
+  cause-4,
+  record-4,
+  taken-4,
+  long-4,
 }
 use Rattle.writer.specs.Layout.{
   byteOf,
@@ -54,9 +58,10 @@ use Rattle.writer.specs.Layout.{
   registerBytes,
   voteBytes,
   mintBytes,
+  turnBytes,
 }
 use Rattle.writer.specs.declared.Written.{Written}
-use Rattle.writer.specs.Writing.{registerCause, voteCause, mintCause, Writes}
+use Rattle.writer.specs.Writing.{registerCause, voteCause, mintCause, turnCause, Writes}
 use Rattle.transaction.proofs.Tables.{numbered, first-stands, first-behind}
 use Rattle.writer.proofs.Writes.{refuses}
 use Rattle.codec.specs.Records.{recordBytes, recordCause, copyCause, Copies}
@@ -150,6 +155,10 @@ module _ (l : List ℕ) (small : (i : ℕ) → getD l i 0 < 256) where
       glue l 0 7 4 (glue l 0 3 4 (glue l 0 2 1 (glue l 0 1 1 (kind-part k (omega arith)) (byte-part 1 (omega arith)))
       (byte-part 2 (omega arith))) (word-part 3 (omega arith))) (word-part 7 (omega arith))
 
+  turn-again : 2 ≤ length l → kindOf l ≡ 4 → turnBytes (byteAt l 1) ≡ take 2 l
+  unfolding turnBytes
+  turn-again h k = glue l 0 1 1 (kind-part k (omega arith)) (byte-part 1 h)
+
   -- THEOREM: the bytes of what was read are the bytes that the record took.
   pub read-writes-back : headCause l ≡ 0 → recordBytes (recordAt l) (transactionIn l) ≡ take (takenOf l) l
   read-writes-back h =
@@ -157,6 +166,7 @@ module _ (l : List ℕ) (small : (i : ℕ) → getD l i 0 < 256) where
       (λ k. rw (record-1 l h k, transaction-1 l h k, taken-1 l h k) (register-again (long-1 l h k) k))
       (λ k. rw (record-2 l h k, transaction-2 l h k, taken-2 l h k) (vote-again (long-2 l h k) k))
       (λ k. rw (record-3 l h k, taken-3 l h k) (mint-again (long-3 l h k) k))
+      (λ k. rw (record-4 l h k, taken-4 l h k) (turn-again (long-4 l h k) k))
 
 -- the first part of checks that all pass passes
 first-front : (x y : List (Bool × ℕ)) → firstOf (x ++ y) ≡ 0 → firstOf x ≡ 0
@@ -176,14 +186,14 @@ module _ (l : List ℕ) (pass : readCause l ≡ 0) (room : ℕ) where
   body-numbered : numbered (bodyChecks l) ≡ true
   body-numbered =
       by-kinds l (head-passes l pass) (numbered (bodyChecks l) ≡ true)
-      (λ k. rw k refl) (λ k. rw k refl) (λ k. rw k refl)
+      (λ k. rw k refl) (λ k. rw k refl) (λ k. rw k refl) (λ k. rw k refl)
 
   copy-room : copyCause l room ≡ firstOf enough
   unfolding copyCause readCause enough
   copy-room = first-behind (headChecks l ++ bodyChecks l) enough body-numbered pass
 
   record-room : recordCause (recordAt l) (transactionIn l) room ≡ firstOf enough
-  unfolding enough registerCause voteCause mintCause
+  unfolding enough registerCause voteCause mintCause turnCause
   record-room =
       let h = head-passes l pass in
       by-kinds l h (recordCause (recordAt l) (transactionIn l) room ≡ firstOf enough)
@@ -199,6 +209,9 @@ module _ (l : List ℕ) (pass : readCause l ≡ 0) (room : ℕ) where
       rw (record-3 l h k, taken-3 l h k)
       (first-behind (mintChecks houseGenesis (byteAt l 1) (byteAt l 2) (wordAt l 3) (wordAt l 7)) ((ltb room 11, 15) ∷ [])
       refl (sym (cause-3 l h k) ∙ pass)))
+      (λ k.
+      rw (record-4 l h k, taken-4 l h k)
+      (first-behind (turnChecks (byteAt l 1)) ((ltb room 2, 15) ∷ []) refl (sym (cause-4 l h k) ∙ pass)))
 
 -- The reader's two answers: a record, of which the checks pass, or a refusal with the number of the check.
 was-read : (number : ℕ) (fields found : Record) → Read found ≡ answerOf number fields → (number ≡ 0) × (found ≡ fields)

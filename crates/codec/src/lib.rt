@@ -10,7 +10,7 @@ use reader::Record;
 use transaction::Transaction;
 use writer::Written;
 
-// A record of any kind, as the reader gives it. A genesis token's record takes nothing of the transaction.
+// A record of any kind, as the reader gives it. A genesis token's record and a turn take nothing of the transaction.
 pub fn write(fields: Record, t: Transaction, out: &mut [u8]) -> Written
     ensures { λ r. ⌜ Writes (recordCause fields t (length (now (out .entry)))) (recordBytes fields t)
         (now (out .entry)) r (now (out .exit)) ⌝ }
@@ -28,6 +28,7 @@ pub fn write(fields: Record, t: Transaction, out: &mut [u8]) -> Written
             owner,
             amount,
         } => writer::write_mint(receiver, index, owner, amount, out),
+        Record::Turn { receiver } => writer::write_turn(receiver, out),
     }
 }
 

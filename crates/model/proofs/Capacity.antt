@@ -193,7 +193,7 @@ hear-room me k q v tokens m fresh = go (case-outcome k)
     go (case-abort e) = subst (λ (o : Outcome). Room o after) (sym e) (subst (Room Abort) (sym (abort-stays k q v fresh e)) (omega arith))
 
 -- tokens that come free are still held
-freeing-length : (f : Token → Bool) (tokens : List Token) → length (freeing f tokens) ≡ length tokens
+pub freeing-length : (f : Token → Bool) (tokens : List Token) → length (freeing f tokens) ≡ length tokens
 unfolding freeing
 freeing-length f tokens = length-map tokens (pledgeWhen 0 f)
 

@@ -112,7 +112,7 @@ unfolding afterTurn
 turn-same ledger = freeing-same (pledgedToAborted (ledger .known)) (ledger .tokens)
 
 -- where the test holds of no token, nothing is freed
-freeing-none : (f : Token → Bool) (tokens : List Token) → ((t : Token) → List·Memᴰ t tokens → f t ≡ false) → freeing f tokens ≡ tokens
+pub freeing-none : (f : Token → Bool) (tokens : List Token) → ((t : Token) → List·Memᴰ t tokens → f t ≡ false) → freeing f tokens ≡ tokens
 unfolding freeing
 freeing-none f [] h = refl
 freeing-none f (t ∷ tokens) h =

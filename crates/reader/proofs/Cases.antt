@@ -11,9 +11,9 @@ use lib.ListN.{length}
 use Rattle.transaction.specs.declared.Transaction.{Transaction}
 use Rattle.transaction.specs.Lists.{firstOf}
 use Rattle.transaction.specs.Tokens.{blankTransaction}
-use Rattle.transaction.specs.Checks.{houseGenesis, shardFits, checks, causeOf, registerChecks, voteChecks, mintChecks}
+use Rattle.transaction.specs.Checks.{houseGenesis, shardFits, checks, causeOf, registerChecks, voteChecks, mintChecks, turnChecks}
 use Rattle.reader.specs.declared.Record.{Record}
-use Rattle.reader.specs.declared.Record.the-variants.{Register, Vote, Mint}
+use Rattle.reader.specs.declared.Record.the-variants.{Register, Vote, Mint, Turn}
 use Rattle.reader.specs.declared.Answer.the-variants.{Read}
 use Rattle.reader.specs.declared.Reading.{Reading}
 use Rattle.reader.specs.Layout.{byteAt, wordAt, bodyLength, transactionAt}
@@ -29,6 +29,7 @@ use Rattle.reader.specs.Reading.{
   answerOf,
   readingOf,
   refusal,
+  bareReading,
   Reads,
 }
 
@@ -90,6 +91,11 @@ module _ (l : List ℕ) (n : headCause l ≡ 0 → ⊥) where
   unfolding readingOf
   reading-none = rw (cause-of-head, ne-eqb (headCause l) 0 n, taken-all) refl
 
+-- beside a record without a transaction stands a blank one, read or refused
+blank-beside : (b : Bool) → cond b blankTransaction blankTransaction ≡ blankTransaction
+blank-beside true = refl
+blank-beside false = refl
+
 -- A whole record stands at the front.
 module _ (l : List ℕ) (h : headCause l ≡ 0) where
   pub whole : bodyLength (kindOf l) < length l
@@ -126,6 +132,11 @@ module _ (l : List ℕ) (h : headCause l ≡ 0) where
   unfolding readingOf
   reading-bad {number} {taken} en n ek = rw (← en, ne-eqb number 0 n, ek) refl
 
+  pub reading-bare : {number taken : ℕ} {fields : Record} → number ≡ readCause l → fields ≡ recordAt l
+      → transactionIn l ≡ blankTransaction → taken ≡ takenOf l → bareReading number fields taken ≡ readingOf l
+  unfolding readingOf
+  reading-bare en ef et ek = rw (en, ef, et, ek, blank-beside (eqb (readCause l) 0)) refl
+
 -- each kind's length, checks, fields and transaction
 pub length-1 : (k : ℕ) → k ≡ 1 → bodyLength k ≡ 99
 unfolding bodyLength
@@ -139,25 +150,24 @@ pub length-3 : (k : ℕ) → k ≡ 3 → bodyLength k ≡ 10
 unfolding bodyLength
 length-3 k e = rw e
 
--- a kind with a body that is not 1 and not 2 is 3
-pub third-kind : (k : ℕ) → (k ≡ 1 → ⊥) → (k ≡ 2 → ⊥) → (bodyLength k ≡ 0 → ⊥) → k ≡ 3
+pub length-4 : (k : ℕ) → k ≡ 4 → bodyLength k ≡ 1
 unfolding bodyLength
-third-kind k n1 n2 n = eqb-true k 3 (last (eqb k 1) (eqb k 2) (eqb k 3) (ne-eqb _ _ n1) (ne-eqb _ _ n2) n)
-  where
-    last : (a b c : Bool) → a ≡ false → b ≡ false → (_≡_ {A = ℕ} (cond a 99 (cond b 101 (cond c 10 0))) 0 → ⊥)
-        → c ≡ true
-    last a b true ha hb m = refl
-    last a b false ha hb m = absurd (m (simp (ha, hb)))
+length-4 k e = rw e
 
--- a whole record is of kind 1, 2 or 3
+-- a whole record is of kind 1, 2, 3 or 4: every other kind has no body
 pub by-kinds : (l : List ℕ) → headCause l ≡ 0 → (P : Type 0)
-    → (kindOf l ≡ 1 → P) → (kindOf l ≡ 2 → P) → (kindOf l ≡ 3 → P) → P
-by-kinds l h P one two three = go (eqb (kindOf l) 1) (eqb (kindOf l) 2) refl refl
+    → (kindOf l ≡ 1 → P) → (kindOf l ≡ 2 → P) → (kindOf l ≡ 3 → P) → (kindOf l ≡ 4 → P) → P
+unfolding bodyLength
+by-kinds l h P one two three four =
+    go (eqb (kindOf l) 1) (eqb (kindOf l) 2) (eqb (kindOf l) 3) (eqb (kindOf l) 4) refl refl refl refl (known l h)
   where
-    go : (a b : Bool) → eqb (kindOf l) 1 ≡ a → eqb (kindOf l) 2 ≡ b → P
-    go true b e f = one (eqb-true (kindOf l) 1 e)
-    go false true e f = two (eqb-true (kindOf l) 2 f)
-    go false false e f = three (third-kind (kindOf l) (eqb-false (kindOf l) 1 e) (eqb-false (kindOf l) 2 f) (known l h))
+    go : (a b c d : Bool) → eqb (kindOf l) 1 ≡ a → eqb (kindOf l) 2 ≡ b → eqb (kindOf l) 3 ≡ c → eqb (kindOf l) 4 ≡ d
+        → (_≡_ {A = ℕ} (cond a 99 (cond b 101 (cond c 10 (cond d 1 0)))) 0 → ⊥) → P
+    go true b c d e1 e2 e3 e4 n = one (eqb-true (kindOf l) 1 e1)
+    go false true c d e1 e2 e3 e4 n = two (eqb-true (kindOf l) 2 e2)
+    go false false true d e1 e2 e3 e4 n = three (eqb-true (kindOf l) 3 e3)
+    go false false false true e1 e2 e3 e4 n = four (eqb-true (kindOf l) 4 e4)
+    go false false false false e1 e2 e3 e4 n = absurd (n refl)
 
 module _ (l : List ℕ) (h : headCause l ≡ 0) (k : kindOf l ≡ 1) where
   pub cause-1 : readCause l ≡ firstOf (registerChecks houseGenesis (byteAt l 1) (transactionAt l 2))
@@ -213,6 +223,24 @@ module _ (l : List ℕ) (h : headCause l ≡ 0) (k : kindOf l ≡ 3) where
   pub long-3 : 11 ≤ length l
   long-3 = omega (arith, whole l h, length-3 (kindOf l) k)
 
+module _ (l : List ℕ) (h : headCause l ≡ 0) (k : kindOf l ≡ 4) where
+  pub cause-4 : readCause l ≡ firstOf (turnChecks (byteAt l 1))
+  cause-4 = cause-of-body l h ∙ rw k refl
+
+  pub record-4 : recordAt l ≡ Turn (byteAt l 1)
+  unfolding recordAt
+  record-4 = rw k refl
+
+  pub transaction-4 : transactionIn l ≡ blankTransaction
+  unfolding transactionIn
+  transaction-4 = rw k refl
+
+  pub taken-4 : takenOf l ≡ 2
+  taken-4 = taken-record l h ∙ ap (λ (n : ℕ). n + 1) (length-4 (kindOf l) k)
+
+  pub long-4 : 2 ≤ length l
+  long-4 = omega (arith, whole l h, length-4 (kindOf l) k)
+
 -- kinds 1 and 2 together: the fields in front pass check 3, and the transaction is the last 98 bytes
 abbrev front : List ℕ → Bool
 front l =
@@ -229,8 +257,16 @@ three-rows true true c n = one-row c n
 three-rows true false c n = refl
 three-rows false b c n = refl
 
-pub first-kinds : (l : List ℕ) → headCause l ≡ 0 → (kindOf l ≡ 3 → ⊥) → (kindOf l ≡ 1) ⊎ (kindOf l ≡ 2)
-first-kinds l h n = by-kinds l h ((kindOf l ≡ 1) ⊎ (kindOf l ≡ 2)) (λ e. inl e) (λ e. inr e) (λ e. absurd (n e))
+pub first-kinds : (l : List ℕ) → headCause l ≡ 0 → kindOf l ≤ 2 → (kindOf l ≡ 1) ⊎ (kindOf l ≡ 2)
+first-kinds l h n =
+    by-kinds l h ((kindOf l ≡ 1) ⊎ (kindOf l ≡ 2)) (λ e. inl e) (λ e. inr e)
+    (λ e. absurd (omega (arith, n, e))) (λ e. absurd (omega (arith, n, e)))
+
+-- a kind above 2 that is not 3 is 4
+pub last-kind : (l : List ℕ) → headCause l ≡ 0 → 2 < kindOf l → (kindOf l ≡ 3 → ⊥) → kindOf l ≡ 4
+last-kind l h n n3 =
+    by-kinds l h (kindOf l ≡ 4) (λ e. absurd (omega (arith, n, e))) (λ e. absurd (omega (arith, n, e)))
+    (λ e. absurd (n3 e)) (λ e. e)
 
 module _ (l : List ℕ) (h : headCause l ≡ 0) (k : (kindOf l ≡ 1) ⊎ (kindOf l ≡ 2)) where
   pub second-kind : (kindOf l ≡ 1 → ⊥) → kindOf l ≡ 2

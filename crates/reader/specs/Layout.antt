@@ -21,7 +21,7 @@ wordAt l k = joined (byteAt l k) (byteAt l (k + 1)) (byteAt l (k + 2)) (byteAt l
 
 -- one byte of kind, then a body whose length the kind fixes; every other kind has none
 unfoldable pub bodyLength : ℕ → ℕ
-bodyLength kind = cond (eqb kind 1) 99 (cond (eqb kind 2) 101 (cond (eqb kind 3) 10 0))
+bodyLength kind = cond (eqb kind 1) 99 (cond (eqb kind 2) 101 (cond (eqb kind 3) 10 (cond (eqb kind 4) 1 0)))
 
 -- an input's 14 bytes: shard 1, creator 4, index 1, owner 4, amount 4
 unfoldable pub inputAt : List ℕ → ℕ → Input

@@ -8,9 +8,9 @@ use lib.ListN.{length, drop}
 use Rattle.transaction.specs.declared.Transaction.{Transaction}
 use Rattle.transaction.specs.Lists.{firstOf}
 use Rattle.transaction.specs.Tokens.{blankTransaction}
-use Rattle.transaction.specs.Checks.{houseGenesis, registerChecks, voteChecks, mintChecks}
+use Rattle.transaction.specs.Checks.{houseGenesis, registerChecks, voteChecks, mintChecks, turnChecks}
 use Rattle.reader.specs.declared.Record.{Record}
-use Rattle.reader.specs.declared.Record.the-variants.{Register, Vote, Mint}
+use Rattle.reader.specs.declared.Record.the-variants.{Register, Vote, Mint, Turn}
 use Rattle.reader.specs.declared.Answer.{Answer}
 use Rattle.reader.specs.declared.Answer.the-variants.{Read, Refused}
 use Rattle.reader.specs.declared.Reading.{Reading}
@@ -19,11 +19,11 @@ use Rattle.reader.specs.Layout.{byteAt, wordAt, bodyLength, transactionA
 abbrev pub kindOf : List ℕ → ℕ
 kindOf l = byteAt l 0
 
--- what holds for kind 1, for kind 2, and for the kind that is left
-abbrev pub byKind : {A : Type 0} → ℕ → A → A → A → A
-byKind kind register vote mint = cond (eqb kind 1) register (cond (eqb kind 2) vote mint)
+-- what holds for kind 1, for kind 2, for kind 3, and for the kind that is left
+abbrev pub byKind : {A : Type 0} → ℕ → A → A → A → A → A
+byKind kind register vote mint turn = cond (eqb kind 1) register (cond (eqb kind 2) vote (cond (eqb kind 3) mint turn))
 
--- 2 for no bytes; 1 for a kind that is not 1 to 3; 2 for fewer bytes than the kind's length
+-- 2 for no bytes; 1 for a kind that is not 1 to 4; 2 for fewer bytes than the kind's length
 abbrev pub headChecks : List ℕ → List (Bool × ℕ)
 headChecks l =
     (eqb (length l) 0, 2)
@@ -38,6 +38,7 @@ bodyChecks l =
     (registerChecks houseGenesis (byteAt l 1) (transactionAt l 2))
     (voteChecks houseGenesis (byteAt l 1) (byteAt l 2) (byteAt l 3) (transactionAt l 4))
     (mintChecks houseGenesis (byteAt l 1) (byteAt l 2) (wordAt l 3) (wordAt l 7))
+    (turnChecks (byteAt l 1))
 
 -- the order: 2 for no bytes, then 1, 2, 3, 4, 5; 0 where a record is read
 unfoldable pub headCause : List ℕ → ℕ
@@ -46,16 +47,17 @@ headCause l = firstOf (headChecks l)
 unfoldable pub readCause : List ℕ → ℕ
 readCause l = firstOf (headChecks l ++ bodyChecks l)
 
--- the fields of the record, and its transaction; a genesis token's record (opening) has none
+-- the fields of the record, and its transaction; a genesis token's record (opening) and a turn have none
 unfoldable pub recordAt : List ℕ → Record
 recordAt l =
     byKind (kindOf l)
     (Register (byteAt l 1))
     (Vote (byteAt l 1) (byteAt l 2) (byteAt l 3))
     (Mint (byteAt l 1) (byteAt l 2) (wordAt l 3) (wordAt l 7))
+    (Turn (byteAt l 1))
 
 unfoldable pub transactionIn : List ℕ → Transaction
-transactionIn l = byKind (kindOf l) (transactionAt l 2) (transactionAt l 4) blankTransaction
+transactionIn l = byKind (kindOf l) (transactionAt l 2) (transactionAt l 4) blankTransaction blankTransaction
 
 -- The record's length, known also where its fields are refused.
 -- Where no whole record stands there (1 and 2), all of the bytes: nothing is behind it.
@@ -81,6 +83,11 @@ readingOf l =
 
 abbrev pub refusal : ℕ → ℕ → Reading
 refusal number taken = record { answer = Refused number; transaction = blankTransaction; taken = taken }
+
+-- the reading of fields that have no transaction, by the number of their checks
+abbrev pub bareReading : ℕ → Record → ℕ → Reading
+bareReading number fields taken =
+    record { answer = answerOf number fields; transaction = blankTransaction; taken = taken }
 
 -- what the reader promises: the number of the first check that fits, and the whole reading
 pub record Reads (l : List ℕ) (r : Reading) : Type 0 where

@@ -2,10 +2,11 @@
 ghost use mathlib.Core.Path.{_≡_};
 ghost use mathlib.Core.Bool.{cond, _&&_};
 ghost use mathlib.Core.Logic.{_⊎_};
+ghost use Prim.Native.Nat.{_<_};
 ghost use lib.Dec.{eqb, leb};
 ghost use Rattle.transaction.specs.Checks.{houseGenesis, shardFits, causeOf};
 ghost use Rattle.reader.specs.Layout.{byteAt};
-ghost use Rattle.reader.specs.Reading.{kindOf, headCause, recordAt, readingOf, refusal};
+ghost use Rattle.reader.specs.Reading.{kindOf, headCause, recordAt, readingOf, refusal, bareReading};
 use crate::Answer;
 use crate::Reading;
 use crate::Record;
@@ -93,7 +94,21 @@ pub(crate) fn cause_of(t: Transaction) -> u8
     0
 }
 
-pub(crate) fn read_mint(bytes: &[u8]) -> Reading
+// The fields of a record that has no transaction, by the number of its checks, with the bytes that the record takes.
+fn bare(cause: u8, fields: Record, taken: usize) -> Reading
+    ensures { λ r. ⌜ r ≡ bareReading cause fields taken ⌝ }
+{
+    if cause != 0 {
+        return refused(cause, taken);
+    }
+    Reading {
+        answer: Answer::Read(fields),
+        transaction: transaction::parts::blank(),
+        taken: taken,
+    }
+}
+
+fn read_mint(bytes: &[u8]) -> Reading
     requires { ⌜ (headCause (now bytes) ≡ 0) × (kindOf (now bytes) ≡ 3) ⌝ }
     ensures { λ r. ⌜ r ≡ readingOf (now (bytes .entry)) ⌝ }
 {
@@ -102,18 +117,31 @@ pub(crate) fn read_mint(bytes: &[u8]) -> Reading
     let owner = word_at(bytes, 3);
     let amount = word_at(bytes, 7);
     let cause = transaction::checks::mint_cause(128, receiver, index, owner, amount);
-    if cause != 0 {
-        return refused(cause, 11);
-    }
     let fields = Record::Mint {
         receiver,
         index,
         owner,
         amount,
     };
-    Reading {
-        answer: Answer::Read(fields),
-        transaction: transaction::parts::blank(),
-        taken: 11,
+    bare(cause, fields, 11)
+}
+
+fn read_turn(bytes: &[u8]) -> Reading
+    requires { ⌜ (headCause (now bytes) ≡ 0) × (kindOf (now bytes) ≡ 4) ⌝ }
+    ensures { λ r. ⌜ r ≡ readingOf (now (bytes .entry)) ⌝ }
+{
+    let receiver = bytes[1];
+    let cause = transaction::checks::turn_cause(receiver);
+    bare(cause, Record::Turn { receiver }, 2)
+}
+
+// A record that has no transaction, of kind 3 or 4.
+pub(crate) fn read_bare(bytes: &[u8]) -> Reading
+    requires { ⌜ (headCause (now bytes) ≡ 0) × (2 < kindOf (now bytes)) ⌝ }
+    ensures { λ r. ⌜ r ≡ readingOf (now (bytes .entry)) ⌝ }
+{
+    if bytes[0] == 3 {
+        return read_mint(bytes);
     }
+    read_turn(bytes)
 }

@@ -26,6 +26,10 @@ pub enum Record {
         owner: u32,
         amount: u32,
     },
+    // kind 4 (a turn; document 02, 4): the receiving shard
+    Turn {
+        receiver: u8,
+    },
 }
 
 // What was read, or the number of the refusal.
@@ -49,7 +53,8 @@ fn body_length(kind: u8) -> usize
         1 => 99,
         2 => 101,
         3 => 10,
-        0 | 4..=255 => 0,
+        4 => 1,
+        0 | 5..=255 => 0,
     }
 }
 
@@ -80,8 +85,8 @@ pub fn read(bytes: &[u8]) -> Reading
         return bodies::refused(cause, bytes.len());
     }
     let kind = bytes[0];
-    if kind == 3 {
-        return bodies::read_mint(bytes);
+    if 2 < kind {
+        return bodies::read_bare(bytes);
     }
     let size = body_length(kind) + 1;
     if !bodies::front_fits(bytes) {

@@ -14,7 +14,7 @@ use Rattle.model.specs.declared.Token.{Token}
 use Rattle.model.specs.declared.Known.{Known}
 use Rattle.model.specs.declared.Outcome.{Outcome}
 use Rattle.model.specs.declared.Answer.{Answer}
-use Rattle.model.specs.declared.Answer.the-variants.{Refused, Minted, Registered, Heard, Again}
+use Rattle.model.specs.declared.Answer.the-variants.{Refused, Minted, Registered, Heard, Again, Turned}
 use Rattle.model.specs.Lists.{find}
 use Rattle.model.specs.Steps.{
   house,
@@ -33,6 +33,7 @@ use Rattle.model.specs.Steps.{
   heardFrom,
   hearing,
   afterVote,
+  afterTurn,
 }
 use Rattle.model.specs.Shard.{
   Call,
@@ -46,6 +47,8 @@ use Rattle.model.specs.Shard.{
   deliverRefusals,
   hear,
   shardStep,
+  turn,
+  turnRefusals,
 }
 use Rattle.model.proofs.Basics.{eqb-eq, not-no, passed}
 use Rattle.model.specs.Fit.{Fit}
@@ -57,7 +60,7 @@ use Rattle.layout.proofs.Ledgers.{held-length, known-length}
 use Rattle.holdings.proofs.Tokens.{turn-room, pledges-in-turn}
 use Rattle.registry.specs.Numbers.{isNumbered}
 use Rattle.shard.specs.View.{number, view, Sound, Steps}
-use Rattle.shard.specs.Parts.{Leaves, Pledges, entryFor, enteredLedger, Entering, Entered, heardLedger, FreshVote, FreshDone}
+use Rattle.shard.specs.Parts.{Leaves, Pledges, entryFor, enteredLedger, Entering, Entered, heardLedger, FreshVote, FreshDone, TurnedOver}
 use Rattle.shard.proofs.Ledgers.{leaves-then, holds-leaves}
 use Rattle.shard.proofs.Once.{once-step}
 use Rattle.shard.proofs.Tables.{stands, stands-at, stands-there, verdict-there}
@@ -132,6 +135,23 @@ module _ {ws : List ℕ} (sound : Sound ws) {cause : ℕ} where
   deliver-refused {receiver} {sender} {verdict} {t} e n =
       stays-put sound (deliver receiver sender verdict t)
       (rw (← e) (unless-refused cause (view ws) (hear (number ws) (view ws) sender verdict t) n))
+
+  pub turn-refused : {receiver : ℕ} → cause ≡ firstOf (turnRefusals (number ws) (view ws) receiver) → (cause ≡ 0 → ⊥)
+      → Steps ws (turn receiver) (Refused cause) ws
+  unfolding shardStep
+  turn-refused {receiver} e n =
+      stays-put sound (turn receiver) (rw (← e) (unless-refused cause (view ws) (afterTurn (view ws), Turned) n))
+
+-- ---- A turn that passes
+
+module _ {ws : List ℕ} (sound : Sound ws) (receiver : ℕ) {cause : ℕ} (e : cause ≡ firstOf (turnRefusals (number ws) (view ws) receiver))
+    (z : cause ≡ 0) where
+  turn-step : stepped ws (turn receiver) ≡ (afterTurn (view ws), Turned)
+  unfolding shardStep
+  turn-step = unless-done (firstOf (turnRefusals (number ws) (view ws) receiver)) (view ws) (afterTurn (view ws), Turned) (sym e ∙ z)
+
+  pub turn-carried : {vs : List ℕ} → TurnedOver ws vs → Steps ws (turn receiver) Turned vs
+  turn-carried l = goes-on sound (turn receiver) turn-step (sound .known) l
 
 -- ---- A genesis token that passes
 

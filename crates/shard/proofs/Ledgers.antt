@@ -24,12 +24,12 @@ use Rattle.model.specs.Steps.{
   knownWith,
   withSaid,
   outcomeOf,
-  settle,
   inputsHere,
   available,
   availableHere,
   pledges,
   vote,
+  concluded,
 }
 use Rattle.model.specs.Lists.{keep}
 use Rattle.model.specs.Fit.{Fit}
@@ -64,6 +64,7 @@ use Rattle.layout.specs.Layout.{
   Cleared,
   PutsToken,
   PutsKnown,
+  turnedPlace,
 }
 use Rattle.layout.proofs.Regions.{tab-same}
 use Rattle.layout.proofs.Slots.{length-tokens, length-known}
@@ -150,11 +151,11 @@ module _ (ws vs : List ℕ) (place : ℕ) (k : Known) (p : PutsKnown ws place k 
 module _ (ws vs : List ℕ) (ledger : Ledger) (count place : ℕ) (k : Known) (p : Leaves ws ledger count vs)
     (e : slotKnown vs place ≡ k) where
   settled-is : settledAt (outcomeOf (slotKnown vs place)) place vs
-      ≡ settle (outcomeOf k) (number ws) (k .transaction) (ledger .tokens)
+      ≡ concluded (ledger .turned) (outcomeOf k) (number ws) (k .transaction) (ledger .tokens)
   settled-is = rw (e, p .seen, p .numbered) refl
 
   pub can-decide : length (ledger .tokens) ≤ tokenSlots → place < knownSlots
-      → length (settle (outcomeOf k) (number ws) (k .transaction) (ledger .tokens)) ≤ tokenSlots
+      → length (concluded (ledger .turned) (outcomeOf k) (number ws) (k .transaction) (ledger .tokens)) ≤ tokenSlots
       → Settling (outcomeOf (slotKnown vs place)) place vs
   can-decide h l f = record {
     room = record { long = p .long; held = rw (p .holds) h };
@@ -269,7 +270,7 @@ module _ {ws : List ℕ} {me : ℕ} (c : Cleared me ws) where
 
   nothing : view ws ≡ emptyLedger house
   unfolding layout.view
-  nothing = rw (none heldPlace (omega arith), none knownPlace (omega arith), none-given) refl
+  nothing = rw (none heldPlace (omega arith), none knownPlace (omega arith), none turnedPlace (omega arith), none-given) refl
 
   pub fresh : Fresh me ws
   fresh = record {

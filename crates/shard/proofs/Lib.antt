@@ -3,3 +3,4 @@ pub mod Ledgers
 pub mod Calls
 pub mod Tables
 pub mod Asked
+pub mod Freed

@@ -12,10 +12,10 @@ use Rattle.transaction.specs.declared.Transaction.{Transaction}
 use Rattle.transaction.specs.Lists.{any}
 use Rattle.model.specs.declared.Known.{Known}
 use Rattle.model.specs.declared.Answer.{Answer}
-use Rattle.model.specs.Steps.{Limits, Ledger, nothingKnown, newlyKnown, isFor, placeOf, entryOf, hearing, afterMint, afterRegister, afterVote}
+use Rattle.model.specs.Steps.{Limits, Ledger, nothingKnown, newlyKnown, isFor, placeOf, entryOf, hearing, afterMint, afterRegister, afterVote, afterTurn}
 use Rattle.model.specs.Shard.{Call, hasNumber, isOther, shardStep}
 use Rattle.model.proofs.Entries.{whole-known}
-use Rattle.model.proofs.Effects.{ShardEffect, shard-refused, shard-minted, shard-registered, shard-heard, shard-again, shard-effect}
+use Rattle.model.proofs.Effects.{ShardEffect, shard-refused, shard-minted, shard-registered, shard-heard, shard-again, shard-effect, shard-turned}
 use Rattle.registry.specs.Numbers.{numberAt, OneEach}
 use Rattle.registry.proofs.Finds.{any-here}
 
@@ -101,7 +101,7 @@ unknown-number t known o f = go (any (hasNumber t) known) refl
 
 pub once-step : (limits : Limits) (me : ℕ) (ledger : Ledger) → OneEach (ledger .known) → (call : Call)
     → OneEach (shardStep limits me ledger call .0 .known)
-unfolding afterMint afterRegister afterVote newlyKnown entryOf
+unfolding afterMint afterRegister afterVote afterTurn newlyKnown entryOf
 once-step limits me ledger one call = go (shard-effect limits me ledger call)
   where
     go : {call : Call} {r : Ledger × Answer} → ShardEffect limits me ledger call r → OneEach (r .0 .known)
@@ -113,3 +113,4 @@ once-step limits me ledger one call = go (shard-effect limits me ledger call)
     go (shard-heard {receiver} {sender} {verdict} {t} p f z) =
         once-changed (ledger .known) one (placeOf t (ledger .known)) (hearing sender verdict (entryOf t (ledger .known))) refl
     go (shard-again p n) = one
+    go (shard-turned p) = one

@@ -10,7 +10,7 @@ use Rattle.model.specs.declared.Known.{Known}
 use Rattle.model.specs.declared.Outcome.{Outcome}
 use Rattle.model.specs.declared.Answer.{Answer}
 use Rattle.model.specs.declared.Answer.the-variants.{Heard}
-use Rattle.model.specs.Steps.{Ledger, holding, availableHere, pledges, vote, knownWith, hearing, outcomeOf, settle, afterMint}
+use Rattle.model.specs.Steps.{Ledger, holding, availableHere, pledges, vote, knownWith, hearing, outcomeOf, afterMint, concluded, isAbortedFor, afterTurn}
 use Rattle.layout.specs.Layout.{shardWords, tokenSlots, knownSlots, Shard, shardOf, withKnown, withTransactions, slotKnown, Becomes}
 use Rattle.holdings.specs.Held.{Room, Changes}
 use Rattle.shard.specs.View.{number, view}
@@ -32,13 +32,21 @@ pub record Leaves (ws : List ℕ) (ledger : Ledger) (count : ℕ) (vs : List ℕ
 abbrev pub Minted : List ℕ → ℕ → ℕ → ℕ → List ℕ → Type 0
 Minted ws index owner amount vs = Leaves ws (afterMint (view ws) index owner amount) (shardOf ws .known) vs
 
+-- a turn
+abbrev pub TurnedOver : List ℕ → List ℕ → Type 0
+TurnedOver ws vs = Leaves ws (afterTurn (view ws)) (shardOf ws .known) vs
+
+-- the token is pledged to this known transaction, and that is aborted
+abbrev pub isBoundTo : Known → Token → Bool
+isBoundTo k token = isAbortedFor token k
+
 -- one known transaction more in the slots
 pub record Grows (ws : List ℕ) (k : Known) (vs : List ℕ) : Type 0 where
   pub is : Becomes (withKnown (withTransactions (shardOf ws) (set (shardOf ws .transactions) (shardOf ws .known) k)) (shardOf ws .known + 1)) vs
 
 -- the ledger with the known transactions changed, and the tokens after the decision on one of them
 abbrev pub decidedOn : ℕ → Ledger → Known → List Known → Ledger
-decidedOn me ledger k known = holding ledger (settle (outcomeOf k) me (k .transaction) (ledger .tokens)) known
+decidedOn me ledger k known = holding ledger (concluded (ledger .turned) (outcomeOf k) me (k .transaction) (ledger .tokens)) known
 
 -- the transaction as it is entered, and the ledger after it
 abbrev pub entryFor : Bool → Transaction → List ℕ → Known

@@ -1,10 +1,10 @@
 // One shard's ledger (document 01: a pantry's), in place: each call is lent the shard's words, changes them and answers.
-// The interface: `new`, `mint_token`, `register_transaction`, `hear_vote`, `has_given_vote`, and all of `queries`.
+// The interface: `new`, `mint_token`, `register_transaction`, `hear_vote`, `turn_shard`, `has_given_vote`, and all of `queries`.
 // Internal, and public only because the crate `cluster` calls them: `hear_formed` and `refusals::deliver_form`.
 ghost use mathlib.Core.Path.{_≡_};
 ghost use Rattle.transaction.specs.Lists.{firstOf};
 ghost use Rattle.model.specs.Steps.{house};
-ghost use Rattle.model.specs.Shard.{mint, register, deliver, deliverForm};
+ghost use Rattle.model.specs.Shard.{mint, register, deliver, turn, deliverForm};
 ghost use Rattle.model.specs.Cluster.{gave};
 ghost use Rattle.shard.specs.View.{number, view, Sound, Fresh, Steps};
 use layout::Words;
@@ -16,6 +16,7 @@ use transaction::Transaction;
 mod rows; // the rows of the tables of refusals
 pub mod refusals; // the tables of refusals; internal
 mod steps; // the steps that a call that passes takes
+mod turning; // the step of a turn
 pub mod queries; // what can be asked of a shard
 
 // An empty shard of that number, whatever the words were.
@@ -73,6 +74,19 @@ pub fn hear_formed(s: &mut Words, sender: u8, verdict: u8, t: Transaction) -> An
         return Answer::Refused(cause);
     }
     steps::carry_vote(s, place, sender, verdict, t)
+}
+
+// A turn: what is pledged to transactions that the shard has aborted comes free, and from now on each abort frees its own.
+pub fn turn_shard(s: &mut Words, receiver: u8) -> Answer
+    requires { ⌜ Sound (now s) ⌝ }
+    ensures { λ r. ⌜ Steps (now (s .entry)) (turn receiver) r (now (s .exit)) ⌝ }
+{
+    let cause = refusals::turn_refusal(s, receiver);
+    if cause != 0 {
+        return Answer::Refused(cause);
+    }
+    turning::after_turn(s);
+    Answer::Turned
 }
 
 // The shard has given this vote on this transaction; asked of the sender before a cluster delivers it.

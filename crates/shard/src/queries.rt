@@ -128,6 +128,14 @@ pub fn is_given(s: &Words, index: u8) -> bool
     crate::rows::was_given(s, index)
 }
 
+// The shard has turned (document 02, 4).
+pub fn is_turned(s: &Words) -> bool
+    requires { ⌜ Sound (now s) ⌝ }
+    ensures { λ r. ⌜ r ≡ view (now (s .entry)) .turned ⌝ }
+{
+    crate::rows::has_turned(s)
+}
+
 fn wide(x: u32) -> u64
     ensures { λ r. ⌜ (r ≡ x) × (r < 4294967296) ⌝ }
 {

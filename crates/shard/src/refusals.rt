@@ -6,10 +6,12 @@ ghost use Rattle.transaction.specs.Lists.{firstOf};
 ghost use Rattle.model.specs.Lists.{find};
 ghost use Rattle.model.specs.Steps.{house};
 ghost use Rattle.model.specs.Shard.{mintForm, mintRest, mintRefusals, registerForm, registerRest, registerRefusals, deliverForm, deliverRest};
+ghost use Rattle.model.specs.Shard.{turnForm, turnRest, turnRefusals};
 ghost use Rattle.layout.specs.Layout.{shardOf};
 ghost use Rattle.registry.specs.Numbers.{isNumbered};
 ghost use Rattle.shard.specs.View.{number, view, Sound};
 use crate::rows::has_other_verdict;
+use crate::rows::has_turned;
 use crate::rows::is_full;
 use crate::rows::is_held_off;
 use crate::rows::is_other;
@@ -25,6 +27,7 @@ use registry::finding::same_at;
 use transaction::Transaction;
 use transaction::checks::mint_cause;
 use transaction::checks::register_cause;
+use transaction::checks::turn_cause;
 use transaction::checks::vote_cause;
 use transaction::parts::takes_part;
 
@@ -158,4 +161,34 @@ pub(crate) fn deliver_rest(s: &Words, place: usize, sender: u8, verdict: u8, t: 
         return 12;
     }
     0
+}
+
+// 3 of a turn.
+fn turn_form(me: u8, receiver: u8) -> u8
+    ensures { λ r. ⌜ r ≡ firstOf (turnForm me receiver) ⌝ }
+{
+    if receiver != me {
+        return 3;
+    }
+    turn_cause(receiver)
+}
+
+// 19.
+fn turn_rest(s: &Words) -> u8
+    ensures { λ r. ⌜ r ≡ firstOf (turnRest (view (now (s .entry)))) ⌝ }
+{
+    if has_turned(s) {
+        return 19;
+    }
+    0
+}
+
+pub(crate) fn turn_refusal(s: &Words, receiver: u8) -> u8
+    ensures { λ r. ⌜ r ≡ firstOf (turnRefusals (number (now (s .entry))) (view (now (s .entry))) receiver) ⌝ }
+{
+    let cause = turn_form(own_number(s), receiver);
+    if cause != 0 {
+        return cause;
+    }
+    turn_rest(s)
 }

@@ -16,6 +16,7 @@ use layout::TOKEN_SLOTS;
 use layout::Words;
 use layout::counts::held;
 use layout::counts::is_given;
+use layout::counts::is_turned;
 use layout::counts::known_count;
 use layout::counts::own_number;
 use layout::entries::heard_at;
@@ -117,4 +118,11 @@ pub(crate) fn has_other_verdict(
 {
     let heard = heard_at(s, place, sender);
     is_other_verdict(heard, verdict)
+}
+
+// 19: the shard has turned.
+pub(crate) fn has_turned(s: &Words) -> bool
+    ensures { λ r. ⌜ r ≡ view (now (s .entry)) .turned ⌝ }
+{
+    is_turned(s)
 }

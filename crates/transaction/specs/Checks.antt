@@ -1,4 +1,4 @@
--- Rows 3, 4 and 5 of document 01's table of refusals, for a transaction (swap) and for a genesis token (opening).
+-- Rows 3, 4 and 5 of document 01's table of refusals, for a transaction (swap), a genesis token (opening) and a turn.
 -- `genesis` is the number of genesis indices (opening positions) of a shard: 128 in a house.
 use Prim.Native.Nat.{ℕ}
 use mathlib.Core.Bool.{Bool, cond, not, _&&_}
@@ -98,6 +98,6 @@ mintFits genesis receiver index owner amount = shardFits receiver && indexFits g
 abbrev pub mintChecks : ℕ → ℕ → ℕ → ℕ → ℕ → List (Bool × ℕ)
 mintChecks genesis receiver index owner amount = (not (mintFits genesis receiver index owner amount), 3) ∷ []
 
--- a turn (document 02, 4)
+-- a turn (document 02, 4): its one field is the shard that receives it
 abbrev pub turnChecks : ℕ → List (Bool × ℕ)
 turnChecks receiver = (not (shardFits receiver), 3) ∷ []

@@ -3,7 +3,7 @@ ghost use mathlib.Core.Path.{_≡_};
 ghost use Prim.Native.Nat.{_<_};
 ghost use lib.ListN.{take};
 ghost use Rattle.transaction.specs.Lists.{repeats, total, firstOf};
-ghost use Rattle.transaction.specs.Checks.{sameName, inputAmount, outputAmount, causeOf, registerChecks, voteChecks, mintChecks};
+ghost use Rattle.transaction.specs.Checks.{sameName, inputAmount, outputAmount, causeOf, registerChecks, voteChecks, mintChecks, turnChecks};
 use crate::Input;
 use crate::Output;
 use crate::Transaction;
@@ -122,4 +122,10 @@ pub fn mint_cause(genesis: u8, receiver: u8, index: u8, owner: u32, amount: u32)
     } else {
         3
     }
+}
+
+pub fn turn_cause(receiver: u8) -> u8
+    ensures { λ r. ⌜ r ≡ firstOf (turnChecks receiver) ⌝ }
+{
+    if shard_fits(receiver) { 0 } else { 3 }
 }

@@ -20,6 +20,7 @@ use Rattle.writer.specs.Layout.{
   registerBytes,
   voteBytes,
   mintBytes,
+  turnBytes,
 }
 
 sets-append : (l : List ℕ) (i : ℕ) (xs ys : List ℕ) → sets l i (xs ++ ys) ≡ sets (sets l i xs) (i + length xs) ys
@@ -72,6 +73,10 @@ length-vote r s v t = ap (λ (n : ℕ). suc (suc (suc (suc n)))) (length-transac
 pub length-mint : (r i o a : ℕ) → length (mintBytes r i o a) ≡ 11
 unfolding wordOf mintBytes
 length-mint r i o a = refl
+
+pub length-turn : (r : ℕ) → length (turnBytes r) ≡ 2
+unfolding turnBytes
+length-turn r = refl
 
 -- Runs of stores: the parts of a record, each stored right behind the one before it.
 pub word-run : (l : List ℕ) (at v : ℕ) {a b c d : List ℕ}
@@ -207,3 +212,11 @@ mint-run l r i o a′ long e1 e2 e3 e4 e5 =
     (behind l 0 (byteOf 3 ++ byteOf r ++ byteOf i) (wordOf o) 3 refl
     (behind l 0 (byteOf 3 ++ byteOf r) (byteOf i) 2 refl
     (behind l 0 (byteOf 3) (byteOf r) 1 refl e1 e2) e3) e4) e5)
+
+pub turn-run : (l : List ℕ) (r : ℕ) {a b : List ℕ} → 2 ≤ length l
+    → a ≡ sets l 0 (byteOf 4)
+    → b ≡ sets a 1 (byteOf r)
+    → b ≡ turnBytes r ++ drop 2 l
+unfolding turnBytes
+turn-run l r long e1 e2 =
+    front l (turnBytes r) 2 (length-turn r) long (behind l 0 (byteOf 4) (byteOf r) 1 refl e1 e2)

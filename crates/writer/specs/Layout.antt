@@ -51,3 +51,6 @@ voteBytes receiver sender verdict t =
 
 unfoldable pub mintBytes : ℕ → ℕ → ℕ → ℕ → List ℕ
 mintBytes receiver index owner amount = byteOf 3 ++ byteOf receiver ++ byteOf index ++ wordOf owner ++ wordOf amount
+
+unfoldable pub turnBytes : ℕ → List ℕ
+turnBytes receiver = byteOf 4 ++ byteOf receiver

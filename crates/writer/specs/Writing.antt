@@ -8,7 +8,7 @@ use lib.Dec.{eqb, ltb}
 use lib.ListN.{length, drop}
 use Rattle.transaction.specs.declared.Transaction.{Transaction}
 use Rattle.transaction.specs.Lists.{firstOf}
-use Rattle.transaction.specs.Checks.{houseGenesis, registerChecks, voteChecks, mintChecks}
+use Rattle.transaction.specs.Checks.{houseGenesis, registerChecks, voteChecks, mintChecks, turnChecks}
 use Rattle.writer.specs.declared.Written.{Written}
 use Rattle.writer.specs.declared.Written.the-variants.{Bytes, Refused}
 
@@ -24,6 +24,9 @@ voteCause receiver sender verdict t room = withRoom (voteChecks houseGenesis rec
 
 unfoldable pub mintCause : ℕ → ℕ → ℕ → ℕ → ℕ → ℕ
 mintCause receiver index owner amount room = withRoom (mintChecks houseGenesis receiver index owner amount) 11 room
+
+unfoldable pub turnCause : ℕ → ℕ → ℕ
+turnCause receiver room = withRoom (turnChecks receiver) 2 room
 
 -- document 01's number for each case of the answer, 0 where the record was written, and the answer of each number
 abbrev pub numberOf : Written → ℕ

@@ -5,7 +5,7 @@ ghost use Prim.Native.Nat.{_+_, _≤_, _<_};
 ghost use lib.ListN.{length, drop};
 ghost use lib.Seq.{sets};
 ghost use Rattle.writer.specs.Layout.{byteOf, wordOf, inputBytes, outputBytes, inputsBytes, outputsBytes};
-ghost use Rattle.writer.specs.Layout.{transactionBytes, registerBytes, voteBytes, mintBytes};
+ghost use Rattle.writer.specs.Layout.{transactionBytes, registerBytes, voteBytes, mintBytes, turnBytes};
 use transaction::Input;
 use transaction::Output;
 use transaction::Transaction;
@@ -111,4 +111,12 @@ pub(crate) fn put_mint(out: &mut [u8], receiver: u8, index: u8, owner: u32, amou
     put_byte(out, 2, index);
     put_word(out, 3, owner);
     put_word(out, 7, amount);
+}
+
+pub(crate) fn put_turn(out: &mut [u8], receiver: u8)
+    requires { ⌜ 2 ≤ length (now out) ⌝ }
+    ensures { λ _. ⌜ now (out .exit) ≡ turnBytes receiver ++ drop 2 (now (out .entry)) ⌝ }
+{
+    put_byte(out, 0, 4);
+    put_byte(out, 1, receiver);
 }

@@ -1,7 +1,7 @@
 // The record writers: document 01, 'Records'. A refused record leaves every lent byte as it was.
 ghost use lib.ListN.{length};
-ghost use Rattle.writer.specs.Layout.{registerBytes, voteBytes, mintBytes};
-ghost use Rattle.writer.specs.Writing.{Writes, registerCause, voteCause, mintCause};
+ghost use Rattle.writer.specs.Layout.{registerBytes, voteBytes, mintBytes, turnBytes};
+ghost use Rattle.writer.specs.Writing.{Writes, registerCause, voteCause, mintCause, turnCause};
 use transaction::Transaction;
 
 mod layout; // fields at their places
@@ -50,4 +50,17 @@ pub fn write_mint(receiver: u8, index: u8, owner: u32, amount: u32, out: &mut [u
     }
     layout::put_mint(out, receiver, index, owner, amount);
     Written::Bytes(11)
+}
+
+// A record of kind 4: a turn of a shard (document 02, 4).
+pub fn write_turn(receiver: u8, out: &mut [u8]) -> Written
+    ensures { λ r. ⌜ Writes (turnCause receiver (length (now (out .entry)))) (turnBytes receiver)
+        (now (out .entry)) r (now (out .exit)) ⌝ }
+{
+    let cause = room::turn_cause(receiver, out.len());
+    if cause != 0 {
+        return Written::Refused(cause);
+    }
+    layout::put_turn(out, receiver);
+    Written::Bytes(2)
 }

@@ -1,6 +1,6 @@
 // The checks of a record that is to be written: 3, 4, 5 of its fields, then 15 for too little room; 0 for none.
 ghost use mathlib.Core.Path.{_≡_};
-ghost use Rattle.writer.specs.Writing.{registerCause, voteCause, mintCause};
+ghost use Rattle.writer.specs.Writing.{registerCause, voteCause, mintCause, turnCause};
 use transaction::Transaction;
 use transaction::checks;
 
@@ -32,4 +32,14 @@ pub(crate) fn mint_cause(receiver: u8, index: u8, owner: u32, amount: u32, room:
         return cause;
     }
     if room < 11 { 15 } else { 0 }
+}
+
+pub(crate) fn turn_cause(receiver: u8, room: usize) -> u8
+    ensures { λ r. ⌜ r ≡ turnCause receiver room ⌝ }
+{
+    let cause = checks::turn_cause(receiver);
+    if cause != 0 {
+        return cause;
+    }
+    if room < 2 { 15 } else { 0 }
 }

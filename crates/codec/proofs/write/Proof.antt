@@ -20,6 +20,12 @@ enum-known-fields-3 c = search needs
 write-mint-requires : tie.Need-write-mint-requires
 write-mint-requires c κs = search needs
 
+enum-known-fields-4 : tie.Need-enum-known-fields-4
+enum-known-fields-4 c = search needs
+
+write-turn-requires : tie.Need-write-turn-requires
+write-turn-requires c κs = search needs
+
 same-length : tie.Need-same-length
 same-length c = search needs
 
@@ -47,6 +53,15 @@ returns-3 c =
     let kind : tie.After-fields3 = search in
     rw (kind .fields3 .given .1) (wrote .write-mint .ensures)
 
+same-length-4 : tie.Need-same-length-4
+same-length-4 c = search needs
+
+returns-4 : tie.Need-returns-4
+returns-4 c =
+    let wrote : tie.After-write-turn = search in
+    let kind : tie.After-fields4 = search in
+    rw (kind .fields4 .given .1) (wrote .write-turn .ensures)
+
 pub write-spec : {M : Type 1} → statement M
 write-spec =
     tie.close
@@ -57,9 +72,13 @@ write-spec =
     write-vote-requires
     enum-known-fields-3
     write-mint-requires
+    enum-known-fields-4
+    write-turn-requires
     same-length
     returns
     same-length-2
     returns-2
     same-length-3
-    returns-3)
+    returns-3
+    same-length-4
+    returns-4)

@@ -21,9 +21,18 @@ returns-4 c = rw (c .match .keys4)
 
 returns-5 : tie.Need-returns-5
 unfolding bodyLength
-returns-5 c =
+returns-5 c = rw (c .match .keys5)
+
+returns-6 : tie.Need-returns-6
+unfolding bodyLength
+returns-6 c =
     let other = c .match .rest in
-    simp (ne-eqb _ _ (other .0 .0 .0 .1), ne-eqb _ _ (other .0 .0 .1), ne-eqb _ _ (other .0 .1))
+    simp (
+      ne-eqb _ _ (other .0 .0 .0 .0 .1),
+      ne-eqb _ _ (other .0 .0 .0 .1),
+      ne-eqb _ _ (other .0 .0 .1),
+      ne-eqb _ _ (other .0 .1),
+    )
 
 pub body-length-spec : {M : Type 1} → statement M
-body-length-spec = tie.close (tie.spec returns returns-2 returns-3 returns-4 returns-5)
+body-length-spec = tie.close (tie.spec returns returns-2 returns-3 returns-4 returns-5 returns-6)

@@ -100,13 +100,13 @@ shared-slice-read-kind c =
     let entry : tie.Start = search in
     omega (arith, whole (bytes entry) (head (search)))
 
-read-mint-requires : tie.Need-read-mint-requires
-read-mint-requires c κs = search needs
+read-bare-requires : tie.Need-read-bare-requires
+read-bare-requires c κs = (head (search), c .if2 .taken)
 
 returns-2 : tie.Need-returns-2
 returns-2 c =
     let entry : tie.Start = search in
-    reads (bytes entry) (c .read-mint .ensures)
+    reads (bytes entry) (c .read-bare .ensures)
 
 body-length-requires : tie.Need-body-length-requires
 body-length-requires c κs = search needs
@@ -174,7 +174,7 @@ read-spec =
     refused-requires
     returns
     shared-slice-read-kind
-    read-mint-requires
+    read-bare-requires
     returns-2
     body-length-requires
     add-size

@@ -1,4 +1,4 @@
-use Rattle.reader.proofs.Cases.{long-3, cause-3, record-3, transaction-3, taken-3, reading-good, reading-bad}
+use Rattle.reader.proofs.Cases.{long-3, cause-3, record-3, transaction-3, taken-3, reading-bare}
 use Rattle.reader.specs.Reading.{readCause, takenOf}
 use mathlib.Core.List.{List}
 use Prim.Native.Nat.{ℕ, _≤_}
@@ -46,31 +46,21 @@ word-at-requires-2 c κs = omega (arith, long (search))
 mint-cause-requires : tie.Need-mint-cause-requires
 mint-cause-requires c κs = search needs
 
-refused-requires : tie.Need-refused-requires
-refused-requires c κs = search needs
+bare-requires : tie.Need-bare-requires
+bare-requires c κs = search needs
 
 returns : tie.Need-returns
 returns c =
-    let refused : tie.Then1 = search in
-    let entry : tie.Start = search in
-    c .refused .ensures
-    ∙ reading-bad (bytes entry) (entry .pre .0) (checked (search)) (refused .if1 .taken) (taken entry)
-
-blank-requires : tie.Need-blank-requires
-blank-requires c κs = search needs
-
-returns-2 : tie.Need-returns-2
-returns-2 c =
-    let passed : tie.Else1 = search in
     let amount : tie.After-word-at2 = search in
     let owner : tie.After-word-at = search in
     let entry : tie.Start = search in
     let l = bytes entry in
     let head = entry .pre .0 in
     let kind = entry .pre .1 in
-    reading-good l head (checked (search)) (passed .if1 .left)
+    c .bare .ensures
+    ∙ reading-bare l head (checked (search))
     (rw (owner .word-at .ensures, amount .word-at2 .ensures) (sym (record-3 l head kind)))
-    (c .blank .ensures ∙ sym (transaction-3 l head kind))
+    (transaction-3 l head kind)
     (taken entry)
 
 pub read-mint-spec : {M : Type 1} → statement M
@@ -82,7 +72,5 @@ read-mint-spec =
     word-at-requires
     word-at-requires-2
     mint-cause-requires
-    refused-requires
-    returns
-    blank-requires
-    returns-2)
+    bare-requires
+    returns)
