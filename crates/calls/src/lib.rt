@@ -24,5 +24,6 @@ pub fn call(c: &mut Cluster, fields: Record, t: Transaction) -> Answer
             owner,
             amount,
         } => cluster::mint_token(c, receiver, index, owner, amount),
+        Record::Turn { receiver } => cluster::turn_shard(c, receiver),
     }
 }

@@ -1,6 +1,6 @@
--- DEMAND 3 ABOUT THE CODE. For every list of openings, registrations and vote deliveries with any arguments, refused ones included, and the answers and
--- clusters that the contracts of `new`, `mint_token`, `register_transaction` and `deliver_vote` fix, call after call: the record `RunDemand` holds
--- (crates/model/proofs/Bridge.antt), which has each clause of demand 3 as a field.
+-- DEMAND 3 ABOUT THE CODE. For every list of openings, registrations, vote deliveries and turns with any arguments, refused ones included, and the
+-- answers and clusters that the contracts of `new`, `mint_token`, `register_transaction`, `deliver_vote` and `turn_shard` fix, call after call: the
+-- record `RunDemand` holds (crates/model/proofs/Bridge.antt), which has each clause of demand 3 as a field.
 --
 -- A contract is read off the function itself: `Asked` is what its `requires` asks of the arguments, `Learnt` what its `ensures` tells of the
 -- arguments, the result and the lent cluster afterwards, as the checker generates both from src/lib.rt. There is no second copy of a contract here, so
@@ -10,7 +10,7 @@ use mathlib.Core.List.{List}
 use contract.Lifetimes.{Lfts}
 use Rattle.model.specs.declared.Answer.{Answer}
 use Rattle.model.specs.Steps.{house}
-use Rattle.model.specs.Shard.{Call, mint, register, deliver}
+use Rattle.model.specs.Shard.{Call, mint, register, deliver, turn}
 use Rattle.model.proofs.Bridge.{Engine, Run, RunDemand, run-demand-3}
 use Rattle.cluster.specs.View.{view, Sound, Fresh, Steps}
 use Rattle.cluster.proofs.References.{Place, refers}
@@ -18,6 +18,7 @@ use Rattle.cluster.proofs.new.Reads as new
 use Rattle.cluster.proofs.mint_token.Reads as mint-token
 use Rattle.cluster.proofs.register_transaction.Reads as register-transaction
 use Rattle.cluster.proofs.deliver_vote.Reads as deliver-vote
+use Rattle.cluster.proofs.turn_shard.Reads as turn-shard
 
 -- a cluster's words
 abbrev pub Cluster : Type 0
@@ -46,6 +47,9 @@ Leaves at c (register p t) c′ answer =
 Leaves at c (deliver p q v t) c′ answer =
     deliver-vote.Asked (at .lifetimes) (refers (at .place) c, (p, (q, (v, (t, tt)))))
     → deliver-vote.Learnt (at .lifetimes) (refers (at .place) c, (p, (q, (v, (t, tt))))) answer (refers (at .place) c′, (p, (q, (v, (t, tt)))))
+Leaves at c (turn p) c′ answer =
+    turn-shard.Asked (at .lifetimes) (refers (at .place) c, (p, tt))
+    → turn-shard.Learnt (at .lifetimes) (refers (at .place) c, (p, tt)) answer (refers (at .place) c′, (p, tt))
 
 pub record Returns (c : Cluster) (call : Call) (c′ : Cluster) (answer : Answer) : Type 0 where
   pub at : Lent
@@ -56,6 +60,7 @@ keeps-to : (at : Lent) (c c′ : Cluster) (call : Call) (answer : Answer) → So
 keeps-to at c c′ (mint p i o a) answer sound x = x sound
 keeps-to at c c′ (register p t) answer sound x = x sound
 keeps-to at c c′ (deliver p q v t) answer sound x = x sound
+keeps-to at c c′ (turn p) answer sound x = x sound
 
 pub promised : (c c′ : Cluster) (call : Call) (answer : Answer) → Sound c → Returns c call c′ answer → Steps c call answer c′
 promised c c′ call answer sound x = keeps-to (x .at) c c′ call answer sound (x .kept)

@@ -15,7 +15,7 @@ use Rattle.transaction.proofs.Tables.{first-stands}
 use Rattle.model.specs.declared.Answer.{Answer}
 use Rattle.model.specs.declared.Answer.the-variants.{Refused}
 use Rattle.model.specs.Steps.{Ledger, house, emptyLedger}
-use Rattle.model.specs.Shard.{Call, mint, register, deliver, deliverForm, deliverRest, deliverRefusals, hear, shardStep}
+use Rattle.model.specs.Shard.{Call, mint, register, deliver, deliverForm, deliverRest, deliverRefusals, hear, shardStep, turn}
 use Rattle.model.specs.Cluster.{ledgerAt, gave, notGiven, atShard, clusterStep}
 use Rattle.model.proofs.Basics.{passed}
 use Rattle.model.proofs.Tables.{unless-refused, receiverOf, no-such-shard}
@@ -108,6 +108,11 @@ module _ {c : List (List ℕ)} (sound : Sound c) where
       → shard.Steps (shardAt c p) (register p t) answer ws → Steps c (register p t) answer (set c p ws)
   unfolding clusterStep
   registered {p} below h = carried p below refl h
+
+  pub turned : {p : ℕ} {answer : Answer} {ws : List ℕ} → p < 8
+      → shard.Steps (shardAt c p) (turn p) answer ws → Steps c (turn p) answer (set c p ws)
+  unfolding clusterStep
+  turned {p} below h = carried p below refl h
 
 -- ---- A vote: 3 to 6, then 16
 

@@ -1,7 +1,7 @@
 // Eight shards (document 01: a round of eight pantries), in place: each call is lent the cluster's words and lends one shard's on.
 ghost use mathlib.Core.Path.{_≡_};
 ghost use Prim.Native.Nat.{_<_};
-ghost use Rattle.model.specs.Shard.{mint, register, deliver};
+ghost use Rattle.model.specs.Shard.{mint, register, deliver, turn};
 ghost use Rattle.cluster.specs.View.{Sound, Fresh, Steps};
 use layout::SHARD_WORDS;
 use layout::Words;
@@ -79,4 +79,16 @@ pub fn deliver_vote(
     }
     let at = receiver as usize;
     shard::hear_formed(&mut c[at], sender, verdict, t)
+}
+
+// A turn of the receiving shard.
+pub fn turn_shard(c: &mut Cluster, receiver: u8) -> Answer
+    requires { ⌜ Sound (now c) ⌝ }
+    ensures { λ r. ⌜ Steps (now (c .entry)) (turn receiver) r (now (c .exit)) ⌝ }
+{
+    let at = receiver as usize;
+    if 8 <= at {
+        return Answer::Refused(3);
+    }
+    shard::turn_shard(&mut c[at], receiver)
 }

@@ -84,6 +84,18 @@ pub fn outcome_of(c: &Cluster, number: u8, transaction: u32) -> KnownOutcome
     queries::outcome_of(&c[at], transaction)
 }
 
+// It has turned (document 02, 4).
+pub fn is_turned(c: &Cluster, number: u8) -> bool
+    requires { ⌜ Sound (now c) ⌝ }
+    ensures { λ r. ⌜ r ≡ ledgerAt house (view (now (c .entry))) number .turned ⌝ }
+{
+    let at = number as usize;
+    if 8 <= at {
+        return false;
+    }
+    queries::is_turned(&c[at])
+}
+
 // The sum of the amounts that it holds (document 01: the portions held in a pantry).
 pub fn amount_at(c: &Cluster, number: u8) -> u64
     requires { ⌜ Sound (now c) ⌝ }

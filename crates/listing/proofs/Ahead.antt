@@ -21,6 +21,7 @@ use Rattle.reader.proofs.Cases.{
   cause-1,
   cause-2,
   cause-3,
+  cause-4,
 }
 use Rattle.model.specs.Steps.{Ledger}
 use Rattle.listing.specs.Listing.{stepOf}
@@ -28,13 +29,14 @@ use Rattle.listing.specs.Listing.{stepOf}
 -- no kind's body is longer
 body-most : (k : ℕ) → bodyLength k ≤ 101
 unfolding bodyLength
-body-most k = go (eqb k 1) (eqb k 2) (eqb k 3) refl refl refl
+body-most k = go (eqb k 1) (eqb k 2) (eqb k 3) (eqb k 4) refl refl refl refl
   where
-    go : (a b c : Bool) → eqb k 1 ≡ a → eqb k 2 ≡ b → eqb k 3 ≡ c → bodyLength k ≤ 101
-    go true b c ea eb ec = rw ea (omega arith)
-    go false true c ea eb ec = rw (ea, eb) (omega arith)
-    go false false true ea eb ec = rw (ea, eb, ec) (omega arith)
-    go false false false ea eb ec = rw (ea, eb, ec) (omega arith)
+    go : (a b c d : Bool) → eqb k 1 ≡ a → eqb k 2 ≡ b → eqb k 3 ≡ c → eqb k 4 ≡ d → bodyLength k ≤ 101
+    go true b c d ea eb ec ed = rw ea (omega arith)
+    go false true c d ea eb ec ed = rw (ea, eb) (omega arith)
+    go false false true d ea eb ec ed = rw (ea, eb, ec) (omega arith)
+    go false false false true ea eb ec ed = rw (ea, eb, ec, ed) (omega arith)
+    go false false false false ea eb ec ed = rw (ea, eb, ec, ed) (omega arith)
 
 module _ (l x : List ℕ) (long : 102 ≤ length l) where
   byte : (k : ℕ) → k < 102 → byteAt (l ++ x) k ≡ byteAt l k
@@ -127,6 +129,7 @@ module _ (l x : List ℕ) (long : 102 ≤ length l) where
       cause-3 (l ++ x) (head-same ∙ h) (kind ∙ k)
       ∙ rw (byte 1 (omega arith), byte 2 (omega arith), word 3 (omega arith), word 7 (omega arith)) refl
       ∙ sym (cause-3 l h k))
+      (λ k. cause-4 (l ++ x) (head-same ∙ h) (kind ∙ k) ∙ rw (byte 1 (omega arith)) refl ∙ sym (cause-4 l h k))
 
   -- the reading, but for the bytes taken
   abbrev Same : Type 0

@@ -7,7 +7,7 @@ use lib.Dec.{eqb, leb}
 use lib.ListN.{length}
 use Rattle.transaction.specs.declared.Transaction.{Transaction}
 use Rattle.reader.specs.declared.Record.{Record}
-use Rattle.reader.specs.declared.Record.the-variants.{Register, Vote, Mint}
+use Rattle.reader.specs.declared.Record.the-variants.{Register, Vote, Mint, Turn}
 use Rattle.reader.specs.declared.Answer as reader
 use Rattle.reader.specs.declared.Answer.the-variants as reader-answer
 use Rattle.reader.specs.Reading.{readingOf, takenOf, restOf}
@@ -27,6 +27,7 @@ abbrev pub receiverOf : Record → ℕ
 receiverOf (Register receiver) = receiver
 receiverOf (Vote receiver sender verdict) = receiver
 receiverOf (Mint receiver index owner amount) = receiver
+receiverOf (Turn receiver) = receiver
 
 -- what one step shows: its line, the ledgers after it, and whether reading ends
 pub record Shown : Type 0 where

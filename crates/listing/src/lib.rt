@@ -58,6 +58,7 @@ fn receiver_of(fields: Record) -> u8
             owner: _,
             amount: _,
         } => receiver,
+        Record::Turn { receiver } => receiver,
     }
 }
 
@@ -71,6 +72,7 @@ fn is_unplaced(answer: Answer) -> bool
         Answer::Registered(_, _) => false,
         Answer::Heard(_) => false,
         Answer::Again(_) => false,
+        Answer::Turned => false,
     }
 }
 

@@ -114,5 +114,6 @@ pub(crate) fn put_answer(line: &mut [u8], at: usize, answer: Answer) -> usize
             let e = put_word(line, at, b"AGAIN");
             put_outcome(line, e, outcome)
         }
+        Answer::Turned => put_word(line, at, b"TURNED"),
     }
 }

@@ -20,6 +20,12 @@ enum-known-fields-3 c = search needs
 mint-token-requires : tie.Need-mint-token-requires
 mint-token-requires c κs = search needs
 
+enum-known-fields-4 : tie.Need-enum-known-fields-4
+enum-known-fields-4 c = search needs
+
+turn-shard-requires : tie.Need-turn-shard-requires
+turn-shard-requires c κs = search needs
+
 returns : tie.Need-returns
 returns c =
     let read : tie.After-fields = search in
@@ -35,6 +41,11 @@ returns-3 c =
     let read : tie.After-fields3 = search in
     rw (read .fields3 .given .1) (c .mint-token .ensures)
 
+returns-4 : tie.Need-returns-4
+returns-4 c =
+    let read : tie.After-fields4 = search in
+    rw (read .fields4 .given .1) (c .turn-shard .ensures)
+
 pub call-spec : {M : Type 1} → statement M
 call-spec =
     tie.close
@@ -45,6 +56,9 @@ call-spec =
     deliver-vote-requires
     enum-known-fields-3
     mint-token-requires
+    enum-known-fields-4
+    turn-shard-requires
     returns
     returns-2
-    returns-3)
+    returns-3
+    returns-4)

@@ -58,6 +58,15 @@ put-word-requires-4 c κs = search needs
 put-outcome-requires-3 : tie.Need-put-outcome-requires-3
 put-outcome-requires-3 c κs = search needs
 
+enum-told-2 : tie.Need-enum-told-2
+enum-told-2 c = search needs
+
+slice-aggregate-put-word-5 : tie.Need-slice-aggregate-put-word-5
+slice-aggregate-put-word-5 c = search needs
+
+put-word-requires-5 : tie.Need-put-word-requires-5
+put-word-requires-5 c κs = search needs
+
 same-length : tie.Need-same-length
 same-length c = search needs
 
@@ -110,6 +119,15 @@ returns-5 c =
     rw (answered .answer4 .given .1)
     (two _ _ 13 (omega arith) (word .put-word4 .ensures) (outcome .put-outcome3 .ensures))
 
+same-length-6 : tie.Need-same-length-6
+same-length-6 c = search needs
+
+returns-6 : tie.Need-returns-6
+returns-6 c =
+    let word : tie.After-put-word5 = search in
+    let told : tie.After-enum-told2 = search in
+    rw (told .enum-told2 .given .1) (wider 13 (word .put-word5 .ensures) (omega arith))
+
 pub put-answer-spec : {M : Type 1} → statement M
 put-answer-spec =
     tie.close
@@ -132,6 +150,9 @@ put-answer-spec =
     slice-aggregate-put-word-4
     put-word-requires-4
     put-outcome-requires-3
+    enum-told-2
+    slice-aggregate-put-word-5
+    put-word-requires-5
     same-length
     returns
     same-length-2
@@ -141,4 +162,6 @@ put-answer-spec =
     same-length-4
     returns-4
     same-length-5
-    returns-5)
+    returns-5
+    same-length-6
+    returns-6)
