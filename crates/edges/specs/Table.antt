@@ -16,7 +16,7 @@ use Rattle.transaction.specs.Lists.{repeats, firstOf}
 use Rattle.transaction.specs.Tokens.{zeroInput, zeroOutput, blankTransaction, sameToken}
 use Rattle.transaction.specs.Checks.{balanced, registerChecks}
 use Rattle.reader.specs.declared.Record.{Record}
-use Rattle.reader.specs.declared.Record.the-variants.{Register, Vote, Mint}
+use Rattle.reader.specs.declared.Record.the-variants.{Register, Vote, Mint, Turn}
 use Rattle.reader.specs.declared.Answer.the-variants.{Read}
 use Rattle.reader.specs.declared.Reading.{Reading}
 use Rattle.reader.specs.Layout.{byteAt, transactionAt}
@@ -28,7 +28,7 @@ use Rattle.model.specs.declared.Answer.{Answer}
 use Rattle.model.specs.declared.Answer.the-variants.{Refused, Minted, Registered, Heard, Again}
 use Rattle.model.specs.Answers.{carriedOut}
 use Rattle.model.specs.Steps.{Ledger, house}
-use Rattle.model.specs.Shard.{Call, mint, register, deliver}
+use Rattle.model.specs.Shard.{Call, mint, register, deliver, turn}
 use Rattle.model.specs.Cluster.{emptyShards, ledgerAt}
 use Rattle.model.specs.Totals.{totalHeld}
 use Rattle.model.specs.Model.{play, playAnswers}
@@ -73,12 +73,14 @@ abbrev pub fieldsOf : Call → Record
 fieldsOf (mint receiver index owner amount) = Mint receiver index owner amount
 fieldsOf (register receiver t) = Register receiver
 fieldsOf (deliver receiver sender verdict t) = Vote receiver sender verdict
+fieldsOf (turn receiver) = Turn receiver
 
--- and its transaction (swap); a genesis token's record (opening) has none
+-- and its transaction (swap); the record of a genesis token (opening) or of a turn has none
 abbrev pub transactionOf : Call → Transaction
 transactionOf (mint receiver index owner amount) = blankTransaction
 transactionOf (register receiver t) = t
 transactionOf (deliver receiver sender verdict t) = t
+transactionOf (turn receiver) = blankTransaction
 
 -- its bytes, as a writer writes them
 abbrev pub bytesOf : Call → List ℕ

@@ -1,5 +1,5 @@
--- DEMAND 3 THROUGH THE LIBRARY'S DOOR. For every list of plankeeper_mint, _register, _deliver and _apply with any words
--- and any bytes, refused ones included, on memory that plankeeper_new made a cluster of, and the numbers and clusters
+-- DEMAND 3 THROUGH THE LIBRARY'S DOOR. For every list of plankeeper_mint, _register, _deliver, _turn and _apply with any
+-- words and any bytes, refused ones included, on memory that plankeeper_new made a cluster of, and the numbers and clusters
 -- that the contracts of these exported functions fix, call after call: the numbers are the codes of the reference
 -- model's answers to the calls asked for, and every clause of demand 3 holds of the ledgers.
 --
@@ -33,6 +33,7 @@ use Rattle.engine.specs.Asks.{
   mints,
   registers,
   delivers,
+  turns,
   applies,
   Meant,
   refusal,
@@ -47,6 +48,7 @@ use Rattle.engine.proofs.clusters.plankeeper_new.Reads as of-new
 use Rattle.engine.proofs.clusters.plankeeper_mint.Reads as of-mint
 use Rattle.engine.proofs.clusters.plankeeper_register.Reads as of-register
 use Rattle.engine.proofs.clusters.plankeeper_deliver.Reads as of-deliver
+use Rattle.engine.proofs.clusters.plankeeper_turn.Reads as of-turn
 use Rattle.engine.proofs.clusters.plankeeper_apply.Reads as of-apply
 
 -- how memory is lent: a cluster alone, or beside it what is read from
@@ -78,6 +80,9 @@ Leaves at c (delivers p q v w) c′ code =
     of-deliver.Asked (at .both) (refers (at .to) c, (p, (q, (v, (words, tt)))))
     → of-deliver.Learnt (at .both) (refers (at .to) c, (p, (q, (v, (words, tt))))) code
     (refers (at .to) c′, (p, (q, (v, (words, tt)))))
+Leaves at c (turns p) c′ code =
+    of-turn.Asked (at .alone) (refers (at .to) c, (p, tt))
+    → of-turn.Learnt (at .alone) (refers (at .to) c, (p, tt)) code (refers (at .to) c′, (p, tt))
 Leaves at c (applies l) c′ code =
     let bytes = refers (at .from) l in
     of-apply.Asked (at .both) (refers (at .to) c, (bytes, tt))
@@ -111,6 +116,7 @@ unfolding means applied
 promised at c c′ (mints p i o a) code sound x = x sound
 promised at c c′ (registers p w) code sound x = x sound
 promised at c c′ (delivers p q v w) code sound x = x sound
+promised at c c′ (turns p) code sound x = x sound
 promised at c c′ (applies l) code sound x =
     subst (λ (y : List Ledger × Answer). ClusterDoes y code c′)
     (record-step c (readingOf l .answer) (readingOf l .transaction)) (x sound)

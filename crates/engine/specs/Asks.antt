@@ -8,16 +8,17 @@ use Rattle.reader.specs.declared.Answer as reader
 use Rattle.reader.specs.declared.Answer.the-variants as reader-answer
 use Rattle.reader.specs.Reading.{readingOf}
 use Rattle.model.specs.declared.Answer.{Answer}
-use Rattle.model.specs.Shard.{Call, mint, register, deliver}
+use Rattle.model.specs.Shard.{Call, mint, register, deliver, turn}
 use Rattle.calls.specs.Calls.{callOf}
 use Rattle.engine.specs.Words.{byteOf, transactionFrom}
 use Rattle.engine.specs.Codes.{answerCode}
 
--- plankeeper_mint (an opening), _register, _deliver (a vote), each with its words in order, and _apply with its bytes
+-- plankeeper_mint (an opening), _register, _deliver (a vote), _turn, each with its words in order, and _apply with its bytes
 pub data Ask : Type 0 where
   mints : (receiver index owner amount : ℕ) → Ask
   registers : (receiver : ℕ) (transaction : List ℕ) → Ask
   delivers : (receiver sender verdict : ℕ) (transaction : List ℕ) → Ask
+  turns : (receiver : ℕ) → Ask
   applies : (bytes : List ℕ) → Ask
 
 -- what is asked for: a call; or none, because the record at the front of the bytes is refused with 1 to 5
@@ -34,6 +35,7 @@ means (mints receiver index owner amount) = asked (mint (byteOf receiver) (byteO
 means (registers receiver words) = asked (register (byteOf receiver) (transactionFrom words))
 means (delivers receiver sender verdict words) =
     asked (deliver (byteOf receiver) (byteOf sender) (byteOf verdict) (transactionFrom words))
+means (turns receiver) = asked (turn (byteOf receiver))
 means (applies bytes) = recordMeans (readingOf bytes .answer) (readingOf bytes .transaction)
 
 -- all that is asked for, and the calls among it, in order

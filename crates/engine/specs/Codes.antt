@@ -4,7 +4,7 @@ use mathlib.Core.Bool.{Bool, cond}
 use Rattle.model.specs.declared.Outcome.{Outcome}
 use Rattle.model.specs.declared.Outcome.the-variants.{Wait, Commit, Abort}
 use Rattle.model.specs.declared.Answer.{Answer}
-use Rattle.model.specs.declared.Answer.the-variants.{Refused, Minted, Registered, Heard, Again}
+use Rattle.model.specs.declared.Answer.the-variants.{Refused, Minted, Registered, Heard, Again, Turned}
 
 -- 1 for yes, 0 for no
 abbrev pub yes : Bool → ℕ
@@ -16,11 +16,12 @@ outcomeCode Wait = 0
 outcomeCode Commit = 1
 outcomeCode Abort = 2
 
--- A refusal's own number (all of document 01's are below 100); a genesis token given (an opening); a registration with
--- the shard's own verdict; a fresh vote; a repeat.
+-- A refusal's own number (all of them are below 100); a genesis token given (an opening); a registration with
+-- the shard's own verdict; a fresh vote; a repeat; a turn.
 unfoldable pub answerCode : Answer → ℕ
 answerCode (Refused number) = number
 answerCode Minted = 100
 answerCode (Registered verdict outcome) = 200 + 10 * yes verdict + outcomeCode outcome
 answerCode (Heard outcome) = 300 + outcomeCode outcome
 answerCode (Again outcome) = 400 + outcomeCode outcome
+answerCode Turned = 500

@@ -8,7 +8,9 @@ ghost use Rattle.shard.specs.Queries.{outcomeOfNumber};
 ghost use Rattle.cluster.specs.View.{view, Sound};
 ghost use Rattle.model.specs.Totals.{heldIn, totalHeld};
 ghost use Rattle.engine.specs.Words.{byteOf};
+ghost use Rattle.engine.specs.Codes.{yes};
 ghost use Rattle.engine.specs.Queries.{knownCode, TellsToken, TellsKnown};
+use crate::codes::flag;
 use crate::ledgers::held_code;
 use crate::ledgers::known_code;
 use crate::ledgers::known_words;
@@ -78,6 +80,15 @@ pub extern "C" fn plankeeper_outcome_of(c: &Cluster, shard: u32, number: u32) ->
         (outcomeOfNumber (ledgerAt house (view (now (c .entry))) (byteOf shard) .known) number) ⌝ }
 {
     known_code(queries::outcome_of(c, narrow(shard), number))
+}
+
+// 1 if it has turned, 0 if not.
+#[no_mangle]
+pub extern "C" fn plankeeper_is_turned(c: &Cluster, shard: u32) -> u32
+    requires { ⌜ Sound (now c) ⌝ }
+    ensures { λ r. ⌜ r ≡ yes (ledgerAt house (view (now (c .entry))) (byteOf shard) .turned) ⌝ }
+{
+    flag(queries::is_turned(c, narrow(shard)))
 }
 
 // The sum of the amounts that it holds (document 01: the portions held in a pantry).

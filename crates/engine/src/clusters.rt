@@ -1,7 +1,7 @@
 // A cluster (document 01: a round of eight pantries) in its caller's memory, and calls on it: exported functions.
 ghost use mathlib.Core.Path.{_≡_};
 ghost use Prim.Native.Nat.{_*_};
-ghost use Rattle.model.specs.Shard.{mint, register, deliver};
+ghost use Rattle.model.specs.Shard.{mint, register, deliver, turn};
 ghost use Rattle.layout.specs.Layout.{shardWords};
 ghost use Rattle.cluster.specs.View.{Sound, Fresh};
 ghost use Rattle.engine.specs.Words.{byteOf, transactionFrom};
@@ -102,4 +102,14 @@ pub extern "C" fn plankeeper_deliver(
     let said = narrow(verdict);
     let t = transaction_from(transaction);
     answer_code(cluster::deliver_vote(c, to, from, said, t))
+}
+
+// The receiving shard turns: what is pledged to transactions that it has aborted comes free, and each later abort frees its own.
+#[no_mangle]
+pub extern "C" fn plankeeper_turn(c: &mut Cluster, receiver: u32) -> u32
+    requires { ⌜ Sound (now c) ⌝ }
+    ensures { λ r. ⌜ ClusterDoes (clusterCalled (now (c .entry)) (turn (byteOf receiver))) r (now (c .exit)) ⌝ }
+{
+    let to = narrow(receiver);
+    answer_code(cluster::turn_shard(c, to))
 }

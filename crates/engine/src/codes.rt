@@ -6,6 +6,13 @@ use crate::words::wide;
 use model::Answer;
 use model::Outcome;
 
+// 1 for yes, 0 for no.
+pub(crate) fn flag(b: bool) -> u32
+    ensures { λ r. ⌜ r ≡ yes b ⌝ }
+{
+    if b { 1 } else { 0 }
+}
+
 pub(crate) fn outcome_code(o: Outcome) -> u32
     ensures { λ r. ⌜ (r ≡ outcomeCode o) × (r ≤ 2) ⌝ }
 {
@@ -32,5 +39,6 @@ pub(crate) fn answer_code(answer: Answer) -> u32
         Answer::Registered(verdict, o) => registered_code(verdict, o),
         Answer::Heard(o) => 300 + outcome_code(o),
         Answer::Again(o) => 400 + outcome_code(o),
+        Answer::Turned => 500,
     }
 }

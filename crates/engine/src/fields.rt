@@ -27,6 +27,7 @@ fn record_words(fields: Record) -> [u32; 7]
             owner,
             amount,
         } => [3, wide(receiver), 0, 0, wide(index), owner, amount],
+        Record::Turn { receiver } => [4, wide(receiver), 0, 0, 0, 0, 0],
     }
 }
 

@@ -24,25 +24,27 @@
 //   200 + 10 * verdict + outcome    registered; the shard's own verdict is 1 for yes, 0 for no, and a no aborts at once: 202
 //   300 + outcome                   a vote heard for the first time
 //   400 + outcome                   a vote that was heard before; nothing is changed
+//   500                             the shard is turned: what was pledged to transactions that it has aborted is free
 // The outcome is what the receiving shard has decided on the transaction: 0 nothing yet, 1 commit, 2 abort.
 //
 // A query changes nothing but the words lent for its answer, and any shard and any place get one; specs/Queries.antt has the definitions:
 //   a token      1, and its five words: creator, index, owner, amount, pledge (0: to none); 0 and zeros behind the last
 //   a known one  the outcome, and its 43 words: the transaction's 35 and the verdict heard from each shard (0 none, 1 no, 2 yes);
 //                3 and zeros behind the last
+//   turned       1 for a shard that has turned, 0 for one that has not
 //
 // include/plankeeper.h says the same to a compiler of C, rust/plankeeper to one of Rust. proofs/Demand.antt has the theorem about every list of
 // these calls (planner-demand-3; its words are in specs/Asks.antt).
 //
-// Refusals have the numbers of document 01's table. That document calls a shard a pantry, a cluster a round, a transaction a swap,
+// Refusals have the numbers of document 01's table, and those that document 02 adds to it. Document 01 calls a shard a pantry, a cluster a round, a transaction a swap,
 // an owner a household, an amount portions, a genesis token an opening, and a token's creator and index its making swap and its position.
 
 pub mod words; // a transaction as 35 words, both ways; internal, and public only because the crate `probes` uses it
 mod codes; // an answer as a number
 mod fields; // what was read of a record, as 42 words
 mod ledgers; // a held token as 5 words, a known transaction as 43
-pub mod records; // records read and written: plankeeper_read, _taken, _write_register, _write_vote, _write_mint
-pub mod clusters; // a cluster: plankeeper_words, _new, _apply, _mint, _register, _deliver
-pub mod cluster_queries; // plankeeper_held_count, _token_at, _known_count, _known_at, _outcome_of, _total_at, _total
-pub mod shards; // a lone shard: plankeeper_shard_words, _shard_new, _shard_mint, _shard_register, _shard_hear
-pub mod shard_queries; // plankeeper_shard_held_count, _shard_token_at, _shard_known_count, _shard_known_at, _shard_outcome_of, _shard_total
+pub mod records; // records read and written: plankeeper_read, _taken, _write_register, _write_vote, _write_mint, _write_turn
+pub mod clusters; // a cluster: plankeeper_words, _new, _apply, _mint, _register, _deliver, _turn
+pub mod cluster_queries; // plankeeper_held_count, _token_at, _known_count, _known_at, _outcome_of, _is_turned, _total_at, _total
+pub mod shards; // a lone shard: plankeeper_shard_words, _shard_new, _shard_mint, _shard_register, _shard_hear, _shard_turn
+pub mod shard_queries; // plankeeper_shard_held_count, _shard_token_at, _shard_known_count, _shard_known_at, _shard_outcome_of, _shard_is_turned, _shard_total

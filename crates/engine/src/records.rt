@@ -2,8 +2,8 @@
 ghost use mathlib.Core.Path.{_≡_};
 ghost use lib.ListN.{length};
 ghost use Rattle.reader.specs.Reading.{takenOf};
-ghost use Rattle.writer.specs.Layout.{registerBytes, voteBytes, mintBytes};
-ghost use Rattle.writer.specs.Writing.{registerCause, voteCause, mintCause};
+ghost use Rattle.writer.specs.Layout.{registerBytes, voteBytes, mintBytes, turnBytes};
+ghost use Rattle.writer.specs.Writing.{registerCause, voteCause, mintCause, turnCause};
 ghost use Rattle.engine.specs.Words.{byteOf, transactionFrom};
 ghost use Rattle.engine.specs.Fields.{Fills};
 ghost use Rattle.engine.specs.Writing.{codeOf, Encodes};
@@ -100,4 +100,14 @@ pub extern "C" fn plankeeper_write_mint(
     let to = narrow(receiver);
     let place = narrow(index);
     code(writer::write_mint(to, place, owner, amount, out))
+}
+
+// A record of kind 4: the receiving shard turns.
+#[no_mangle]
+pub extern "C" fn plankeeper_write_turn(receiver: u32, out: &mut [u8]) -> u64
+    ensures { λ r. ⌜ Encodes (turnCause (byteOf receiver) (length (now (out .entry)))) (turnBytes (byteOf receiver))
+        (now (out .entry)) r (now (out .exit)) ⌝ }
+{
+    let to = narrow(receiver);
+    code(writer::write_turn(to, out))
 }

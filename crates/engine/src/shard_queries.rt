@@ -4,7 +4,9 @@ ghost use lib.ListN.{length};
 ghost use Rattle.shard.specs.View.{view, Sound};
 ghost use Rattle.model.specs.Totals.{totalAmount};
 ghost use Rattle.shard.specs.Queries.{outcomeOfNumber};
+ghost use Rattle.engine.specs.Codes.{yes};
 ghost use Rattle.engine.specs.Queries.{knownCode, TellsToken, TellsKnown};
+use crate::codes::flag;
 use crate::ledgers::held_code;
 use crate::ledgers::known_code;
 use crate::ledgers::known_words;
@@ -59,6 +61,15 @@ pub extern "C" fn plankeeper_shard_outcome_of(s: &Words, number: u32) -> u32
     ensures { λ r. ⌜ r ≡ knownCode (outcomeOfNumber (view (now (s .entry)) .known) number) ⌝ }
 {
     known_code(queries::outcome_of(s, number))
+}
+
+// 1 if it has turned, 0 if not.
+#[no_mangle]
+pub extern "C" fn plankeeper_shard_is_turned(s: &Words) -> u32
+    requires { ⌜ Sound (now s) ⌝ }
+    ensures { λ r. ⌜ r ≡ yes (view (now (s .entry)) .turned) ⌝ }
+{
+    flag(queries::is_turned(s))
 }
 
 // The sum of the amounts that it holds (document 01: of the portions).

@@ -1,6 +1,6 @@
 // A lone shard (document 01: a pantry) in its caller's memory, and calls on it: exported functions.
 ghost use mathlib.Core.Path.{_≡_};
-ghost use Rattle.model.specs.Shard.{mint, register, deliver};
+ghost use Rattle.model.specs.Shard.{mint, register, deliver, turn};
 ghost use Rattle.layout.specs.Layout.{shardWords};
 ghost use Rattle.shard.specs.View.{number, Sound, Fresh};
 ghost use Rattle.engine.specs.Words.{byteOf, transactionFrom};
@@ -83,4 +83,14 @@ pub extern "C" fn plankeeper_shard_hear(
     let said = narrow(verdict);
     let t = transaction_from(transaction);
     answer_code(shard::hear_vote(s, to, from, said, t))
+}
+
+// The shard turns: what is pledged to transactions that it has aborted comes free, and each later abort frees its own.
+#[no_mangle]
+pub extern "C" fn plankeeper_shard_turn(s: &mut Words, receiver: u32) -> u32
+    requires { ⌜ Sound (now s) ⌝ }
+    ensures { λ r. ⌜ ShardDoes (number (now (s .entry))) (shardCalled (now (s .entry)) (turn (byteOf receiver))) r (now (s .exit)) ⌝ }
+{
+    let to = narrow(receiver);
+    answer_code(shard::turn_shard(s, to))
 }

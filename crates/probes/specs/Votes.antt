@@ -8,7 +8,7 @@ use lib.ListN.{length, getD}
 use Rattle.transaction.specs.declared.Transaction.{Transaction}
 use Rattle.transaction.specs.Tokens.{zeroInput, zeroOutput}
 use Rattle.reader.specs.declared.Record.{Record}
-use Rattle.reader.specs.declared.Record.the-variants.{Register, Vote, Mint}
+use Rattle.reader.specs.declared.Record.the-variants.{Register, Vote, Mint, Turn}
 use Rattle.reader.specs.declared.Answer.{Answer}
 use Rattle.reader.specs.declared.Answer.the-variants.{Read, Refused}
 use Rattle.reader.specs.Reading.{readingOf, restOf}
@@ -22,6 +22,7 @@ unfoldable pub recordWorth : Record → Transaction → ℕ
 recordWorth (Vote receiver sender verdict) t = receiver + sender + verdict + transactionWorth t
 recordWorth (Register receiver) t = receiver
 recordWorth (Mint receiver index owner amount) t = amount
+recordWorth (Turn receiver) t = receiver
 
 -- what was read of a record, or a million and the refusal's number
 unfoldable pub worthOf : Answer → Transaction → ℕ

@@ -43,6 +43,7 @@ fn record_worth(fields: Record, t: Transaction) -> u64
             owner: _,
             amount,
         } => long(amount),
+        Record::Turn { receiver } => long(wide(receiver)),
     }
 }
 

@@ -38,6 +38,9 @@ outcome-code-requires-2 c κs = search needs
 add-result-2 : tie.Need-add-result-2
 add-result-2 c = search needs
 
+enum-told-2 : tie.Need-enum-told-2
+enum-told-2 c = search needs
+
 returns : tie.Need-returns
 unfolding answerCode
 returns c =
@@ -66,6 +69,10 @@ returns-5 c =
     let answered : tie.After-answer4 = search in
     rw (answered .answer4 .given .1) (ap (λ (n : ℕ). 400 + n) (c .outcome-code2 .ensures .0))
 
+returns-6 : tie.Need-returns-6
+unfolding answerCode
+returns-6 c = rw (c .enum-told2 .given .1) refl
+
 pub answer-code-spec : {M : Type 1} → statement M
 answer-code-spec =
     tie.close
@@ -81,8 +88,10 @@ answer-code-spec =
     enum-known-answer-4
     outcome-code-requires-2
     add-result-2
+    enum-told-2
     returns
     returns-2
     returns-3
     returns-4
-    returns-5)
+    returns-5
+    returns-6)

@@ -30,6 +30,12 @@ wide-requires-5 c κs = search needs
 wide-requires-6 : tie.Need-wide-requires-6
 wide-requires-6 c κs = search needs
 
+enum-known-fields-4 : tie.Need-enum-known-fields-4
+enum-known-fields-4 c = search needs
+
+wide-requires-7 : tie.Need-wide-requires-7
+wide-requires-7 c κs = search needs
+
 returns : tie.Need-returns
 unfolding recordWords
 returns c =
@@ -51,6 +57,12 @@ returns-3 c =
     let fields : tie.After-fields3 = search in
     rw (fields .fields3 .given .1, wide .wide5 .ensures .0, c .wide6 .ensures .0)
 
+returns-4 : tie.Need-returns-4
+unfolding recordWords
+returns-4 c =
+    let fields : tie.After-fields4 = search in
+    rw (fields .fields4 .given .1, c .wide7 .ensures .0)
+
 pub record-words-spec : {M : Type 1} → statement M
 record-words-spec =
     tie.close
@@ -64,6 +76,9 @@ record-words-spec =
     enum-known-fields-3
     wide-requires-5
     wide-requires-6
+    enum-known-fields-4
+    wide-requires-7
     returns
     returns-2
-    returns-3)
+    returns-3
+    returns-4)

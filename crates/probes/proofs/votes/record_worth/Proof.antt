@@ -45,6 +45,15 @@ enum-known-fields-3 c = search needs
 long-requires-3 : tie.Need-long-requires-3
 long-requires-3 c κs = search needs
 
+enum-known-fields-4 : tie.Need-enum-known-fields-4
+enum-known-fields-4 c = search needs
+
+wide-requires-5 : tie.Need-wide-requires-5
+wide-requires-5 c κs = search needs
+
+long-requires-4 : tie.Need-long-requires-4
+long-requires-4 c κs = search needs
+
 returns : tie.Need-returns
 unfolding recordWorth
 returns c =
@@ -75,6 +84,13 @@ returns-3 c =
     let fields : tie.After-fields3 = search in
     rw (fields .fields3 .given .1) (c .long3 .ensures .0)
 
+returns-4 : tie.Need-returns-4
+unfolding recordWorth
+returns-4 c =
+    let wide : tie.After-wide5 = search in
+    let fields : tie.After-fields4 = search in
+    rw (fields .fields4 .given .1, c .long4 .ensures .0) (wide .wide5 .ensures .0)
+
 pub record-worth-spec : {M : Type 1} → statement M
 record-worth-spec =
     tie.close
@@ -93,6 +109,10 @@ record-worth-spec =
     long-requires-2
     enum-known-fields-3
     long-requires-3
+    enum-known-fields-4
+    wide-requires-5
+    long-requires-4
     returns
     returns-2
-    returns-3)
+    returns-3
+    returns-4)
