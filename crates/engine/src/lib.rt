@@ -36,8 +36,9 @@
 // include/plankeeper.h says the same to a compiler of C, rust/plankeeper to one of Rust. proofs/Demand.antt has the theorem about every list of
 // these calls (planner-demand-3; its words are in specs/Asks.antt).
 //
-// Refusals have the numbers of document 01's table, and those that document 02 adds to it. Document 01 calls a shard a pantry, a cluster a round, a transaction a swap,
-// an owner a household, an amount portions, a genesis token an opening, and a token's creator and index its making swap and its position.
+// Refusals have the numbers of document 01's table, and those that document 02 adds to it. Document 01 calls a shard a pantry, a cluster
+// a round, a transaction a swap, an owner a household, an amount portions, a genesis token an opening, and a token's creator and index
+// its making swap and its position.
 
 pub mod words; // a transaction as 35 words, both ways; internal, and public only because the crate `probes` uses it
 mod codes; // an answer as a number

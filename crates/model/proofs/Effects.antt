@@ -10,12 +10,49 @@ use Rattle.transaction.specs.declared.Transaction.{Transaction}
 use Rattle.transaction.specs.Lists.{firstOf}
 use Rattle.model.specs.declared.Answer.{Answer}
 use Rattle.model.specs.declared.Answer.the-variants.{Refused, Minted, Registered, Heard, Again, Turned}
-use Rattle.model.specs.Steps.{Limits, Ledger, emptyLedger, vote, newlyKnown, entryOf, heardFrom, hearing, outcomeOf, afterMint, afterRegister, afterVote, afterTurn}
-use Rattle.model.specs.Shard.{Call, mint, register, deliver, turn, mintRefusals, registerRefusals, deliverForm, deliverRefusals, turnRefusals, hear, shardStep}
+use Rattle.model.specs.Steps.{
+  Limits,
+  Ledger,
+  emptyLedger,
+  vote,
+  newlyKnown,
+  entryOf,
+  heardFrom,
+  hearing,
+  outcomeOf,
+  afterMint,
+  afterRegister,
+  afterVote,
+  afterTurn,
+}
+use Rattle.model.specs.Shard.{
+  Call,
+  mint,
+  register,
+  deliver,
+  turn,
+  mintRefusals,
+  registerRefusals,
+  deliverForm,
+  deliverRefusals,
+  turnRefusals,
+  hear,
+  shardStep,
+}
 use Rattle.model.specs.Cluster.{ledgerAt, gave, notGiven, atShard, clusterStep}
 use Rattle.model.specs.Model.{Entry, Genesis, Model, entryFor, logAfter, mintedAfter, step}
 use Rattle.model.proofs.Basics.{eqb-eq, eqb-yes, eqb-apart, clash, and-intro, not-yes, not-no}
-use Rattle.model.proofs.Refusals.{MintPasses, mint-passes, RegisterPasses, register-passes, DeliverPasses, deliver-passes, form-passes, TurnPasses, turn-passes}
+use Rattle.model.proofs.Refusals.{
+  MintPasses,
+  mint-passes,
+  RegisterPasses,
+  register-passes,
+  DeliverPasses,
+  deliver-passes,
+  form-passes,
+  TurnPasses,
+  turn-passes,
+}
 
 -- ---- At one shard
 

@@ -321,6 +321,8 @@ pub record Examples : Type 0 where
       ≡ Turned ∷ Minted ∷ Registered false Abort ∷ Registered true Commit ∷ []
   turned-vote : tokensAfter (turn 0 ∷ torn-apart) 0 ≡ token 0 0 10 3 0 ∷ []
   turned-early : tokensAfter (turn 0 ∷ early) 0 ≡ token 0 0 10 3 0 ∷ []
+  -- it frees none that is pledged to another one
+  turned-bound : tokensAfter (turn 0 ∷ mint 0 0 10 3 ∷ register 0 both ∷ register 0 (alone 1) ∷ []) 0 ≡ token 0 0 10 3 5 ∷ []
   -- and stays turned: a second abort frees too
   turned-still : tokensAfter (turn 0 ∷ mint 0 0 10 3 ∷ register 0 half ∷ register 0 torn ∷ register 1 torn ∷ deliver 0 1 0 torn ∷ []) 0
       ≡ token 0 0 10 3 0 ∷ []
@@ -385,6 +387,7 @@ examples = record {
   turned-own = refl;
   turned-vote = refl;
   turned-early = refl;
+  turned-bound = refl;
   turned-still = refl;
   turned-other = refl;
   lone-turn = refl;

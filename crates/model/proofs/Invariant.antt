@@ -60,7 +60,18 @@ use Rattle.model.proofs.Basics.{
 }
 use Rattle.model.proofs.Entries.{look, OneEach, mem-look, put, look-put-same, look-put-other, look-put-elim, one-each-put}
 use Rattle.model.proofs.Outcomes.{outcome-yes, abort≢commit, wait≢commit}
-use Rattle.model.proofs.Holdings.{NoTwice, taken, taken-by, here-shard, made-number, tok-commit, no-twice-commit, value-freeing, no-twice-freeing, tok-unfreed}
+use Rattle.model.proofs.Holdings.{
+  NoTwice,
+  taken,
+  taken-by,
+  here-shard,
+  made-number,
+  tok-commit,
+  no-twice-commit,
+  value-freeing,
+  no-twice-freeing,
+  tok-unfreed,
+}
 
 -- ---- Votes and registrations, as the log has them
 

@@ -44,7 +44,6 @@ use Rattle.model.proofs.Effects.{
 use Rattle.model.proofs.Steps.{play-inv}
 use Rattle.model.proofs.Order.{committed-logged}
 use Rattle.model.proofs.Holdings.{in-here}
-use Rattle.model.proofs.Invariant.{voted-available}
 use Rattle.model.proofs.Decisions.{not-aborted, taken-once}
 
 -- ---- What changes nothing

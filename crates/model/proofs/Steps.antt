@@ -108,7 +108,6 @@ use Rattle.model.proofs.Invariant.{
   gain,
   byCommit,
   made,
-  Consumed,
   Pledged,
   Lasts,
   Bound,

@@ -284,7 +284,8 @@ no-such-shard limits shards (register p t) h =
     ))
     (register-three limits p (ledgerAt limits shards p) t h))
 no-such-shard limits shards (turn p) h =
-    refused-at limits shards p (turn p) 3 (ap (λ (n : ℕ). unless n (ledgerAt limits shards p) (afterTurn (ledgerAt limits shards p), Turned)) (turn-three p (ledgerAt limits shards p) h))
+    let ledger = ledgerAt limits shards p in
+    refused-at limits shards p (turn p) 3 (ap (λ (n : ℕ). unless n ledger (afterTurn ledger, Turned)) (turn-three p ledger h))
 no-such-shard limits shards (deliver p sender verdict t) h =
     ap (λ (n : ℕ). cond (eqb n 0 && not (gave (ledgerAt limits shards sender) sender verdict t)) (shards, Refused 16)
     (atShard limits shards p (deliver p sender verdict t))) (form-three limits p sender verdict t h)

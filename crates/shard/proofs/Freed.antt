@@ -4,44 +4,19 @@ use mathlib.Core.Path.{_≡_, refl, sym, ap, subst, _∙_}
 use mathlib.Core.Bool.{Bool, true, false, cond, _&&_, _||_, or-false}
 use mathlib.Core.List.{List, [], _∷_, _++_}
 use native.Mathlib.Omega.{arith}
-use native.Mathlib.Numerals.{add-one}
-use lib.ListN.{length, getD, take, set, length-map}
-use lib.Seq.{take-suc-set, set-getD}
-use Rattle.transaction.specs.Lists.{any}
+use lib.ListN.{getD, take}
+use lib.Seq.{set-getD}
 use Rattle.transaction.proofs.Slots.{any-append}
 use Rattle.model.specs.declared.Token.{Token}
 use Rattle.model.specs.declared.Known.{Known}
 use Rattle.model.specs.declared.Outcome.{Outcome}
-use Rattle.model.specs.declared.Outcome.the-variants.{Wait, Commit, Abort}
-use Rattle.model.specs.Steps.{
-  Ledger,
-  holding,
-  outcomeOf,
-  pledgedTo,
-  pledgeWhen,
-  isAborted,
-  isPledgedTo,
-  freeing,
-  isAbortedFor,
-  pledgedToAborted,
-  afterTurn,
-}
+use Rattle.model.specs.declared.Outcome.the-variants.{Abort}
+use Rattle.model.specs.Steps.{Ledger, outcomeOf, pledgedTo, pledgeWhen, isAborted, isPledgedTo, freeing, isAbortedFor, pledgedToAborted, afterTurn}
 use Rattle.model.proofs.Capacity.{freeing-length}
 use Rattle.model.proofs.Turned.{freeing-none}
 use Rattle.loops.proofs.Loops.{append-one}
 use Rattle.layout.specs.Layout as layout
-use Rattle.layout.specs.Layout.{
-  tokenSlots,
-  knownSlots,
-  transactionsOf,
-  Shard,
-  shardOf,
-  ledgerOf,
-  withTurned,
-  noKnown,
-  slotKnown,
-  Becomes,
-}
+use Rattle.layout.specs.Layout.{knownSlots, transactionsOf, Shard, shardOf, ledgerOf, withTurned, noKnown, slotKnown, Becomes}
 use Rattle.layout.proofs.Slots.{length-known}
 use Rattle.layout.proofs.Ledgers.{held-length}
 use Rattle.holdings.specs.Held.{Room, Holds, Changes}

@@ -1,5 +1,4 @@
 use Rattle.model.specs.Steps.{pledgeWhen, isPledgedTo, freeing}
-use Rattle.model.specs.declared.Token.{Token}
 use Rattle.loops.proofs.Places.{Placing, place-start, place-stays, place-end}
 use Rattle.layout.specs.Layout.{heldPlace, word, tokensOf, shardOf, view, withTokens, Becomes, noToken}
 use Rattle.layout.proofs.Slots.{length-tokens}
