@@ -3,6 +3,7 @@
 use Prim.Native.Nat.{ℕ, suc, _<_}
 use native.Mathlib.Omega.{arith}
 use mathlib.Core.Path.{_≡_, refl, ap, sym, _∙_, subst}
+use mathlib.Core.Logic.{_≢_}
 use mathlib.Core.Bool.{Bool, true, false, cond, true≢false}
 use mathlib.Core.Option.{Option, none, some}
 use mathlib.Core.List.{List, [], _∷_, _++_, map, List·Memᴰ, List·Memᴰ·head, List·Memᴰ·tail}
@@ -85,6 +86,7 @@ use Rattle.model.proofs.Entries.{
   number-unknown,
   whole-known,
   entry-look,
+  mem-look,
 }
 use Rattle.model.proofs.Holdings.{taken, mem-tok, tok-when, made-unpledged, tok-commit}
 use Rattle.model.proofs.Invariant.{Pledged, Aborted, Ok}
@@ -109,6 +111,11 @@ freeing-same f (t ∷ tokens) = λ i. one (f t) i ∷ freeing-same f tokens i
 pub turn-same : (ledger : Ledger) → map (pledgedTo 0) (afterTurn ledger .tokens) ≡ map (pledgedTo 0) (ledger .tokens)
 unfolding afterTurn
 turn-same ledger = freeing-same (pledgedToAborted (ledger .known)) (ledger .tokens)
+
+-- and nothing else that the shard notes, but that it has turned
+pub turn-notes : (ledger : Ledger) → (afterTurn ledger .given ≡ ledger .given) × (afterTurn ledger .known ≡ ledger .known) × (afterTurn ledger .turned ≡ true)
+unfolding afterTurn
+turn-notes ledger = (refl, refl, refl)
 
 -- where the test holds of no token, nothing is freed
 pub freeing-none : (f : Token → Bool) (tokens : List Token) → ((t : Token) → List·Memᴰ t tokens → f t ≡ false) → freeing f tokens ≡ tokens
@@ -220,7 +227,7 @@ abbrev Clear : List Known → List Token → Type 0
 Clear known tokens = (m i n : ℕ) → Aborted known n → Pledged tokens m i n → ⊥
 
 -- at a turned shard
-abbrev pub TurnedClear : Ledger → Type 0
+abbrev TurnedClear : Ledger → Type 0
 TurnedClear l = l .turned ≡ true → Clear (l .known) (l .tokens)
 
 -- a known transaction is entered, over tokens whose other pledges were there before
@@ -329,12 +336,23 @@ module _ (limits : Limits) where
       let next = step limits place model call in
       after-clear (suc place) (next .0) (step-next limits place model w call next e .inv) (step-clear place model w f call next e) calls
 
-  -- at a turned shard of every play, no token is pledged to a transaction that the shard has aborted
-  pub turned-clear : (calls : List Call) (p : ℕ) → TurnedClear (ledgerAt limits (play limits calls .shards) p)
+  -- of every play
+  play-clear : (calls : List Call) (p : ℕ) → TurnedClear (ledgerAt limits (play limits calls .shards) p)
   unfolding play
-  turned-clear calls =
+  play-clear calls =
       after-clear 1 (emptyModel limits) (empty-inv limits)
       (λ p. subst TurnedClear (sym (getD-same 8 (emptyLedger limits) p)) (λ y. absurd (true≢false (sym y)))) calls
+
+  -- at a turned shard of every play, no token held is pledged to a transaction that the shard has aborted
+  pub turned-clear : (calls : List Call) (p : ℕ) → let ledger = ledgerAt limits (play limits calls .shards) p in
+      ledger .turned ≡ true → (token : Token) → List·Memᴰ token (ledger .tokens) → (k : Known) → List·Memᴰ k (ledger .known)
+      → outcomeOf k ≡ Abort → token .pledge ≢ k .transaction .number
+  turned-clear calls p y token t k m e z =
+      let ledger : Ledger = ledgerAt limits (play limits calls .shards) p in
+      let o = play-inv limits calls .at p in
+      play-clear calls p y (token .creator) (token .index) (k .transaction .number)
+      (record { entry = k; is-known = mem-look (ledger .known) (o .core .one-each) m; is-abort = e })
+      (record { token = token; is-there = mem-tok (ledger .tokens) (o .no-twice) t; is-pledged = z })
 
   -- ---- A turned shard stays so
 
@@ -399,5 +417,5 @@ module _ (limits : Limits) where
       ap (λ (a : Transaction). look (ledger .known) (a .number)) (r .1) ∙ r .0 in
       let aborted : Aborted (ledger .known) (k .transaction .number) = record { entry = k; is-known = found; is-abort = e } in
       let noted = set (ledger .known) (placeOf t (ledger .known)) (hearing sender verdict k) in
-      let kept = clear-ended o (turned-clear calls p) (k .transaction .number) aborted in
+      let kept = clear-ended o (play-clear calls p) (k .transaction .number) aborted in
       late-vote p ledger sender verdict t fresh e ∙ ap (λ (l : List Token). (holding ledger l noted, Heard Abort)) kept
