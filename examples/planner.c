@@ -21,10 +21,10 @@ static const char USAGE[] =
     "and prints each answer, what each pantry then holds and knows, and the total.\n"
     "Exit status: 0; 1 if something cannot be read or written; 2 bad usage.\n";
 
-/* The causes of refusal in document 01's words; there is no number 0. */
+/* The causes of refusal in document 01's words, by number; one that is no refusal has none. */
 static const char *const CAUSES[] = {
     "",
-    "kind not 1 to 3",
+    "kind not 1 to 4",
     "no bytes, or fewer than the kind's length",
     "field or count outside its range; pantry above 7; unused slot not zero",
     "one token named twice",
@@ -41,6 +41,8 @@ static const char *const CAUSES[] = {
     "writer: lent bytes fewer than the record",
     "round, kind 2: sender has not given this vote on this swap",
     "kind 1: takes what an undecided swap is to make here",
+    "",
+    "kind 4: this pantry is turned already",
 };
 
 static const char *const OUTCOMES[] = {"WAIT", "COMMIT", "ABORT"};
@@ -83,6 +85,8 @@ static void print_answer(uint32_t answer)
         printf("REFUSED %" PRIu32 ": %s\n", answer, CAUSES[answer]);
     else if (answer == PLANKEEPER_OPENED)
         puts("OPENED");
+    else if (answer == PLANKEEPER_TURNED)
+        puts("TURNED");
     else
         printf("%s %s\n", first_word(answer), OUTCOMES[PLANKEEPER_OUTCOME(answer)]);
 }
@@ -134,8 +138,9 @@ static void print_shard(const plankeeper *cluster, uint32_t shard)
 {
     size_t held = plankeeper_held_count(cluster, shard);
     size_t known = plankeeper_known_count(cluster, shard);
-    printf("pantry %" PRIu32 ": tokens %zu, portions %" PRIu64 ", swaps %zu\n", shard, held,
-           plankeeper_total_at(cluster, shard), known);
+    const char *turned = plankeeper_is_turned(cluster, shard) ? ", turned" : "";
+    printf("pantry %" PRIu32 ": tokens %zu, portions %" PRIu64 ", swaps %zu%s\n", shard, held,
+           plankeeper_total_at(cluster, shard), known, turned);
     for (size_t place = 0; place < held; place++)
         print_token(cluster, shard, place);
     for (size_t place = 0; place < known; place++)

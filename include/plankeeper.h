@@ -4,9 +4,11 @@
  * registers it, pledges the tokens it finds available, votes yes or no, hears the votes of the
  * other shards, and decides alone: abort as soon as it has heard one no, its own included, and
  * commit once it has heard all votes and each is yes. No two shards of a cluster decide one
- * transaction differently, and none changes its decision, in whatever order the calls come. The
- * functions are in the static library libengine.a; what each returns, and what it leaves in
- * memory, is proved for everything that it may be handed.
+ * transaction differently, and none changes its decision, in whatever order the calls come. What
+ * an aborted transaction has pledged at a shard stays pledged, unless the shard is turned: then it
+ * comes free. Each shard is turned by a call, when the caller likes. The functions are in the
+ * static library libengine.a; what each returns, and what it leaves in memory, is proved for
+ * everything that it may be handed.
  *
  * Owner 10 moves a token of amount 3 from shard 0 to shard 1, in transaction 5:
  *
@@ -81,8 +83,8 @@ typedef struct plankeeper_shard plankeeper_shard;
 /* ---- Sizes ---------------------------------------------------------------------------------- */
 
 /* Words of a cluster and of a lone shard: what plankeeper_words and plankeeper_shard_words say. */
-#define PLANKEEPER_WORDS 17176
-#define PLANKEEPER_SHARD_WORDS 2147
+#define PLANKEEPER_WORDS 17184
+#define PLANKEEPER_SHARD_WORDS 2148
 
 /* Words of a transaction, of a record that was read, of a token held, of a known transaction. */
 #define PLANKEEPER_TRANSACTION_WORDS 35
@@ -94,6 +96,7 @@ typedef struct plankeeper_shard plankeeper_shard;
 #define PLANKEEPER_REGISTER_LENGTH 100
 #define PLANKEEPER_VOTE_LENGTH 102
 #define PLANKEEPER_MINT_LENGTH 11
+#define PLANKEEPER_TURN_LENGTH 2
 
 /* How many shards there are; how many tokens a shard holds and how many transactions it knows at
  * most; how many inputs, and how many outputs, a transaction has at most. */
@@ -168,7 +171,8 @@ enum plankeeper_reading_word {
 enum plankeeper_kind {
     PLANKEEPER_KIND_REGISTER = 1,
     PLANKEEPER_KIND_VOTE = 2,
-    PLANKEEPER_KIND_MINT = 3
+    PLANKEEPER_KIND_MINT = 3,
+    PLANKEEPER_KIND_TURN = 4
 };
 
 /* ---- Answers -------------------------------------------------------------------------------- */
@@ -179,17 +183,19 @@ enum plankeeper_verdict {
     PLANKEEPER_YES = 1
 };
 
-/* What a shard has decided on a transaction. */
+/* What a shard has decided on a transaction. An abort changes no token but its pledge: what was
+ * pledged to the transaction comes free at a shard that is turned, and stays pledged at one that
+ * is not. */
 enum plankeeper_outcome {
     PLANKEEPER_WAIT = 0,   /* nothing yet: votes are missing, and those heard are yes */
     PLANKEEPER_COMMIT = 1, /* all yes: the inputs there are destroyed, the outputs there made */
-    PLANKEEPER_ABORT = 2,  /* a no was heard: no token was changed; pledges stay */
+    PLANKEEPER_ABORT = 2,  /* a no was heard: the inputs there are held still, nothing is made */
     PLANKEEPER_UNKNOWN = 3 /* the shard does not know such a transaction; queries alone say it */
 };
 
 /* The causes of refusal. A call is refused with the first that fits, in this order: 1 to 6; then
- * a registration 7, 8, 9, 10, 17; a vote 16 (in a cluster only), 11, 7, 12; a mint 13, 14. A
- * writer looks for 3, 4, 5, 15. No bytes at all are 2. A refused call changes nothing.
+ * a registration 7, 8, 9, 10, 17; a vote 16 (in a cluster only), 11, 7, 12; a mint 13, 14; a turn
+ * 19. A writer looks for 3, 4, 5, 15. No bytes at all are 2. A refused call changes nothing.
  *
  * 17 holds a transaction off: it takes a token, whoever is named as its owner and whatever its
  * amount, that another transaction is to make at this shard, which knows that one and has not
@@ -200,29 +206,30 @@ enum plankeeper_outcome {
  * Two transactions that each take what the other is to make may wait for each other for good.
  *
  * Who gives it: r plankeeper_read; w the writers (plankeeper_write_...), of records that have the
- * field; m mint, g register, v votes (plankeeper_deliver, plankeeper_shard_hear), in a cluster and
- * at a lone shard. plankeeper_apply gives those of r and of the call that the record is. At a lone
- * shard 3 is also the answer to a call for another shard. 12 is given by plankeeper_shard_hear
- * alone, and 16 by plankeeper_deliver and plankeeper_apply alone.
+ * field; m mint, g register, v votes (plankeeper_deliver, plankeeper_shard_hear), t turn, in a
+ * cluster and at a lone shard. plankeeper_apply gives those of r and of the call that the record
+ * is. At a lone shard 3 is also the answer to a call for another shard. 12 is given by
+ * plankeeper_shard_hear alone, and 16 by plankeeper_deliver and plankeeper_apply alone.
  *
- *    No.  Given by   Cause, in document 01's words
- *      1  r          kind not 1 to 3
- *      2  r          no bytes, or fewer than the kind's length
- *      3  r w m g v  field or count outside its range; pantry above 7; unused slot not zero
- *      4  r w   g v  one token named twice
- *      5  r w   g v  sums differ
- *      6        g v  receiver or sender not among the swap's pantries
- *      7        g v  number known here for a different swap
- *      8        g    kind 1: this swap known here
- *      9        g    kind 1: 32 swaps known
- *     10        g    kind 1: tokens would pass 128
- *     11          v  kind 2: number unknown here
- *     12          v  kind 2: other verdict heard from this sender
- *     13      m      kind 3: a swap is known here
- *     14      m      kind 3: this opening position was given
- *     15    w        writer: lent bytes fewer than the record
- *     16          v  round, kind 2: sender has not given this vote on this swap
- *     17        g    kind 1: takes what an undecided swap is to make here
+ *    No.  Given by     Cause, in document 01's words
+ *      1  r            kind not 1 to 4
+ *      2  r            no bytes, or fewer than the kind's length
+ *      3  r w m g v t  field or count outside its range; pantry above 7; unused slot not zero
+ *      4  r w   g v    one token named twice
+ *      5  r w   g v    sums differ
+ *      6        g v    receiver or sender not among the swap's pantries
+ *      7        g v    number known here for a different swap
+ *      8        g      kind 1: this swap known here
+ *      9        g      kind 1: 32 swaps known
+ *     10        g      kind 1: tokens would pass 128
+ *     11          v    kind 2: number unknown here
+ *     12          v    kind 2: other verdict heard from this sender
+ *     13      m        kind 3: a swap is known here
+ *     14      m        kind 3: this opening position was given
+ *     15    w          writer: lent bytes fewer than the record
+ *     16          v    round, kind 2: sender has not given this vote on this swap
+ *     17        g      kind 1: takes what an undecided swap is to make here
+ *     19            t  kind 4: this pantry is turned already
  */
 enum plankeeper_refusal {
     PLANKEEPER_REFUSED_UNKNOWN_KIND = 1,
@@ -241,7 +248,8 @@ enum plankeeper_refusal {
     PLANKEEPER_REFUSED_INDEX_GIVEN = 14,
     PLANKEEPER_REFUSED_BUFFER_TOO_SHORT = 15,
     PLANKEEPER_REFUSED_VOTE_NOT_GIVEN = 16,
-    PLANKEEPER_REFUSED_HELD_OFF = 17
+    PLANKEEPER_REFUSED_HELD_OFF = 17,
+    PLANKEEPER_REFUSED_TURNED_ALREADY = 19
 };
 
 /* The answers to calls that are carried out; a call that is refused is answered with the
@@ -264,7 +272,8 @@ enum plankeeper_answer {
     PLANKEEPER_HEARD_ABORT = 302,
     PLANKEEPER_AGAIN_WAIT = 400,
     PLANKEEPER_AGAIN_COMMIT = 401,
-    PLANKEEPER_AGAIN_ABORT = 402
+    PLANKEEPER_AGAIN_ABORT = 402,
+    PLANKEEPER_TURNED = 500 /* the shard is turned */
 };
 
 /* What an answer says. */
@@ -316,6 +325,13 @@ uint32_t plankeeper_deliver(plankeeper *cluster, uint32_t receiver, uint32_t sen
                             uint32_t verdict,
                             const uint32_t transaction[PLANKEEPER_TRANSACTION_WORDS]);
 
+/* Turns the receiving shard, for good. What is pledged to transactions that it has aborted comes
+ * free, and from now on each abort there frees at once what is pledged to its transaction, also
+ * one that comes with the registration. Transactions that it has not decided go on, and keep what
+ * is pledged to them. Shards may be turned at different times, before the first mint or at any
+ * time later; one that is turned already refuses (19). Returns PLANKEEPER_TURNED, or a refusal. */
+uint32_t plankeeper_turn(plankeeper *cluster, uint32_t receiver);
+
 /* Queries change nothing in the cluster. A shard above 7 is an empty one to them. */
 
 /* The sum of the amounts held in all shards. */
@@ -346,6 +362,9 @@ uint32_t plankeeper_known_at(const plankeeper *cluster, uint32_t shard, size_t p
  * where it knows none. */
 uint32_t plankeeper_outcome_of(const plankeeper *cluster, uint32_t shard, uint32_t number);
 
+/* Whether the shard is turned: 1, or 0 where it is not. */
+uint32_t plankeeper_is_turned(const plankeeper *cluster, uint32_t shard);
+
 /* ---- A lone shard --------------------------------------------------------------------------- */
 
 /* How many words a lone shard has, PLANKEEPER_SHARD_WORDS: the caller provides that many, aligned
@@ -371,6 +390,9 @@ uint32_t plankeeper_shard_hear(plankeeper_shard *shard, uint32_t receiver, uint3
                                uint32_t verdict,
                                const uint32_t transaction[PLANKEEPER_TRANSACTION_WORDS]);
 
+/* As plankeeper_turn; the receiver is this shard's number, else it is refused (3). */
+uint32_t plankeeper_shard_turn(plankeeper_shard *shard, uint32_t receiver);
+
 /* The sum of the amounts held. */
 uint64_t plankeeper_shard_total(const plankeeper_shard *shard);
 
@@ -393,6 +415,9 @@ uint32_t plankeeper_shard_known_at(const plankeeper_shard *shard, size_t place,
  * PLANKEEPER_UNKNOWN. */
 uint32_t plankeeper_shard_outcome_of(const plankeeper_shard *shard, uint32_t number);
 
+/* As plankeeper_is_turned: 1, or 0 where the shard is not turned. */
+uint32_t plankeeper_shard_is_turned(const plankeeper_shard *shard);
+
 /* ---- Records -------------------------------------------------------------------------------- */
 
 /* A record is a call as bytes, in document 01's layout: one byte of kind, then the fields, high
@@ -409,9 +434,9 @@ uint32_t plankeeper_read(const uint8_t *bytes, size_t length,
 size_t plankeeper_taken(const uint8_t *bytes, size_t length);
 
 /* The writers put a record into out, which has room for so many bytes. They return the bytes
- * written (PLANKEEPER_REGISTER_LENGTH, _VOTE_LENGTH or _MINT_LENGTH), and those behind keep their
- * values; or 1000 times the refusal's number (3, 4, 5 or 15), and then all bytes keep their
- * values. PLANKEEPER_WRITE_REFUSED tells which. */
+ * written (PLANKEEPER_REGISTER_LENGTH, _VOTE_LENGTH, _MINT_LENGTH or _TURN_LENGTH), and those
+ * behind keep their values; or 1000 times the refusal's number (3, 4, 5 or 15), and then all bytes
+ * keep their values. PLANKEEPER_WRITE_REFUSED tells which. */
 
 /* A record of a registration at the receiving shard. */
 uint64_t plankeeper_write_register(uint32_t receiver,
@@ -426,6 +451,9 @@ uint64_t plankeeper_write_vote(uint32_t receiver, uint32_t sender, uint32_t verd
 /* A record of a genesis token that is given to the receiving shard. */
 uint64_t plankeeper_write_mint(uint32_t receiver, uint32_t index, uint32_t owner, uint32_t amount,
                                uint8_t *out, size_t room);
+
+/* A record of a turn of the receiving shard. */
+uint64_t plankeeper_write_turn(uint32_t receiver, uint8_t *out, size_t room);
 
 #ifdef __cplusplus
 }

@@ -1,7 +1,7 @@
 //! Time for a call on a cluster by its kind.
 //!
 //! A call that changes something cannot be repeated where it stands, and
-//! putting the state back takes longer than the call: a cluster has 68,704
+//! putting the state back takes longer than the call: a cluster has 68,736
 //! bytes. So calls are timed where they stand: a week is cut into runs of calls
 //! of one kind (all first mints are one run, most other runs are a call or
 //! two), and the clock is read before and after each run. A clock may go in
@@ -24,7 +24,7 @@ use reference::{Answer, Cluster, Done, LIMITS, Record};
 use crate::ledgers::{Week, code, folded};
 
 /// Kinds of calls, in the order of the table.
-pub const KINDS: [&str; 7] = [
+pub const KINDS: [&str; 9] = [
     "mint",
     "mint refused",
     "register done",
@@ -32,6 +32,8 @@ pub const KINDS: [&str; 7] = [
     "vote fresh",
     "vote again",
     "vote refused",
+    "turn",
+    "turn refused",
 ];
 
 /// The times of each kind's calls in all.
@@ -160,5 +162,7 @@ fn kind(record: &Record, answer: Answer) -> usize {
         (Record::Vote { .. }, Ok(Done::Again(_))) => 5,
         (Record::Vote { .. }, Ok(_)) => 4,
         (Record::Vote { .. }, Err(_)) => 6,
+        (Record::Turn { .. }, Ok(_)) => 7,
+        (Record::Turn { .. }, Err(_)) => 8,
     }
 }

@@ -42,7 +42,7 @@ fn sum(bytes: &[u8], records: usize, read: impl Fn(&[u8]) -> Reading) -> u64 {
                     + u64::from(transaction.outputs[1].owner)
                     + u64::from(transaction.inputs[1].amount)
             }
-            Ok(Record::Register { receiver, .. }) => receiver.into(),
+            Ok(Record::Register { receiver, .. } | Record::Turn { receiver }) => receiver.into(),
             Ok(Record::Mint { amount, .. }) => amount.into(),
             Err(refusal) => 1_000_000 + u64::from(refusal.number()),
         });

@@ -40,7 +40,7 @@ fn sums_of_mixed_records() {
         // Some end in a cut record or one of an unknown kind.
         match rng.below(3) {
             0 => bytes.extend(&encode(&vote(rng))[..50]),
-            1 => bytes.extend([4, 5, 6]),
+            1 => bytes.extend([5, 6, 7]),
             _ => {}
         }
         for records in [0, 1, 7, 30, 100] {

@@ -51,8 +51,8 @@ pub fn declared(source: &str, definitions: &str) -> Vec<Prototype> {
     let mut source = source.to_owned();
     for (name, words) in word_types(definitions) {
         let referent = match words.as_str() {
-            "17176" => "Cluster".into(),
-            "2147" => "Words".into(),
+            "17184" => "Cluster".into(),
+            "2148" => "Words".into(),
             words => format!("[u32; {words}]"),
         };
         source = source.replace(&format!("&{name}"), &format!("&{referent}"));

@@ -13,9 +13,10 @@ pub fn planner_text(bytes: &[u8], listing: &str) -> String {
     for line in answers.lines() {
         text += line;
         if let Some((_, number)) = line.split_once("REFUSED ") {
-            let number: usize = number.parse().expect("a refusal has a number");
+            let number: u32 = number.parse().expect("a refusal has a number");
+            let cause = CAUSES.iter().find(|cause| cause.reply.code == number);
             text += ": ";
-            text += CAUSES[number - 1].sentence;
+            text += cause.expect("the cause has a row").sentence;
         }
         text += "\n";
     }
@@ -43,9 +44,10 @@ fn put_shard(text: &mut String, shard: &Shard) -> std::fmt::Result {
     let number = shard.number();
     let (tokens, known) = (shard.tokens(), shard.known());
     let (held, total, swaps) = (tokens.len(), shard.total(), known.len());
+    let turned = if shard.is_turned() { ", turned" } else { "" };
     writeln!(
         text,
-        "pantry {number}: tokens {held}, portions {total}, swaps {swaps}"
+        "pantry {number}: tokens {held}, portions {total}, swaps {swaps}{turned}"
     )?;
     for token in tokens {
         put_token(text, number, token)?;

@@ -32,6 +32,7 @@ static const struct {
     uint32_t (*mint)(plankeeper *, uint32_t, uint32_t, uint32_t, uint32_t);
     uint32_t (*enter)(plankeeper *, uint32_t, const uint32_t *);
     uint32_t (*deliver)(plankeeper *, uint32_t, uint32_t, uint32_t, const uint32_t *);
+    uint32_t (*turn)(plankeeper *, uint32_t);
     uint64_t (*total)(const plankeeper *);
     uint64_t (*total_at)(const plankeeper *, uint32_t);
     size_t (*held_count)(const plankeeper *, uint32_t);
@@ -39,38 +40,44 @@ static const struct {
     size_t (*known_count)(const plankeeper *, uint32_t);
     uint32_t (*known_at)(const plankeeper *, uint32_t, size_t, uint32_t *);
     uint32_t (*outcome_of)(const plankeeper *, uint32_t, uint32_t);
+    uint32_t (*is_turned)(const plankeeper *, uint32_t);
     size_t (*shard_words)(void);
     void (*shard_make)(plankeeper_shard *, uint32_t);
     uint32_t (*shard_mint)(plankeeper_shard *, uint32_t, uint32_t, uint32_t, uint32_t);
     uint32_t (*shard_enter)(plankeeper_shard *, uint32_t, const uint32_t *);
     uint32_t (*shard_hear)(plankeeper_shard *, uint32_t, uint32_t, uint32_t, const uint32_t *);
+    uint32_t (*shard_turn)(plankeeper_shard *, uint32_t);
     uint64_t (*shard_total)(const plankeeper_shard *);
     size_t (*shard_held_count)(const plankeeper_shard *);
     uint32_t (*shard_token_at)(const plankeeper_shard *, size_t, uint32_t *);
     size_t (*shard_known_count)(const plankeeper_shard *);
     uint32_t (*shard_known_at)(const plankeeper_shard *, size_t, uint32_t *);
     uint32_t (*shard_outcome_of)(const plankeeper_shard *, uint32_t);
+    uint32_t (*shard_is_turned)(const plankeeper_shard *);
     uint32_t (*read)(const uint8_t *, size_t, uint32_t *);
     size_t (*taken)(const uint8_t *, size_t);
     uint64_t (*write_register)(uint32_t, const uint32_t *, uint8_t *, size_t);
     uint64_t (*write_vote)(uint32_t, uint32_t, uint32_t, const uint32_t *, uint8_t *, size_t);
     uint64_t (*write_mint)(uint32_t, uint32_t, uint32_t, uint32_t, uint8_t *, size_t);
+    uint64_t (*write_turn)(uint32_t, uint8_t *, size_t);
 } FUNCTIONS = {
-    plankeeper_words,           plankeeper_new,
-    plankeeper_apply,           plankeeper_mint,
-    plankeeper_register,        plankeeper_deliver,
-    plankeeper_total,           plankeeper_total_at,
-    plankeeper_held_count,      plankeeper_token_at,
-    plankeeper_known_count,     plankeeper_known_at,
-    plankeeper_outcome_of,      plankeeper_shard_words,
-    plankeeper_shard_new,       plankeeper_shard_mint,
-    plankeeper_shard_register,  plankeeper_shard_hear,
-    plankeeper_shard_total,     plankeeper_shard_held_count,
-    plankeeper_shard_token_at,  plankeeper_shard_known_count,
-    plankeeper_shard_known_at,  plankeeper_shard_outcome_of,
-    plankeeper_read,            plankeeper_taken,
-    plankeeper_write_register,  plankeeper_write_vote,
-    plankeeper_write_mint,
+    plankeeper_words,             plankeeper_new,
+    plankeeper_apply,             plankeeper_mint,
+    plankeeper_register,          plankeeper_deliver,
+    plankeeper_turn,              plankeeper_total,
+    plankeeper_total_at,          plankeeper_held_count,
+    plankeeper_token_at,          plankeeper_known_count,
+    plankeeper_known_at,          plankeeper_outcome_of,
+    plankeeper_is_turned,         plankeeper_shard_words,
+    plankeeper_shard_new,         plankeeper_shard_mint,
+    plankeeper_shard_register,    plankeeper_shard_hear,
+    plankeeper_shard_turn,        plankeeper_shard_total,
+    plankeeper_shard_held_count,  plankeeper_shard_token_at,
+    plankeeper_shard_known_count, plankeeper_shard_known_at,
+    plankeeper_shard_outcome_of,  plankeeper_shard_is_turned,
+    plankeeper_read,              plankeeper_taken,
+    plankeeper_write_register,    plankeeper_write_vote,
+    plankeeper_write_mint,        plankeeper_write_turn,
 };
 
 /* ---- Transactions and memory */
@@ -200,6 +207,7 @@ static void check_empty(const plankeeper *cluster, uint32_t shard, size_t place)
     EQUAL(plankeeper_known_count(cluster, shard), 0);
     EQUAL(plankeeper_total_at(cluster, shard), 0);
     EQUAL(plankeeper_outcome_of(cluster, shard, 5), PLANKEEPER_UNKNOWN);
+    EQUAL(plankeeper_is_turned(cluster, shard), 0);
 }
 
 static void example(plankeeper *cluster, const uint32_t *t)
@@ -292,6 +300,51 @@ static void play_others(void)
     check_one_no(cluster, three);
 }
 
+/* ---- Turned shards */
+
+static uint32_t pledge_at(const plankeeper *cluster, uint32_t shard)
+{
+    uint32_t token[PLANKEEPER_TOKEN_WORDS];
+    EQUAL(plankeeper_token_at(cluster, shard, 0, token), 1);
+    return token[PLANKEEPER_TOKEN_PLEDGE];
+}
+
+/* Shard 2 votes no, for it holds nothing. Shard 0 is turned behind the abort and shard 1 before
+ * it, and either token comes free; another transaction takes each. */
+static void play_turned(void)
+{
+    plankeeper *cluster = fresh_cluster();
+    transaction bound, late, again;
+    move(bound, 1, 0, 0, 2);
+    take(bound, 1, 0, 9, 1);
+    take(bound, 2, 0, 9, 1);
+    give(bound, 2, 9, 2);
+    move(late, 2, 0, 0, 0);
+    EQUAL(plankeeper_mint(cluster, 0, 0, 9, 1), PLANKEEPER_OPENED);
+    EQUAL(plankeeper_turn(cluster, 1), PLANKEEPER_TURNED);
+    EQUAL(plankeeper_mint(cluster, 1, 0, 9, 1), PLANKEEPER_OPENED);
+    EQUAL(plankeeper_register(cluster, 0, bound), PLANKEEPER_YES_WAIT);
+    EQUAL(plankeeper_register(cluster, 1, bound), PLANKEEPER_YES_WAIT);
+    EQUAL(plankeeper_register(cluster, 2, bound), PLANKEEPER_NO_ABORT);
+    EQUAL(pledge_at(cluster, 1), 1);
+    EQUAL(plankeeper_deliver(cluster, 0, 2, NO, bound), PLANKEEPER_HEARD_ABORT);
+    EQUAL(plankeeper_deliver(cluster, 1, 2, NO, bound), PLANKEEPER_HEARD_ABORT);
+    EQUAL(pledge_at(cluster, 0), 1);
+    EQUAL(pledge_at(cluster, 1), 0);
+    EQUAL(plankeeper_register(cluster, 0, late), PLANKEEPER_NO_ABORT);
+    EQUAL(plankeeper_is_turned(cluster, 0), 0);
+    EQUAL(plankeeper_turn(cluster, 0), PLANKEEPER_TURNED);
+    EQUAL(plankeeper_is_turned(cluster, 0), 1);
+    EQUAL(plankeeper_is_turned(cluster, 1), 1);
+    EQUAL(plankeeper_is_turned(cluster, 2), 0);
+    EQUAL(pledge_at(cluster, 0), 0);
+    move(again, 3, 0, 0, 0);
+    EQUAL(plankeeper_register(cluster, 0, again), PLANKEEPER_YES_COMMIT);
+    move(again, 3, 1, 0, 1);
+    EQUAL(plankeeper_register(cluster, 1, again), PLANKEEPER_YES_COMMIT);
+    EQUAL(plankeeper_total(cluster), 2);
+}
+
 /* ---- Refusals: each by its name, and nothing is changed */
 
 static void refused(uint32_t answer, uint32_t expected, int line)
@@ -376,6 +429,23 @@ static void refuse_close_behind(void)
     EQUAL(plankeeper_register(cluster, 1, second), PLANKEEPER_YES_COMMIT);
 }
 
+/* By its fields and by its bytes; 3 goes before 19. */
+static void refuse_turned(void)
+{
+    static const uint8_t TURN[PLANKEEPER_TURN_LENGTH] = {PLANKEEPER_KIND_TURN, 6};
+    static const uint8_t HIGH[PLANKEEPER_TURN_LENGTH] = {PLANKEEPER_KIND_TURN, 8};
+    plankeeper *cluster = fresh_cluster();
+    EQUAL(plankeeper_apply(cluster, TURN, sizeof TURN), PLANKEEPER_TURNED);
+    EQUAL(plankeeper_is_turned(cluster, 6), 1);
+    memcpy(cluster_copy, cluster_words, sizeof cluster_words);
+    REFUSES(plankeeper_turn(cluster, 6), TURNED_ALREADY);
+    REFUSES(plankeeper_apply(cluster, TURN, sizeof TURN), TURNED_ALREADY);
+    REFUSES(plankeeper_apply(cluster, TURN, 1), TOO_SHORT);
+    REFUSES(plankeeper_apply(cluster, HIGH, sizeof HIGH), OUT_OF_RANGE);
+    REFUSES(plankeeper_turn(cluster, PLANKEEPER_SHARDS), OUT_OF_RANGE);
+    REFUSES(plankeeper_turn(cluster, 256 + 6), OUT_OF_RANGE);
+}
+
 /* ---- A lone shard */
 
 static void check_shard(const plankeeper_shard *shard, const uint32_t *t)
@@ -416,6 +486,12 @@ static void play_shard(void)
     memcpy(shard_copy, shard_words, sizeof shard_words);
     EQUAL(plankeeper_shard_hear(shard, 1, 0, NO, t), PLANKEEPER_REFUSED_OTHER_VERDICT);
     EQUAL(memcmp(shard_copy, shard_words, sizeof shard_words) == 0, 1);
+    check_shard(shard, t);
+    EQUAL(plankeeper_shard_is_turned(shard), 0);
+    EQUAL(plankeeper_shard_turn(shard, 0), PLANKEEPER_REFUSED_OUT_OF_RANGE);
+    EQUAL(plankeeper_shard_turn(shard, 1), PLANKEEPER_TURNED);
+    EQUAL(plankeeper_shard_turn(shard, 1), PLANKEEPER_REFUSED_TURNED_ALREADY);
+    EQUAL(plankeeper_shard_is_turned(shard), 1);
     check_shard(shard, t);
     EQUAL(plankeeper_shard_words(), PLANKEEPER_SHARD_WORDS);
     EQUAL(FUNCTIONS.words(), PLANKEEPER_WORDS);
@@ -490,6 +566,10 @@ static void write_records(void)
     head[PLANKEEPER_READING_AMOUNT] = 2;
     check_written(plankeeper_write_mint(6, 127, 20, 2, out, sizeof out), PLANKEEPER_MINT_LENGTH);
     check_record(out, PLANKEEPER_MINT_LENGTH, head, blank);
+
+    head_of(head, PLANKEEPER_KIND_TURN, 7);
+    check_written(plankeeper_write_turn(7, out, sizeof out), PLANKEEPER_TURN_LENGTH);
+    check_record(out, PLANKEEPER_TURN_LENGTH, head, blank);
 }
 
 /* All slots used: each word by its name stands at document 01's place among the bytes. Numbers
@@ -540,6 +620,8 @@ static void refuse_to_write(void)
     check_unwritten(plankeeper_write_mint(0, 0, 1, 1, out, 10),
                     PLANKEEPER_REFUSED_BUFFER_TOO_SHORT);
     check_unwritten(plankeeper_write_mint(0, 128, 1, 1, out, 11), PLANKEEPER_REFUSED_OUT_OF_RANGE);
+    check_unwritten(plankeeper_write_turn(7, out, 1), PLANKEEPER_REFUSED_BUFFER_TOO_SHORT);
+    check_unwritten(plankeeper_write_turn(8, out, 1), PLANKEEPER_REFUSED_OUT_OF_RANGE);
     check_unwritten(plankeeper_write_register(1, twice, out, 0), PLANKEEPER_REFUSED_TOKEN_TWICE);
     check_unwritten(plankeeper_write_vote(0, 1, NO, more, out, 0), PLANKEEPER_REFUSED_SUMS_DIFFER);
     EQUAL(memcmp(out, before, sizeof out) == 0, 1);
@@ -547,7 +629,7 @@ static void refuse_to_write(void)
 
 /* ---- Answers taken apart */
 
-enum { REFUSED, OPENED, REGISTERED, HEARD, AGAIN };
+enum { REFUSED, OPENED, REGISTERED, HEARD, AGAIN, TURNED };
 
 static void check_kind(uint32_t answer, int kind)
 {
@@ -567,9 +649,10 @@ static void take_answers_apart(void)
     };
     static const int KINDS[4] = {REGISTERED, REGISTERED, HEARD, AGAIN};
     uint32_t number, row, outcome;
-    for (number = 1; number <= PLANKEEPER_REFUSED_HELD_OFF; number++)
+    for (number = 1; number <= PLANKEEPER_REFUSED_TURNED_ALREADY; number++)
         check_kind(number, REFUSED);
     check_kind(PLANKEEPER_OPENED, OPENED);
+    check_kind(PLANKEEPER_TURNED, TURNED);
     for (row = 0; row < 4; row++)
         for (outcome = PLANKEEPER_WAIT; outcome <= PLANKEEPER_ABORT; outcome++) {
             check_kind(NAMED[row][outcome], KINDS[row]);
@@ -583,9 +666,11 @@ int main(void)
 {
     play_example();
     play_others();
+    play_turned();
     refuse_in_the_example();
     refuse_when_full();
     refuse_close_behind();
+    refuse_turned();
     play_shard();
     write_records();
     write_every_slot();

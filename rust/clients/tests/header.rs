@@ -63,9 +63,9 @@ fn refusals() -> impl Iterator<Item = (String, u64)> {
         .map(|cause| (format!("REFUSED_{}", cause.name), cause.reply.code.into()))
 }
 
-const SIZES: [(&str, u64); 15] = [
-    ("WORDS", 8 * 2147),
-    ("SHARD_WORDS", 3 + 128 + 128 * 5 + 32 * 43),
+const SIZES: [(&str, u64); 16] = [
+    ("WORDS", 8 * 2148),
+    ("SHARD_WORDS", 4 + 128 + 128 * 5 + 32 * 43),
     ("TRANSACTION_WORDS", 3 + 4 * 5 + 4 * 3),
     ("READING_WORDS", 7 + 35),
     ("TOKEN_WORDS", 5),
@@ -73,6 +73,7 @@ const SIZES: [(&str, u64); 15] = [
     ("REGISTER_LENGTH", 2 + 98),
     ("VOTE_LENGTH", 4 + 98),
     ("MINT_LENGTH", 11),
+    ("TURN_LENGTH", 2),
     ("SHARDS", 8),
     ("MAX_TOKENS", 128),
     ("MAX_KNOWN", 32),
@@ -94,7 +95,7 @@ const ROWS: [(u64, &str); 7] = [
         "READING_KIND READING_RECEIVER READING_SENDER READING_VERDICT READING_INDEX \
          READING_OWNER READING_AMOUNT READING_TRANSACTION",
     ),
-    (1, "KIND_REGISTER KIND_VOTE KIND_MINT"),
+    (1, "KIND_REGISTER KIND_VOTE KIND_MINT KIND_TURN"),
     (0, "NO YES"),
     (0, "WAIT COMMIT ABORT UNKNOWN"),
 ];

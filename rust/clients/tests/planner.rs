@@ -85,24 +85,27 @@ fn random_and_damaged_inputs() {
     }
 }
 
-/// A text by hand: a pledge, a refusal of the cluster, one of the reader, and
-/// pantries with nothing.
+/// A text by hand: a pledge, refusals of the cluster, one of the reader, a pantry
+/// that is turned, and pantries with nothing.
 #[test]
 fn a_text_by_hand() {
     let week = "opening pantry 0 position 3 household 9 portions 4\n\
                 swap 8\n  take pantry 0 opening 3 household 9 portions 4\n  \
                 give pantry 1 household 9 portions 4\n\
                 register 8 at 0\nregister 8 at 2\n\
-                opening pantry 8 position 0 household 1 portions 1\n";
+                opening pantry 8 position 0 household 1 portions 1\n\
+                turn pantry 1\nturn pantry 1\n";
     let bytes = weektext::records(week.as_bytes()).expect("the week has no error");
     let mut expected = "1 0 OPENED\n2 0 YES WAIT\n\
         3 2 REFUSED 6: receiver or sender not among the swap's pantries\n\
         4 - REFUSED 3: field or count outside its range; pantry above 7; unused slot not zero\n\
+        5 1 TURNED\n6 1 REFUSED 19: kind 4: this pantry is turned already\n\
         pantry 0: tokens 1, portions 4, swaps 1\n  \
         token 0/0/3: household 9, portions 4, pledged to swap 8\n  \
-        swap 8: WAIT, heard 0 yes\n"
+        swap 8: WAIT, heard 0 yes\n\
+        pantry 1: tokens 0, portions 0, swaps 0, turned\n"
         .to_owned();
-    for pantry in 1..8 {
+    for pantry in 2..8 {
         expected += &format!("pantry {pantry}: tokens 0, portions 0, swaps 0\n");
     }
     expected += "TOTAL 4\n";

@@ -246,6 +246,7 @@ fn expected_words(reading: &Reading) -> ReadingWords {
             [3, receiver.into(), 0, 0, index.into(), owner, amount],
             blank,
         ),
+        Ok(Record::Turn { receiver }) => ([4, receiver.into(), 0, 0, 0, 0, 0], blank),
     };
     let mut words = [0; READING_WORDS];
     words[..7].copy_from_slice(&head);

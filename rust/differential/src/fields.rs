@@ -114,6 +114,7 @@ pub fn encode(record: &Record) -> Vec<u8> {
             bytes.extend(owner.to_be_bytes());
             bytes.extend(amount.to_be_bytes());
         }
+        Record::Turn { receiver } => bytes.extend([4, receiver]),
     }
     bytes
 }

@@ -45,12 +45,15 @@ pub fn transaction(rng: &mut Rng) -> Transaction {
 
 /// A valid record of any kind.
 pub fn record(rng: &mut Rng) -> Record {
-    match rng.below(5) {
+    match rng.below(6) {
         0 | 1 => Record::Register {
             receiver: shard(rng),
             transaction: transaction(rng),
         },
         2 | 3 => vote(rng),
+        4 => Record::Turn {
+            receiver: shard(rng),
+        },
         _ => Record::Mint {
             receiver: shard(rng),
             index: genesis_index(rng),

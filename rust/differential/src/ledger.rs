@@ -149,7 +149,7 @@ impl<'a, M: Memory, R: Playable> Player<'a, M, R> {
         let before = record
             .ok()
             .and_then(|record| Before::of(shards_before, record));
-        let place = before.map(|before| before.place);
+        let place = before.as_ref().map(|before| before.place);
         let answer = record.and_then(|record| self.reference.play(record));
         assert_eq!(ours, answer, "answer");
 

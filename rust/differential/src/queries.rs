@@ -24,6 +24,7 @@ struct Words {
     transactions: Vec<(u32, KnownWords)>,
     outcomes: Vec<u32>,
     total: u64,
+    turned: u32,
 }
 
 /// What the types' functions answer.
@@ -33,6 +34,7 @@ struct Types {
     transactions: Vec<plankeeper::Known>,
     outcomes: Vec<Option<Outcome>>,
     total: u64,
+    turned: bool,
 }
 
 impl Questions {
@@ -93,6 +95,7 @@ impl Questions {
                 found.map_or(3, |known| outcome_code(known.outcome()))
             }),
             total: tokens.iter().map(|token| u64::from(token.amount)).sum(),
+            turned: shard.is_some_and(Shard::is_turned).into(),
         }
     }
 
@@ -108,6 +111,7 @@ impl Questions {
             }),
             transactions,
             total: shard.total(),
+            turned: shard.is_turned(),
         }
     }
 }
@@ -132,6 +136,7 @@ pub fn check_lone(shard: &plankeeper::Shard, expected: &Shard) {
         transactions: questions.fill(|k, words| memory.known_at(k, words)),
         outcomes: questions.each(|number| memory.outcome_of(number)),
         total: memory.total(),
+        turned: memory.is_turned(),
     };
     assert_eq!(words, questions.expected(Some(expected)), "by words");
     let types = Types {
@@ -139,6 +144,7 @@ pub fn check_lone(shard: &plankeeper::Shard, expected: &Shard) {
         transactions: shard.transactions().collect(),
         outcomes: questions.each(|number| shard.outcome(number)),
         total: shard.total(),
+        turned: shard.is_turned(),
     };
     assert_eq!(types, questions.expected_types(expected), "in types");
 }
@@ -155,6 +161,7 @@ pub fn check_none(cluster: &Cluster, number: u32, questions: &Questions) {
             transactions: Vec::new(),
             outcomes: questions.each(|_| None),
             total: 0,
+            turned: false,
         };
         assert_eq!(types, nothing, "shard {number} in types");
     }
@@ -169,6 +176,7 @@ fn cluster_words(cluster: &Cluster, shard: u32, questions: &Questions) -> Words 
         transactions: questions.fill(|k, words| memory.known_at(shard, k, words)),
         outcomes: questions.each(|number| memory.outcome_of(shard, number)),
         total: memory.total_at(shard),
+        turned: memory.is_turned(shard),
     }
 }
 
@@ -178,6 +186,7 @@ fn cluster_types(cluster: &Cluster, shard: u8, questions: &Questions) -> Types {
         transactions: cluster.transactions(shard).collect(),
         outcomes: questions.each(|number| cluster.outcome(shard, number)),
         total: cluster.total_at(shard),
+        turned: cluster.is_turned(shard),
     }
 }
 

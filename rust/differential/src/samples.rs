@@ -77,6 +77,10 @@ pub fn sample_records() -> Vec<(u8, Record)> {
         (0, mint(7, 127, u32::MAX, 1_000_000)),
         (3, mint(0, 128, 10, 3)),
         (3, mint(0, 0, 0, 0)),
+        (0, Record::Turn { receiver: 0 }),
+        (0, Record::Turn { receiver: 7 }),
+        (3, Record::Turn { receiver: 8 }),
+        (3, Record::Turn { receiver: 255 }),
     ];
     for (refusal, transaction) in sample_transactions() {
         let registers = [0, 3, 7].map(|receiver| register(receiver, transaction));
@@ -121,8 +125,8 @@ pub fn mints_at_their_edges() -> Vec<(u8, Record)> {
     mints
 }
 
-/// Records with every value of each field in front of the transaction. A
-/// refusal 3 in front goes before a 4 or 5 behind.
+/// Records with every value of each field in front of the transaction, and turns
+/// of every shard. A refusal 3 in front goes before a 4 or 5 behind.
 pub fn records_with_every_front() -> Vec<(u8, Record)> {
     let valid = base(2, 2, false);
     let mut twice = valid;
@@ -132,6 +136,10 @@ pub fn records_with_every_front() -> Vec<(u8, Record)> {
     let mut unbalanced = valid;
     unbalanced.outputs[1].amount += 1;
     let mut records = Vec::new();
+    for receiver in 0..=255 {
+        let refusal = if receiver <= 7 { 0 } else { 3 };
+        records.push((refusal, Record::Turn { receiver }));
+    }
     for (refusal, transaction) in [(0, valid), (4, twice), (4, both), (5, unbalanced)] {
         let vote = |receiver, sender, verdict| vote(receiver, sender, verdict, transaction);
         for value in 0..=255 {

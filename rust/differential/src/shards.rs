@@ -4,7 +4,7 @@ use std::array;
 
 use plankeeper::Shard;
 use reference::{Record, SHARDS};
-use weeks::{ShardStyle, shard_week_of};
+use weeks::{ShardStyle, Turns, shard_week_of};
 
 use crate::Rng;
 
@@ -19,14 +19,16 @@ pub fn shards() -> Shards {
 /// A week without damage that soon reaches both limits: the shard's number and
 /// the calls.
 pub fn full_shard_week(rng: &mut Rng) -> (u8, Vec<Record>) {
+    let calls = 400;
     let style = ShardStyle {
-        calls: 400,
+        calls,
         mints: 120 + rng.below(9),
         amounts: 60,
         local: 3,
         here: rng.pick(&[3, 5, 7]),
         damage: None,
         yes: 14,
+        turns: Turns::random(rng, calls),
     };
     shard_week_of(rng, style)
 }

@@ -4,7 +4,7 @@ use differential::{Player, Rng, SEED};
 use engine::{answer_code, cluster};
 use reference::decode;
 use weeks::{
-    CLUSTER_EVENTS, EARLY_ABORTS, Giver, SHARD_EVENTS, cluster_week, count_weeks, given_by,
+    CLUSTER_EVENTS, EARLY_ABORTS, Giver, SHARD_EVENTS, TURNS, cluster_week, count_weeks, given_by,
     never_given_by,
 };
 
@@ -31,15 +31,18 @@ fn random_weeks_of_a_cluster() {
     let title = format!("a cluster, {calls} calls in {WEEKS} weeks");
     tally.report(&title, &given_by(&[Giver::Cluster]), LEAST);
     // What is held off is sent again and again, and one no often lets another
-    // through.
+    // through. Shards that are turned meet others that are not.
     let often = [
         "REFUSED 17",
         "not too full, another aborted early",
         "not held off, another aborted early",
+        "committed, turned at some of its shards",
+        "aborted, turned at some of its shards",
     ];
     tally.check(&title, &often, 10 * LEAST);
     tally.check(&title, &SHARD_EVENTS, LEAST);
     tally.check(&title, &EARLY_ABORTS, LEAST);
+    tally.check(&title, &TURNS, 10 * LEAST);
     tally.check(&title, &CLUSTER_EVENTS, LEAST);
     tally.check_never(&title, &never_given_by(&[Giver::Cluster]));
 }

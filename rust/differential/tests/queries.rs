@@ -6,7 +6,7 @@ use differential::{
 };
 use reference::{Outcome, Record, SHARDS, Shard};
 use weeks::{
-    ClusterStyle, Tally, cluster_week, cluster_week_of, count_weeks, receiver, shard_week,
+    ClusterStyle, Tally, Turns, cluster_week, cluster_week_of, count_weeks, receiver, shard_week,
 };
 
 const WEEKS: u64 = 1_900;
@@ -15,7 +15,9 @@ const FULL: u64 = 1_600;
 /// How often each kind of state has to be met by a query.
 const LEAST: u64 = 3_000;
 
-const STATES: [&str; 12] = [
+const STATES: [&str; 14] = [
+    "not turned",
+    "turned",
     "no token",
     "a token not pledged",
     "a token pledged",
@@ -47,6 +49,8 @@ fn count(tally: &mut Tally, shard: &Shard) {
         missing && known.outcome() == Outcome::Abort
     });
     let met = [
+        !shard.is_turned(),
+        shard.is_turned(),
         tokens == 0,
         free,
         pledged,
@@ -114,14 +118,16 @@ fn ask_shard(
 
 /// A week without damage in which a shard or two run full.
 fn full_cluster_week(rng: &mut Rng) -> Vec<Record> {
+    let calls = 400;
     let style = ClusterStyle {
-        calls: 400,
+        calls,
         shards: 1 + rng.below(2),
         mints: 120 + rng.below(9),
         amounts: 60,
         new: 20,
         due: 50,
         damage: None,
+        turns: Turns::random(rng, calls),
     };
     cluster_week_of(rng, style)
 }

@@ -45,7 +45,7 @@ fn with_bytes(rng: &mut Rng, check: impl FnOnce(&[u8])) {
         }
         _ => {
             let mut noise = rng.bytes(VOTE_LENGTH + 10);
-            noise[0] %= 5;
+            noise[0] %= 6;
             noise
         }
     });

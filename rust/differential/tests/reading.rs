@@ -38,7 +38,7 @@ fn every_kind_with_several_bodies() {
         for mut bytes in bodies {
             bytes[0] = kind;
             let answer = check_read(&Case::new(number, &bytes));
-            assert_eq!(answer == 1, !(1..=3).contains(&kind), "kind {kind}");
+            assert_eq!(answer == 1, !(1..=4).contains(&kind), "kind {kind}");
             tally.add(refused(answer));
             number += 1;
         }
@@ -54,7 +54,9 @@ fn every_cut_of_every_kind() {
         // forgets the length would find them.
         let mut bytes = encode(&record);
         let whole = bytes.len();
-        bytes.extend(encode(&record));
+        while bytes.len() < whole + 10 {
+            bytes.extend(encode(&record));
+        }
         for length in 0..=whole + 10 {
             let answer = check_read(&Case::new(number, &bytes[..length]));
             let expected = if length < whole { 2 } else { refusal };
@@ -127,7 +129,7 @@ fn long_stretches_of_mixed_records() {
                 2
             }
             1 => {
-                bytes.push(rng.pick(&[0, 4, 5, 127, 255]));
+                bytes.push(rng.pick(&[0, 5, 6, 127, 255]));
                 bytes.extend(last);
                 1
             }

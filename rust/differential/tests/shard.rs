@@ -3,8 +3,8 @@
 use differential::{Player, Rng, SEED, Shards, full_shard_week, shards};
 use reference::Record;
 use weeks::{
-    EARLY_ABORTS, Giver, Playable, SHARD_EVENTS, Tally, count_weeks, given_by, never_given_by,
-    shard_week,
+    EARLY_ABORTS, Giver, Playable, SHARD_EVENTS, TURNS, Tally, count_weeks, given_by,
+    never_given_by, shard_week,
 };
 
 const WEEKS: u64 = 42_000;
@@ -44,6 +44,7 @@ fn random_weeks_of_a_shard() {
     tally.report(&title, &given_by(&[Giver::Shard]), LEAST);
     tally.check(&title, &SHARD_EVENTS, LEAST);
     tally.check(&title, &EARLY_ABORTS, LEAST);
+    tally.check(&title, &TURNS, LEAST);
     tally.check_never(&title, &never_given_by(&[Giver::Shard]));
 }
 
@@ -86,5 +87,8 @@ fn shards_of_every_number() {
         let mints: Vec<Record> = (0..=255).map(mint).collect();
         play(&mut shards, &mut tally, 3, number, &mints);
         assert!(tally.count("OPENED") >= 1, "shard {number}");
+        let turns = (0..=255).map(|receiver| Record::Turn { receiver });
+        play(&mut shards, &mut tally, 3, number, &Vec::from_iter(turns));
+        assert!(tally.count("TURNED") >= 1, "shard {number}");
     }
 }

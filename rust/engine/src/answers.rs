@@ -16,6 +16,7 @@ pub fn answer(answer: Result<plankeeper::Answer, plankeeper::Refusal>) -> Answer
         }),
         Ok(plankeeper::Answer::Heard(decided)) => Ok(Done::Heard(outcome(decided))),
         Ok(plankeeper::Answer::Again(decided)) => Ok(Done::Again(outcome(decided))),
+        Ok(plankeeper::Answer::Turned) => Ok(Done::Turned),
     }
 }
 
@@ -59,5 +60,6 @@ pub fn answer_code(answer: Answer) -> u32 {
         }
         Ok(Done::Heard(outcome)) => 300 + outcome_code(outcome),
         Ok(Done::Again(outcome)) => 400 + outcome_code(outcome),
+        Ok(Done::Turned) => 500,
     }
 }

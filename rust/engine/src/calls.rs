@@ -20,6 +20,8 @@ pub enum Words {
     /// Hands one shard's vote to another (document 01: vote, vote delivery):
     /// the receiver, the sender and the verdict, 1 for yes and 0 for no.
     Vote([u32; 3], TransactionWords),
+    /// Turns a shard (document 02, 4): the receiver.
+    Turn([u32; 1]),
 }
 
 impl Words {
@@ -30,6 +32,7 @@ impl Words {
                 let widths = [true, true, false, false];
                 return words.iter_mut().zip(widths).collect();
             }
+            Words::Turn([receiver]) => return vec![(receiver, true)],
             Words::Register(head, transaction) => (head, transaction),
             Words::Vote(head, transaction) => (head, transaction),
         };
@@ -63,6 +66,7 @@ impl From<&Record> for Words {
                 let head = [receiver, sender, verdict].map(u32::from);
                 Words::Vote(head, to_words(transaction))
             }
+            Record::Turn { receiver } => Words::Turn([receiver.into()]),
         }
     }
 }
@@ -87,6 +91,9 @@ impl From<&Words> for Record {
                 sender: narrow(sender),
                 verdict: narrow(verdict),
                 transaction: from_words(&narrowed(transaction)),
+            },
+            Words::Turn([receiver]) => Record::Turn {
+                receiver: narrow(receiver),
             },
         }
     }
@@ -137,6 +144,9 @@ fn typed(words: &Words) -> Option<plankeeper::Record> {
             },
             transaction: fitting(transaction)?,
         },
+        Words::Turn([receiver]) => plankeeper::Record::Turn {
+            receiver: byte(receiver)?,
+        },
     })
 }
 
@@ -168,5 +178,6 @@ fn code<M: Memory>(memory: &mut M, words: &Words) -> u32 {
         Words::Vote([receiver, sender, verdict], ref transaction) => {
             memory.deliver(receiver, sender, verdict, transaction)
         }
+        Words::Turn([receiver]) => memory.turn(receiver),
     }
 }

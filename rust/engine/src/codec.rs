@@ -1,8 +1,8 @@
 //! Readings and writings in the reference's types.
 
-use plankeeper::boundary::{write_mint, write_register, write_vote};
+use plankeeper::boundary::{write_mint, write_register, write_turn, write_vote};
 use plankeeper::written_from_code;
-use reference::{MINT_LENGTH, REGISTER_LENGTH, Reading, Record, Refusal, VOTE_LENGTH};
+use reference::{MINT_LENGTH, REGISTER_LENGTH, Reading, Record, Refusal, TURN_LENGTH, VOTE_LENGTH};
 
 use crate::answers::{refusal, verdict};
 use crate::calls::{Call, Words};
@@ -47,6 +47,7 @@ fn record(record: plankeeper::Record) -> Record {
             owner,
             amount,
         },
+        plankeeper::Record::Turn { receiver } => Record::Turn { receiver },
     }
 }
 
@@ -78,5 +79,6 @@ fn write_words(words: &Words, buffer: &mut [u8]) -> (usize, u64) {
             let answer = write_vote(receiver, sender, verdict, transaction, buffer);
             (VOTE_LENGTH, answer)
         }
+        Words::Turn([receiver]) => (TURN_LENGTH, write_turn(receiver, buffer)),
     }
 }

@@ -5,7 +5,7 @@
 use std::ops::Range;
 
 /// Words of a shard's memory.
-pub const SHARD_WORDS: usize = 2147;
+pub const SHARD_WORDS: usize = 2148;
 /// Words of a transaction.
 pub const TRANSACTION_WORDS: usize = 35;
 
@@ -21,14 +21,16 @@ pub(crate) const NUMBER: usize = 0;
 pub(crate) const HELD: usize = 1;
 /// How many transactions a shard knows.
 pub(crate) const KNOWN: usize = 2;
+/// Whether a shard is turned: 1, or 0 where it is not.
+pub(crate) const TURNED: usize = 3;
 /// A flag for each genesis index, not 0 where it was given.
-pub(crate) const FLAGS: Range<usize> = 3..131;
+pub(crate) const FLAGS: Range<usize> = 4..132;
 /// The places for tokens.
-pub(crate) const TOKENS: Range<usize> = 131..771;
+pub(crate) const TOKENS: Range<usize> = 132..772;
 /// Words of a token: creator, index, owner, amount and pledge.
 pub(crate) const TOKEN_WORDS: usize = 5;
 /// The places for known transactions.
-pub(crate) const TRANSACTIONS: Range<usize> = 771..2147;
+pub(crate) const TRANSACTIONS: Range<usize> = 772..2148;
 /// Words of a known transaction: those of the transaction, then the verdict
 /// heard from each sender.
 pub(crate) const KNOWN_WORDS: usize = 43;
@@ -60,8 +62,9 @@ pub fn name(place: usize) -> String {
         NUMBER => "number".into(),
         HELD => "tokens held".into(),
         KNOWN => "transactions known".into(),
-        3..131 => format!("flag {}", place - FLAGS.start),
-        131..771 => {
+        TURNED => "turned".into(),
+        4..132 => format!("flag {}", place - FLAGS.start),
+        132..772 => {
             let word = place - TOKENS.start;
             format!(
                 "token {}, {}",

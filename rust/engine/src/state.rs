@@ -6,7 +6,7 @@ use std::fmt::Debug;
 use reference::{GENESIS, Known, Shard, Token, Verdict};
 
 use crate::places::{
-    FLAGS, HELD, KNOWN, KNOWN_WORDS, NUMBER, ShardWords, TOKEN_WORDS, TOKENS, TRANSACTIONS,
+    FLAGS, HELD, KNOWN, KNOWN_WORDS, NUMBER, ShardWords, TOKEN_WORDS, TOKENS, TRANSACTIONS, TURNED,
 };
 use crate::words::{byte, from_words};
 
@@ -16,6 +16,8 @@ use crate::words::{byte, from_words};
 pub struct State {
     /// The shard's number.
     pub number: u8,
+    /// Whether it is turned.
+    pub turned: bool,
     /// Which genesis indices were given.
     pub given: [bool; GENESIS as usize],
     /// The tokens held.
@@ -29,6 +31,7 @@ impl State {
     pub fn of(words: &ShardWords) -> Self {
         let mut state = State {
             number: 0,
+            turned: false,
             given: [false; GENESIS as usize],
             tokens: Vec::new(),
             known: Vec::new(),
@@ -40,6 +43,11 @@ impl State {
     /// As [`Self::of`], with the room of the state before.
     pub fn read(&mut self, words: &ShardWords) {
         self.number = byte(words[NUMBER]);
+        self.turned = match words[TURNED] {
+            0 => false,
+            1 => true,
+            other => panic!("the engine has turned a shard {other} times"),
+        };
         let flags = &words[FLAGS];
         self.given = array::from_fn(|index| flags[index] != 0);
         self.tokens.clear();
@@ -53,6 +61,7 @@ impl State {
     /// What differs first from the reference's state, if anything.
     pub fn difference(&self, shard: &Shard) -> Option<String> {
         first("number", &[self.number], &[shard.number()])
+            .or_else(|| first("turned", &[self.turned], &[shard.is_turned()]))
             .or_else(|| first("flag", &self.given, shard.given()))
             .or_else(|| first("token", &self.tokens, shard.tokens()))
             .or_else(|| first("transaction", &self.known, shard.known()))

@@ -70,9 +70,14 @@ fn report(bytes: &[u8], mut out: impl Write) -> io::Result<()> {
     for shard in 0..8 {
         let (tokens, known) = (cluster.tokens(shard), cluster.transactions(shard));
         let (held, amount, swaps) = (tokens.len(), cluster.total_at(shard), known.len());
+        let turned = if cluster.is_turned(shard) {
+            ", turned"
+        } else {
+            ""
+        };
         writeln!(
             out,
-            "pantry {shard}: tokens {held}, portions {amount}, swaps {swaps}"
+            "pantry {shard}: tokens {held}, portions {amount}, swaps {swaps}{turned}"
         )?;
         for token in tokens {
             writeln!(out, "  {}", token_line(&token))?;

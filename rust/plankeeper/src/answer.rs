@@ -23,8 +23,9 @@ pub enum Outcome {
     /// All votes are heard and are yes: the inputs here are destroyed, the
     /// outputs here are made.
     Commit = 1,
-    /// A no was heard, whatever votes are missing: no token is changed, and
-    /// pledges stay.
+    /// A no was heard, whatever votes are missing: no token is changed but for
+    /// its pledge. At a shard that is turned what was pledged to the
+    /// transaction is free; at one that is not pledges stay.
     Abort = 2,
 }
 
@@ -56,6 +57,9 @@ pub enum Answer {
     /// The shard had heard the vote before, and nothing is changed; this is
     /// what it had decided.
     Again(Outcome),
+    /// The shard is turned now: what aborted transactions had pledged there is
+    /// free, and each later abort frees what is pledged to its transaction.
+    Turned,
 }
 
 impl Outcome {
@@ -89,6 +93,7 @@ pub fn answer_code(answer: &Result<Answer, Refusal>) -> u32 {
         Ok(Answer::Registered { verdict, outcome }) => 200 + 10 * verdict as u32 + outcome as u32,
         Ok(Answer::Heard(outcome)) => 300 + outcome as u32,
         Ok(Answer::Again(outcome)) => 400 + outcome as u32,
+        Ok(Answer::Turned) => 500,
     }
 }
 
@@ -106,6 +111,7 @@ pub fn answer_from_code(code: u32) -> Option<Result<Answer, Refusal>> {
         210..=212 => registered(Verdict::Yes, 210),
         300..=302 => outcome(300).map(Answer::Heard),
         400..=402 => outcome(400).map(Answer::Again),
+        500 => Some(Answer::Turned),
         _ => {
             let number = u8::try_from(code).ok()?;
             return Refusal::from_number(number).map(Err);
@@ -146,6 +152,7 @@ impl Display for Answer {
             Answer::Registered { verdict, outcome } => write!(f, "{verdict} {outcome}"),
             Answer::Heard(outcome) => write!(f, "HEARD {outcome}"),
             Answer::Again(outcome) => write!(f, "AGAIN {outcome}"),
+            Answer::Turned => f.write_str("TURNED"),
         }
     }
 }

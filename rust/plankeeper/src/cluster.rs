@@ -61,7 +61,7 @@ impl Cluster {
     /// let mut bytes = [3, 1, 0, 0, 0, 0, 20, 0, 0, 0, 2];
     /// assert_eq!(cluster.apply(&bytes), Ok(Answer::Minted));
     /// assert_eq!(cluster.apply(&bytes), Err(Refusal::IndexGiven));
-    /// bytes[0] = 4;
+    /// bytes[0] = 5;
     /// assert_eq!(cluster.apply(&bytes), Err(Refusal::UnknownKind));
     /// assert_eq!(cluster.total(), 2);
     /// ```
@@ -125,6 +125,11 @@ impl Cluster {
     /// number; nothing where it knows no such number.
     pub fn outcome(&self, shard: u8, number: u32) -> Option<Outcome> {
         query::outcome(Member(self.memory(), shard), number)
+    }
+
+    /// Whether the shard is turned: see [`turn`](Ledger::turn).
+    pub fn is_turned(&self, shard: u8) -> bool {
+        query::is_turned(Member(self.memory(), shard))
     }
 }
 

@@ -129,6 +129,41 @@ impl<M: Memory> Ledger<M> {
         answered(self.memory.deliver(receiver, sender, verdict, words))
     }
 
+    /// Turns the receiving shard, for good: from now on an abort there ends the
+    /// pledges of its transaction (document 02, 4). What transactions had
+    /// pledged that it has aborted before comes free now; those that it has not
+    /// decided go on. Shards may be turned at different times, and a shard that
+    /// is turned already refuses.
+    ///
+    /// ```
+    /// use plankeeper::{Answer, Cluster, Input, Output, Refusal, TokenId, Transaction};
+    ///
+    /// let take = |index| Input {
+    ///     token: TokenId { shard: 0, creator: 0, index },
+    ///     owner: 10,
+    ///     amount: 3,
+    /// };
+    /// let give = |amount| Output { shard: 0, owner: 20, amount };
+    /// // There is no token of index 1, so the one of index 0 is bound for nothing.
+    /// let vain = Transaction::new(5).input(take(0)).input(take(1)).output(give(6));
+    /// let other = |number| Transaction::new(number).input(take(0)).output(give(3));
+    ///
+    /// let mut cluster = Cluster::new();
+    /// cluster.mint(0, 0, 10, 3)?;
+    /// assert_eq!(cluster.register(0, &vain)?.to_string(), "NO ABORT");
+    /// assert_eq!(cluster.register(0, &other(6))?.to_string(), "NO ABORT");
+    ///
+    /// assert_eq!(cluster.turn(0), Ok(Answer::Turned));
+    /// assert_eq!(cluster.turn(0), Err(Refusal::TurnedAlready));
+    /// assert!(cluster.is_turned(0) && !cluster.is_turned(1));
+    /// assert_eq!(cluster.register(0, &other(7))?.to_string(), "YES COMMIT");
+    /// # Ok::<(), Refusal>(())
+    /// ```
+    #[inline]
+    pub fn turn(&mut self, receiver: u8) -> Result<Answer, Refusal> {
+        answered(self.memory.turn(receiver.into()))
+    }
+
     /// Makes the call that the record stands for.
     #[inline]
     pub fn play(&mut self, record: &Record) -> Result<Answer, Refusal> {
@@ -149,6 +184,7 @@ impl<M: Memory> Ledger<M> {
                 owner,
                 amount,
             } => self.mint(receiver, index, owner, amount),
+            Record::Turn { receiver } => self.turn(receiver),
         }
     }
 

@@ -5,7 +5,9 @@
 //! votes, hears the other shards' votes and decides alone: abort as soon as it
 //! has heard one no, its own included, and commit once it has heard all votes
 //! and each is yes. Whatever the order in which votes arrive, no two shards
-//! decide one transaction differently, and none changes its decision.
+//! decide one transaction differently, and none changes its decision. What an
+//! aborted transaction has pledged stays pledged, or comes free at a shard that
+//! is turned: each shard is turned when its caller says so.
 //!
 //! The engine itself is a static library whose functions were compiled only
 //! after a machine had checked proofs of what they do: for every input and

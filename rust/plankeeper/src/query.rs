@@ -19,7 +19,8 @@ pub struct Token {
     /// Its amount (document 01: portions).
     pub amount: u32,
     /// The number of the transaction that it is pledged to, if there is one. It
-    /// is available to no other, and that stays so after an abort.
+    /// is available to no other; after an abort that stays so, unless the shard
+    /// is turned.
     pub pledge: Option<u32>,
 }
 
@@ -54,6 +55,7 @@ pub(crate) trait Asked: Copy {
     fn known_count(self) -> usize;
     fn known_at(self, k: usize, known: &mut KnownWords) -> u32;
     fn outcome_of(self, number: u32) -> u32;
+    fn is_turned(self) -> u32;
 }
 
 /// The shard of this number in a cluster.
@@ -84,6 +86,10 @@ impl Asked for Member<'_> {
     fn outcome_of(self, number: u32) -> u32 {
         self.0.outcome_of(self.1.into(), number)
     }
+
+    fn is_turned(self) -> u32 {
+        self.0.is_turned(self.1.into())
+    }
 }
 
 impl Asked for &ShardMemory {
@@ -109,6 +115,10 @@ impl Asked for &ShardMemory {
 
     fn outcome_of(self, number: u32) -> u32 {
         ShardMemory::outcome_of(self, number)
+    }
+
+    fn is_turned(self) -> u32 {
+        ShardMemory::is_turned(self)
     }
 }
 
@@ -143,6 +153,15 @@ pub(crate) fn outcome<A: Asked>(shard: A, number: u32) -> Option<Outcome> {
             let outcome = Outcome::from_number(answer);
             Some(outcome.unwrap_or_else(|| nameless("a question for an outcome", answer)))
         }
+    }
+}
+
+/// Whether the shard is turned.
+pub(crate) fn is_turned<A: Asked>(shard: A) -> bool {
+    match shard.is_turned() {
+        0 => false,
+        1 => true,
+        answer => nameless("a question whether a shard is turned", answer),
     }
 }
 
@@ -181,6 +200,7 @@ impl<A: Asked> Debug for Shown<A> {
     fn fmt(&self, f: &mut Formatter<'_>) -> fmt::Result {
         f.debug_struct("Shard")
             .field("number", &self.0.number())
+            .field("turned", &is_turned(self.0))
             .field("tokens", &tokens(self.0).collect::<Vec<_>>())
             .field("transactions", &transactions(self.0).collect::<Vec<_>>())
             .finish()

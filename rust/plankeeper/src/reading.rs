@@ -148,6 +148,7 @@ fn record(fields: &ReadingWords) -> Record {
             owner,
             amount,
         },
+        4 => Record::Turn { receiver },
         _ => nameless("reading a kind", kind),
     }
 }

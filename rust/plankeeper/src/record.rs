@@ -1,6 +1,6 @@
 //! Records and how they are written.
 
-use crate::boundary::{write_mint, write_register, write_vote};
+use crate::boundary::{write_mint, write_register, write_turn, write_vote};
 use crate::defect::nameless;
 use crate::{Refusal, Transaction, Verdict};
 
@@ -52,6 +52,12 @@ pub enum Record {
         /// Its amount, 1 to 1,000,000 (document 01: portions).
         amount: u32,
     },
+    /// Kind 4: turns a shard, so that an abort ends its pledges there (document
+    /// 02, 4).
+    Turn {
+        /// The shard that is turned.
+        receiver: u8,
+    },
 }
 
 impl Record {
@@ -60,16 +66,18 @@ impl Record {
         match *self {
             Record::Register { receiver, .. }
             | Record::Vote { receiver, .. }
-            | Record::Mint { receiver, .. } => receiver,
+            | Record::Mint { receiver, .. }
+            | Record::Turn { receiver } => receiver,
         }
     }
 
-    /// How many bytes it is written in: 100, 102 or 11, by its kind.
+    /// How many bytes it is written in: 100, 102, 11 or 2, by its kind.
     pub fn length(&self) -> usize {
         match self {
             Record::Register { .. } => 100,
             Record::Vote { .. } => 102,
             Record::Mint { .. } => 11,
+            Record::Turn { .. } => 2,
         }
     }
 
@@ -103,6 +111,7 @@ impl Record {
                 owner,
                 amount,
             } => write_mint(receiver.into(), index.into(), owner, amount, buffer),
+            Record::Turn { receiver } => write_turn(receiver.into(), buffer),
         };
         let written = written_from_code(self.length(), code);
         written.unwrap_or_else(|| nameless("writing a record", code))

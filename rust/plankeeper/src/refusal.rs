@@ -3,9 +3,8 @@
 use std::error::Error;
 use std::fmt::{self, Display, Formatter};
 
-/// Why a record or a call was refused: the seventeen causes of document 01's
-/// table, the last of which joined it later. A refused call has changed
-/// nothing.
+/// Why a record or a call was refused: the causes of document 01's table, of
+/// which those from 17 on joined it later. A refused call has changed nothing.
 ///
 /// Shown as text it is the table's sentence, which speaks that document's
 /// words: a pantry is a shard, a swap a transaction, an opening a genesis
@@ -22,7 +21,7 @@ use std::fmt::{self, Display, Formatter};
 #[non_exhaustive]
 #[repr(u8)]
 pub enum Refusal {
-    /// 1: the kind byte is none of 1, 2 and 3.
+    /// 1: the kind byte is none of 1 to 4.
     UnknownKind = 1,
     /// 2: there are no bytes, or fewer than the kind's length.
     TooShort = 2,
@@ -60,11 +59,13 @@ pub enum Refusal {
     /// one of the inputs here. Hand it in again once that one is decided here,
     /// which the first no on it is enough for.
     HeldOff = 17,
+    /// 19, turn: this shard is turned already.
+    TurnedAlready = 19,
 }
 
 impl Refusal {
     /// Every cause, in the order of the numbers.
-    pub const ALL: [Refusal; 17] = [
+    pub const ALL: [Refusal; 18] = [
         Refusal::UnknownKind,
         Refusal::TooShort,
         Refusal::OutOfRange,
@@ -82,7 +83,20 @@ impl Refusal {
         Refusal::BufferTooShort,
         Refusal::VoteNotGiven,
         Refusal::HeldOff,
+        Refusal::TurnedAlready,
     ];
+
+    /// Every cause by its number, for not every number has one.
+    const NUMBERED: [Option<Refusal>; 20] = {
+        let mut numbered = [None; 20];
+        let mut place = 0;
+        while place < Refusal::ALL.len() {
+            let refusal = Refusal::ALL[place];
+            numbered[refusal as usize] = Some(refusal);
+            place += 1;
+        }
+        numbered
+    };
 
     /// The cause's number in document 01's table.
     #[inline]
@@ -93,15 +107,14 @@ impl Refusal {
     /// The cause with this number, if there is one.
     #[inline]
     pub fn from_number(number: u8) -> Option<Self> {
-        let place = usize::from(number).checked_sub(1)?;
-        Refusal::ALL.get(place).copied()
+        *Refusal::NUMBERED.get(usize::from(number))?
     }
 }
 
 impl Display for Refusal {
     fn fmt(&self, f: &mut Formatter<'_>) -> fmt::Result {
         f.write_str(match self {
-            Refusal::UnknownKind => "kind not 1 to 3",
+            Refusal::UnknownKind => "kind not 1 to 4",
             Refusal::TooShort => "no bytes, or fewer than the kind's length",
             Refusal::OutOfRange => {
                 "field or count outside its range; pantry above 7; unused slot not zero"
@@ -120,6 +133,7 @@ impl Display for Refusal {
             Refusal::BufferTooShort => "writer: lent bytes fewer than the record",
             Refusal::VoteNotGiven => "round, kind 2: sender has not given this vote on this swap",
             Refusal::HeldOff => "kind 1: takes what an undecided swap is to make here",
+            Refusal::TurnedAlready => "kind 4: this pantry is turned already",
         })
     }
 }

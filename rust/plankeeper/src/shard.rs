@@ -59,6 +59,11 @@ impl Shard {
     pub fn outcome(&self, number: u32) -> Option<Outcome> {
         query::outcome(self.memory(), number)
     }
+
+    /// Whether it is turned: see [`turn`](Ledger::turn).
+    pub fn is_turned(&self) -> bool {
+        query::is_turned(self.memory())
+    }
 }
 
 /// Shows what it holds and knows.

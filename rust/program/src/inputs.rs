@@ -1,7 +1,7 @@
 //! Random and damaged inputs.
 
 use reference::{Record, encode};
-use weeks::{ClusterStyle, Rng, SEED, cluster_week_of};
+use weeks::{ClusterStyle, Rng, SEED, Turns, cluster_week_of};
 
 /// Ways to spoil a week's bytes; the case's number chooses one.
 pub const DAMAGES: [&str; 10] = [
@@ -102,9 +102,17 @@ fn leave_part(rng: &mut Rng, bytes: &mut Vec<u8>, starts: &[usize]) {
     bytes.drain(..from);
 }
 
+/// Any style, with turns or without.
+fn style(rng: &mut Rng, short: bool) -> ClusterStyle {
+    let style = unturned_style(rng, short);
+    let turns = Turns::random(rng, style.calls);
+    ClusterStyle { turns, ..style }
+}
+
 /// Some forty records on average, without the short ones; now and then a week
 /// that fills a shard.
-fn style(rng: &mut Rng, short: bool) -> ClusterStyle {
+fn unturned_style(rng: &mut Rng, short: bool) -> ClusterStyle {
+    let turns = Turns::NEVER;
     let damage = rng.pick(&[None, None, Some(40), Some(8)]);
     if short {
         return ClusterStyle {
@@ -115,6 +123,7 @@ fn style(rng: &mut Rng, short: bool) -> ClusterStyle {
             new: 20,
             due: 50,
             damage,
+            turns,
         };
     }
     if rng.once_in(100) {
@@ -127,6 +136,7 @@ fn style(rng: &mut Rng, short: bool) -> ClusterStyle {
             new: 40,
             due: 30,
             damage,
+            turns,
         };
     }
     ClusterStyle {
@@ -137,6 +147,7 @@ fn style(rng: &mut Rng, short: bool) -> ClusterStyle {
         new: rng.pick(&[10, 14, 20]),
         due: rng.pick(&[40, 55]),
         damage,
+        turns,
     }
 }
 
@@ -147,7 +158,7 @@ fn random_bytes(rng: &mut Rng) -> Vec<u8> {
     if rng.once_in(2) {
         let mut place = 0;
         while place < bytes.len() {
-            let (kind, length) = rng.pick(&[(1, 100), (2, 102), (3, 11)]);
+            let (kind, length) = rng.pick(&[(1, 100), (2, 102), (3, 11), (4, 2)]);
             bytes[place] = kind;
             place += length;
         }

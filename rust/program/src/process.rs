@@ -17,8 +17,8 @@ pub const CHUNKS: [usize; 5] = [1, 7, 102, 4_096, 65_537];
 pub const PATIENCE: Duration = Duration::from_secs(20);
 
 /// Input whose listing surely fits into a pipe (64 KiB), so that nobody has to
-/// read while it is written: a line has 20 bytes or less for 11 of input.
-const SHORT: usize = 24 * 1024;
+/// read while it is written: a line has 20 bytes or less for 2 of input.
+const SHORT: usize = 6 * 1024;
 
 /// The repository's root.
 pub fn root() -> &'static Path {

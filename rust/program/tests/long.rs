@@ -4,23 +4,26 @@ use std::time::Instant;
 
 use program::{CHUNKS, assert_same, encode_all, list};
 use reference::{VOTE_LENGTH, listing};
-use weeks::{ClusterStyle, Rng, SEED, cluster_week, cluster_week_of};
+use weeks::{ClusterStyle, Rng, SEED, Turns, cluster_week, cluster_week_of};
 
 const BUFFER: usize = 65_536;
 const MILLION: usize = 1_000_000;
 
 /// A week of all shards, long enough to fill the buffer more than once.
 fn long_week(number: u64) -> (Vec<u8>, Vec<usize>) {
+    let rng = &mut Rng::new(SEED, number);
+    let calls = 1_000 + 300 * number as usize % 1_500;
     let style = ClusterStyle {
-        calls: 1_000 + 300 * number as usize % 1_500,
+        calls,
         shards: 8,
         mints: 12,
         amounts: 9_000,
         new: 10,
         due: 50,
         damage: Some(50),
+        turns: Turns::random(rng, calls),
     };
-    encode_all(&cluster_week_of(&mut Rng::new(SEED, number), style))
+    encode_all(&cluster_week_of(rng, style))
 }
 
 #[test]
@@ -56,6 +59,22 @@ fn ends_around_the_buffers_end() {
         }
     }
     println!("{inputs} inputs");
+}
+
+/// The shortest records, whose lines are many times as long as they are: one
+/// buffer of input brings nine of text.
+#[test]
+fn turns_alone() {
+    let turns = (0..100_000_u32).map(|turn| [4, (turn % 9) as u8]);
+    let bytes: Vec<u8> = turns.flatten().collect();
+    let expected = listing(&bytes);
+    assert!(expected.len() > 9 * bytes.len(), "{}", expected.len());
+    assert!(expected.starts_with(b"1 0 TURNED\n2 1 TURNED\n"));
+    assert!(expected.ends_with(b"\n99999 - REFUSED 3\n100000 0 REFUSED 19\nTOTAL 0\n"));
+    for chunk in &CHUNKS[1..] {
+        let name = format!("turns alone, writes of {chunk}");
+        assert_same(&list(&bytes, *chunk), &expected, &bytes, &name);
+    }
 }
 
 /// Random weeks one behind the other, again and again: most calls are refused

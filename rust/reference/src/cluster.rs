@@ -49,6 +49,7 @@ impl Cluster {
                 owner,
                 amount,
             } => self.mint(receiver, index, owner, amount),
+            Record::Turn { receiver } => self.turn(receiver),
         }
     }
 
@@ -79,6 +80,12 @@ impl Cluster {
             return Err(VoteNotGiven);
         }
         self.shard(receiver)?.note(sender, verdict, transaction)
+    }
+
+    /// Turns one shard to the rule that an abort ends its pledges (document 02,
+    /// slip 4). The others stay as they are: shards may turn at different times.
+    pub fn turn(&mut self, receiver: u8) -> Answer {
+        self.shard(receiver)?.turn(receiver)
     }
 
     fn shard(&mut self, number: u8) -> Result<&mut Shard, Refusal> {

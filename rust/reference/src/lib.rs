@@ -20,8 +20,8 @@ mod transaction;
 pub use cluster::Cluster;
 pub use listing::{list, listing};
 pub use record::{
-    MINT_LENGTH, REGISTER_LENGTH, Reading, Record, VOTE_LENGTH, decode, encode, read, read_inline,
-    rest, write,
+    MINT_LENGTH, REGISTER_LENGTH, Reading, Record, TURN_LENGTH, VOTE_LENGTH, decode, encode, read,
+    read_inline, rest, write,
 };
 pub use refusal::Refusal;
 pub use shard::{Answer, Done, Known, LIMITS, Limits, Outcome, Shard, Token, Verdict};

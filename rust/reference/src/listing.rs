@@ -105,7 +105,8 @@ fn receiver(record: &Record) -> u8 {
     match *record {
         Record::Register { receiver, .. }
         | Record::Vote { receiver, .. }
-        | Record::Mint { receiver, .. } => receiver,
+        | Record::Mint { receiver, .. }
+        | Record::Turn { receiver } => receiver,
     }
 }
 
@@ -146,5 +147,6 @@ fn words(done: Done) -> &'static str {
         Done::Again(Wait) => "AGAIN WAIT",
         Done::Again(Commit) => "AGAIN COMMIT",
         Done::Again(Abort) => "AGAIN ABORT",
+        Done::Turned => "TURNED",
     }
 }

@@ -8,6 +8,7 @@ use crate::{Refusal, Refusal::*};
 const REGISTER: u8 = 1;
 const VOTE: u8 = 2;
 const MINT: u8 = 3;
+const TURN: u8 = 4;
 
 const INPUT_LENGTH: usize = 14;
 const OUTPUT_LENGTH: usize = 9;
@@ -19,6 +20,8 @@ pub const REGISTER_LENGTH: usize = 2 + TRANSACTION_LENGTH;
 pub const VOTE_LENGTH: usize = 4 + TRANSACTION_LENGTH;
 /// Bytes of a mint record.
 pub const MINT_LENGTH: usize = 11;
+/// Bytes of a turn record.
+pub const TURN_LENGTH: usize = 2;
 
 /// A record's fields. The reader gives fields in range only; the writer is
 /// handed any.
@@ -53,6 +56,12 @@ pub enum Record {
         /// Document 01: portions.
         amount: u32,
     },
+    /// Turns a shard to the rule that an abort ends its pledges (document 02,
+    /// slip 4: kind 4).
+    Turn {
+        /// Document 01: receiving pantry.
+        receiver: u8,
+    },
 }
 
 /// The reader's answer.
@@ -78,6 +87,7 @@ pub fn read_inline(bytes: &[u8]) -> Reading {
         Some(&REGISTER) => read_whole(bytes, read_register),
         Some(&VOTE) => read_whole(bytes, read_vote),
         Some(&MINT) => read_whole(bytes, read_mint),
+        Some(&TURN) => read_whole(bytes, read_turn),
         Some(_) => Reading {
             outcome: Err(UnknownKind),
             taken: bytes.len(),
@@ -96,6 +106,7 @@ pub fn rest(bytes: &[u8]) -> &[u8] {
         Some(&REGISTER) => REGISTER_LENGTH,
         Some(&VOTE) => VOTE_LENGTH,
         Some(&MINT) => MINT_LENGTH,
+        Some(&TURN) => TURN_LENGTH,
         _ => bytes.len(),
     };
     &bytes[length.min(bytes.len())..]
@@ -136,8 +147,12 @@ pub fn write(record: &Record, buffer: &mut [u8]) -> Result<usize, Refusal> {
             check_mint(receiver, index, owner, amount)?;
             let [o0, o1, o2, o3] = owner.to_be_bytes();
             let [a0, a1, a2, a3] = amount.to_be_bytes();
-            *room::<MINT_LENGTH>(buffer)? = [MINT, receiver, index, o0, o1, o2, o3, a0, a1, a2, a3];
-            Ok(MINT_LENGTH)
+            let bytes = [MINT, receiver, index, o0, o1, o2, o3, a0, a1, a2, a3];
+            put(bytes, buffer)
+        }
+        Record::Turn { receiver } => {
+            check_turn(receiver)?;
+            put([TURN, receiver], buffer)
         }
     }
 }
@@ -172,6 +187,10 @@ pub fn decode(bytes: &[u8]) -> Option<Record> {
                 owner: u32::from_be_bytes([o0, o1, o2, o3]),
                 amount: u32::from_be_bytes([a0, a1, a2, a3]),
             }
+        }
+        TURN => {
+            let &[_, receiver] = bytes.first_chunk::<TURN_LENGTH>()?;
+            Record::Turn { receiver }
         }
         _ => return None,
     })
@@ -210,7 +229,14 @@ pub fn encode(record: &Record, bytes: &mut Vec<u8>) {
             bytes.extend(owner.to_be_bytes());
             bytes.extend(amount.to_be_bytes());
         }
+        Record::Turn { receiver } => bytes.extend([TURN, receiver]),
     }
+}
+
+/// Puts a whole record to the front of the buffer, and gives its length.
+fn put<const N: usize>(record: [u8; N], buffer: &mut [u8]) -> Result<usize, Refusal> {
+    *room(buffer)? = record;
+    Ok(N)
 }
 
 /// The front of the buffer, if a record of `N` bytes has room there.
@@ -274,6 +300,13 @@ fn read_mint(bytes: &[u8; MINT_LENGTH]) -> Result<Record, Refusal> {
     })
 }
 
+#[inline(always)]
+fn read_turn(bytes: &[u8; TURN_LENGTH]) -> Result<Record, Refusal> {
+    let &[_, receiver] = bytes;
+    check_turn(receiver)?;
+    Ok(Record::Turn { receiver })
+}
+
 // The reader and the writer refuse the same fields, so they share the checks.
 
 #[inline(always)]
@@ -297,6 +330,15 @@ fn check_vote(
 #[inline(always)]
 fn check_mint(receiver: u8, index: u8, owner: u32, amount: u32) -> Result<(), Refusal> {
     if receiver <= MAX_SHARD && index < GENESIS && holding_fits(owner, amount) {
+        Ok(())
+    } else {
+        Err(OutOfRange)
+    }
+}
+
+#[inline(always)]
+fn check_turn(receiver: u8) -> Result<(), Refusal> {
+    if receiver <= MAX_SHARD {
         Ok(())
     } else {
         Err(OutOfRange)

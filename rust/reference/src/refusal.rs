@@ -3,7 +3,7 @@
 #[derive(Clone, Copy, Debug, PartialEq, Eq)]
 #[repr(u8)]
 pub enum Refusal {
-    /// The kind byte is none of 1, 2 and 3.
+    /// The kind byte is none of 1 to 4.
     UnknownKind = 1,
     /// No bytes, or fewer than the kind's length.
     TooShort = 2,
@@ -39,6 +39,8 @@ pub enum Refusal {
     VoteNotGiven = 16,
     /// Register: an undecided transaction known here is to make an input here.
     HeldOff = 17,
+    /// Turn: this shard is turned already.
+    TurnedAlready = 19,
 }
 
 impl Refusal {
@@ -67,6 +69,7 @@ impl Refusal {
             15 => Self::BufferTooShort,
             16 => Self::VoteNotGiven,
             17 => Self::HeldOff,
+            19 => Self::TurnedAlready,
             _ => return None,
         })
     }

@@ -23,7 +23,8 @@ pub enum Outcome {
     /// All votes were heard and are yes; the tokens here are exchanged.
     Commit,
     /// Some vote heard is no, whatever is still missing (document 02, slip 5);
-    /// no token has changed.
+    /// no token has changed but for its pledge, which ends where the shard is
+    /// turned (slip 4).
     Abort,
 }
 
@@ -44,6 +45,8 @@ pub enum Done {
     Heard(Outcome),
     /// The same vote was heard before; the outcome here.
     Again(Outcome),
+    /// An abort ends its pledges here from now on (document 02, slip 4).
+    Turned,
 }
 
 /// The answer to a call.
@@ -100,6 +103,7 @@ pub struct Shard {
     tokens: Vec<Token>,
     given: Vec<bool>,
     known: Vec<Known>,
+    turned: bool,
 }
 
 impl Token {
@@ -142,6 +146,7 @@ impl Shard {
             tokens: Vec::with_capacity(limits.tokens),
             given: vec![false; limits.genesis.into()],
             known: Vec::with_capacity(limits.transactions),
+            turned: false,
         }
     }
 
@@ -163,6 +168,11 @@ impl Shard {
     /// The transactions known, in order of registration.
     pub fn known(&self) -> &[Known] {
         &self.known
+    }
+
+    /// Whether an abort ends its pledges here.
+    pub fn is_turned(&self) -> bool {
+        self.turned
     }
 
     /// The sum of the amounts held.
@@ -192,6 +202,7 @@ impl Shard {
                 owner,
                 amount,
             } => self.mint(receiver, index, owner, amount),
+            Record::Turn { receiver } => self.turn(receiver),
         }
     }
 
@@ -267,6 +278,25 @@ impl Shard {
     ) -> Answer {
         let verdict = self.check_vote(receiver, sender, verdict, transaction)?;
         self.note(sender, verdict, transaction)
+    }
+
+    /// Turns the shard, for the rest of the week (document 02, slip 4): what is
+    /// pledged to transactions that it has aborted comes free, and from now on
+    /// each abort frees what is pledged to its transaction.
+    pub fn turn(&mut self, receiver: u8) -> Answer {
+        if receiver != self.number {
+            return Err(OutOfRange);
+        }
+        if self.turned {
+            return Err(TurnedAlready);
+        }
+        self.turned = true;
+        for place in 0..self.known.len() {
+            if self.known[place].outcome() == Outcome::Abort {
+                self.free(place);
+            }
+        }
+        Ok(Done::Turned)
     }
 
     /// The checks of a vote that its fields and this shard's number decide,
@@ -383,14 +413,25 @@ impl Shard {
     }
 
     /// The outcome after a verdict was added; a commit is carried out at once,
-    /// and once only, for it takes the last vote. An abort changes no token:
-    /// pledges stay.
+    /// and once only, for it takes the last vote. After an abort the pledges
+    /// stay, unless the shard is turned; a vote that comes later finds none.
     fn decide(&mut self, place: usize) -> Outcome {
         let outcome = self.known[place].outcome();
-        if outcome == Outcome::Commit {
-            self.commit(place);
+        match outcome {
+            Outcome::Commit => self.commit(place),
+            Outcome::Abort if self.turned => self.free(place),
+            Outcome::Abort | Outcome::Wait => {}
         }
         outcome
+    }
+
+    /// Ends all pledges to the known transaction at this place.
+    fn free(&mut self, place: usize) {
+        let number = self.known[place].transaction.number;
+        let tokens = self.tokens.iter_mut();
+        for token in tokens.filter(|token| token.pledge == Some(number)) {
+            token.pledge = None;
+        }
     }
 
     fn commit(&mut self, place: usize) {

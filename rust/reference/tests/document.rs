@@ -41,8 +41,8 @@ fn transaction() -> Transaction {
     }
 }
 
-/// The example's records, with their bytes.
-fn examples() -> [(Record, Vec<u8>); 3] {
+/// The example's records, and a turn, with their bytes.
+fn examples() -> [(Record, Vec<u8>); 4] {
     let transaction = transaction();
     let mint = Record::Mint {
         receiver: 1,
@@ -64,6 +64,7 @@ fn examples() -> [(Record, Vec<u8>); 3] {
         (mint, vec![3, 1, 0, 0, 0, 0, 20, 0, 0, 0, 2]),
         (register, [&[1, 0][..], &TRANSACTION].concat()),
         (vote, [&[2, 0, 1, 1][..], &TRANSACTION].concat()),
+        (Record::Turn { receiver: 7 }, vec![4, 7]),
     ]
 }
 
@@ -114,9 +115,9 @@ fn short_bytes_and_buffers() {
 
 #[test]
 fn unknown_kinds() {
-    for kind in (0..=255).filter(|kind| !(1..=3).contains(kind)) {
+    for kind in (0..=255).filter(|kind| !(1..=4).contains(kind)) {
         let bytes = [kind; 102];
-        for length in [1, 11, 102] {
+        for length in [1, 2, 11, 102] {
             let reading = read(&bytes[..length]);
             assert_eq!(reading, refused(Refusal::UnknownKind, length));
             assert!(rest(&bytes[..length]).is_empty());
@@ -127,7 +128,7 @@ fn unknown_kinds() {
 /// A refused record's length is known, so that reading can go on behind it.
 #[test]
 fn refused_records_are_stepped_over() {
-    let [(_, mint), (_, register), (_, vote)] = examples();
+    let [(_, mint), (_, register), (_, vote), _] = examples();
     let mut high_receiver = mint.clone();
     high_receiver[1] = 8;
     let mut same_token = register.clone();
@@ -138,6 +139,7 @@ fn refused_records_are_stepped_over() {
     unbalanced[101 - 27] = 1;
     let cases = [
         (high_receiver, refused(Refusal::OutOfRange, 11)),
+        (vec![4, 8], refused(Refusal::OutOfRange, 2)),
         (same_token, refused(Refusal::TokenTwice, 100)),
         (other_verdict, refused(Refusal::OutOfRange, 102)),
         (unbalanced, refused(Refusal::SumsDiffer, 102)),
@@ -194,5 +196,6 @@ fn shards_that_take_part() {
 fn refusals_have_the_numbers_of_the_documents() {
     let known = (0..=255).filter_map(Refusal::from_number);
     let numbers: Vec<u8> = known.map(Refusal::number).collect();
-    assert_eq!(numbers, (1..=17).collect::<Vec<u8>>());
+    let documents: Vec<u8> = (1..=17).chain([19]).collect();
+    assert_eq!(numbers, documents);
 }

@@ -24,6 +24,10 @@ fn vote(verdict: u8, sender: u8, receiver: u8, transaction: Transaction) -> Reco
     }
 }
 
+fn turn(receiver: u8) -> Record {
+    Record::Turn { receiver }
+}
+
 fn bytes(records: &[Record]) -> Vec<u8> {
     let mut bytes = Vec::new();
     for record in records {
@@ -119,6 +123,7 @@ fn cut_records() {
         mint(0, 1, 10, 3),
         register(0, five()),
         vote(1, 1, 0, five()),
+        turn(0),
     ] {
         let front = bytes(&[mint(7, 127, 10, 1_000_000)]);
         let whole = bytes(&[record]);
@@ -132,7 +137,7 @@ fn cut_records() {
 /// Nothing behind an unknown kind is read, however many bytes there are.
 #[test]
 fn unknown_kinds() {
-    for kind in (0..=255).filter(|kind| !(1..=3).contains(kind)) {
+    for kind in (0..=255).filter(|kind| !(1..=4).contains(kind)) {
         shows(&[kind], &["1 - REFUSED 1", "TOTAL 0"]);
         let front = bytes(&[mint(3, 0, 10, 4)]);
         let behind = bytes(&[mint(4, 0, 10, 5)]);
@@ -168,6 +173,8 @@ fn damaged_records_in_the_middle() {
             vote(1, 8, 0, five()),
             vote(1, 0, 0, twice),
             vote(1, 0, 0, unbalanced),
+            turn(8),
+            turn(255),
             mint(0, 1, 20, 1_000_000),
         ]),
         &[
@@ -186,7 +193,9 @@ fn damaged_records_in_the_middle() {
             "13 - REFUSED 3",
             "14 - REFUSED 4",
             "15 - REFUSED 5",
-            "16 0 OPENED",
+            "16 - REFUSED 3",
+            "17 - REFUSED 3",
+            "18 0 OPENED",
             "TOTAL 1000003",
         ],
     );
@@ -370,6 +379,36 @@ fn one_no() {
     );
 }
 
+/// A token bound by an abort comes free with the turn and is spent; the pantry is
+/// shown, also where it is turned already.
+#[test]
+fn turned() {
+    let bound = transaction(5, &[(0, 0, 0, 10, 3), (0, 0, 1, 10, 1)], &[(0, 20, 4)]);
+    let vain = transaction(6, &[(0, 0, 0, 10, 3)], &[(0, 20, 3)]);
+    let spent = transaction(7, &[(0, 0, 0, 10, 3)], &[(0, 20, 3)]);
+    shows(
+        &bytes(&[
+            mint(0, 0, 10, 3),
+            register(0, bound),
+            register(0, vain),
+            turn(0),
+            turn(0),
+            turn(7),
+            register(0, spent),
+        ]),
+        &[
+            "1 0 OPENED",
+            "2 0 NO ABORT",
+            "3 0 NO ABORT",
+            "4 0 TURNED",
+            "5 0 REFUSED 19",
+            "6 7 TURNED",
+            "7 0 YES COMMIT",
+            "TOTAL 3",
+        ],
+    );
+}
+
 #[test]
 fn the_32nd_and_the_33rd_swap() {
     let give = |number| transaction(number, &[(1, 0, 0, 10, 3)], &[(0, 10, 3)]);
@@ -462,7 +501,7 @@ fn a_failing_output_is_told() {
 /// read and write, and against each other elsewhere.
 #[test]
 fn fields_in_range_and_out_of_it() {
-    for record in example() {
+    for record in example().into_iter().chain([turn(7)]) {
         let mut written = [0; 102];
         let length = write(&record, &mut written).expect("the record is valid");
         let encoded = bytes(&[record]);
@@ -478,9 +517,10 @@ fn fields_in_range_and_out_of_it() {
         register(9, strange),
         vote(7, 200, 255, strange),
         mint(99, 255, 0, u32::MAX),
+        turn(8),
     ] {
         assert_eq!(decode(&bytes(&[record])), Some(record));
     }
     assert_eq!(decode(&[]), None);
-    assert_eq!(decode(&[4; 200]), None);
+    assert_eq!(decode(&[5; 200]), None);
 }

@@ -183,7 +183,7 @@ fn every_three_votes() {
     }
 }
 
-/// An abort changes no token, early or late.
+/// At a shard that is not turned an abort changes no token, early or late.
 #[test]
 fn pledges_stay() {
     let mut shard = waiting(LIMITS);

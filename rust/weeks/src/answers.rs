@@ -31,7 +31,8 @@ pub struct Reply {
     pub words: &'static str,
     /// A letter for each who gives it, none where it cannot be: r for the
     /// reader, w for the writers, m for a mint, g for a registration, v for a
-    /// vote; s for a vote at a lone shard alone, c for one in a cluster alone.
+    /// vote, t for a turn; s for a vote at a lone shard alone, c for one in a
+    /// cluster alone.
     givers: &'static str,
 }
 
@@ -69,6 +70,7 @@ pub const DONE: &[Reply] = &[
     done(400, Done::Again(Wait), "AGAIN WAIT", "v"),
     done(401, Done::Again(Commit), "AGAIN COMMIT", "v"),
     done(402, Done::Again(Abort), "AGAIN ABORT", "v"),
+    done(500, Done::Turned, "TURNED", "t"),
 ];
 
 const fn done(code: u32, done: Done, words: &'static str, givers: &'static str) -> Reply {
@@ -103,14 +105,14 @@ macro_rules! cause {
 }
 
 /// Every cause of refusal, in the order of the numbers. The reader checks 1 to
-/// 5, the writers 3 to 5 and 15, a call from 3 on; a mint has no transaction,
-/// so neither 4 nor 5 nor 6. In a cluster 16 goes before 12. A registration
-/// looks for 17 last. A row is a line.
+/// 5, the writers 3 to 5 and 15, a call from 3 on; a mint and a turn have no
+/// transaction, so neither 4 nor 5 nor 6. In a cluster 16 goes before 12. A
+/// registration looks for 17 last. A row is a line.
 #[rustfmt::skip]
 pub const CAUSES: &[Cause] = &[
-    cause!(1, UnknownKind, "r", "UNKNOWN_KIND", "kind not 1 to 3"),
+    cause!(1, UnknownKind, "r", "UNKNOWN_KIND", "kind not 1 to 4"),
     cause!(2, TooShort, "r", "TOO_SHORT", "no bytes, or fewer than the kind's length"),
-    cause!(3, OutOfRange, "rwmgv", "OUT_OF_RANGE", "field or count outside its range; pantry above 7; unused slot not zero"),
+    cause!(3, OutOfRange, "rwmgvt", "OUT_OF_RANGE", "field or count outside its range; pantry above 7; unused slot not zero"),
     cause!(4, TokenTwice, "rwgv", "TOKEN_TWICE", "one token named twice"),
     cause!(5, SumsDiffer, "rwgv", "SUMS_DIFFER", "sums differ"),
     cause!(6, NotTakingPart, "gv", "NOT_TAKING_PART", "receiver or sender not among the swap's pantries"),
@@ -125,6 +127,7 @@ pub const CAUSES: &[Cause] = &[
     cause!(15, BufferTooShort, "w", "BUFFER_TOO_SHORT", "writer: lent bytes fewer than the record"),
     cause!(16, VoteNotGiven, "c", "VOTE_NOT_GIVEN", "round, kind 2: sender has not given this vote on this swap"),
     cause!(17, HeldOff, "g", "HELD_OFF", "kind 1: takes what an undecided swap is to make here"),
+    cause!(19, TurnedAlready, "t", "TURNED_ALREADY", "kind 4: this pantry is turned already"),
 ];
 
 impl Giver {
@@ -133,8 +136,8 @@ impl Giver {
         match self {
             Giver::Reader => &['r'],
             Giver::Writer => &['w'],
-            Giver::Shard => &['m', 'g', 'v', 's'],
-            Giver::Cluster => &['m', 'g', 'v', 'c'],
+            Giver::Shard => &['m', 'g', 'v', 't', 's'],
+            Giver::Cluster => &['m', 'g', 'v', 't', 'c'],
         }
     }
 }

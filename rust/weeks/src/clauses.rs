@@ -14,6 +14,8 @@ pub struct View<'a> {
     pub tokens: &'a [Token],
     /// The transactions known, in order of registration.
     pub known: &'a [Known],
+    /// Whether it is turned.
+    pub turned: bool,
 }
 
 /// The reference's shards.
@@ -21,6 +23,7 @@ pub fn views(cluster: &Cluster) -> [View<'_>; SHARDS] {
     cluster.shards().each_ref().map(|shard| View {
         tokens: shard.tokens(),
         known: shard.known(),
+        turned: shard.is_turned(),
     })
 }
 
@@ -37,6 +40,7 @@ struct Entry {
 struct Kept {
     tokens: Vec<Token>,
     known: Vec<Known>,
+    turned: bool,
 }
 
 impl Kept {
@@ -44,6 +48,7 @@ impl Kept {
         View {
             tokens: &self.tokens,
             known: &self.known,
+            turned: self.turned,
         }
     }
 }
@@ -70,7 +75,8 @@ impl Clauses {
 
     /// Follows one call: whether it was refused, and the shards after it.
     /// Checks that a refused call changes nothing and any other only its
-    /// receiver, agreement, finality and the commit rule.
+    /// receiver, what becomes of pledges, agreement, finality and the commit
+    /// rule.
     pub fn step(&mut self, record: &Record, refused: bool, after: &[View; SHARDS]) {
         let receiver = usize::from(crate::receiver(record));
         for (number, (before, after)) in self.before.iter().zip(after).enumerate() {
@@ -82,7 +88,9 @@ impl Clauses {
             return;
         }
         let now = after[receiver];
+        check_turned(record, &self.before[receiver], now);
         self.note(record, receiver, now);
+        check_pledges(record, &self.before[receiver], now);
         for (place, known) in now.known.iter().enumerate() {
             if let Some(earlier) = self.before[receiver].known.get(place) {
                 check_finality(earlier, known);
@@ -96,6 +104,7 @@ impl Clauses {
         kept.tokens.extend(now.tokens);
         kept.known.clear();
         kept.known.extend(now.known);
+        kept.turned = now.turned;
     }
 
     /// Notes what a call that was carried out has brought. Checks that the
@@ -103,6 +112,7 @@ impl Clauses {
     fn note(&mut self, record: &Record, receiver: usize, now: View) {
         let before = &self.before[receiver];
         match record {
+            Record::Turn { .. } => {}
             Record::Mint {
                 receiver,
                 index,
@@ -132,11 +142,7 @@ impl Clauses {
                 ..
             } => {
                 assert_eq!(now.known.len(), before.known.len(), "known after a vote");
-                // Also after an abort: else it would never have heard all votes.
-                let mut known = now.known.iter();
-                let known = known.find(|known| known.transaction == *transaction);
-                let heard = known.and_then(|known| known.heard[usize::from(*sender)]);
-                assert!(heard.is_some(), "a vote was not noted");
+                check_noted(*sender, transaction, now);
             }
         }
     }
@@ -158,8 +164,10 @@ impl Clauses {
     }
 
     /// Runs the committed transactions one by one on one ledger, by last
-    /// registration. Where every one of them is decided at all its shards, that
-    /// ledger has to hold the shards' tokens; tells whether it was so.
+    /// registration. Each takes tokens that are there: where two have found one
+    /// token available, the one before and the other after it came free, never
+    /// both are committed. Where every one of them is decided at all its shards,
+    /// that ledger has to hold the shards' tokens; tells whether it was so.
     pub fn serial(&self) -> bool {
         let (committed, whole) = self.committed();
         let mut ledger = self.genesis.clone();
@@ -261,6 +269,66 @@ fn available(shard: u8, transaction: &Transaction, tokens: &[Token]) -> [bool; S
         });
     }
     available
+}
+
+/// A token but for its pledge: creator, index, owner, amount.
+type Named = (u32, u8, u32, u32);
+
+fn named(token: &Token) -> Named {
+    (token.creator, token.index, token.owner, token.amount)
+}
+
+/// Also after an abort: else the shard would never have heard all votes.
+fn check_noted(sender: u8, transaction: &Transaction, now: View) {
+    let mut known = now.known.iter();
+    let known = known.find(|known| known.transaction == *transaction);
+    let heard = known.and_then(|known| known.heard[usize::from(sender)]);
+    assert!(heard.is_some(), "a vote was not noted");
+}
+
+/// A shard is turned by its turn, once and for the whole week. The turn changes
+/// nothing else but pledges.
+fn check_turned(record: &Record, before: &Kept, now: View) {
+    let Record::Turn { .. } = record else {
+        assert_eq!(now.turned, before.turned, "turned without a turn");
+        return;
+    };
+    let turned = (before.turned, now.turned);
+    assert_eq!(turned, (false, true), "turned before and after");
+    assert_eq!(now.known, before.known, "known after a turn");
+    let names = |tokens: &[Token]| -> Vec<Named> { tokens.iter().map(named).collect() };
+    let (now, before) = (names(now.tokens), names(&before.tokens));
+    assert_eq!(now, before, "tokens after a turn");
+}
+
+/// A pledge begins with the registration of its transaction. Of a token that is
+/// still held it ends only where the shard is turned and has aborted that
+/// transaction; and there it has ended.
+fn check_pledges(record: &Record, before: &Kept, now: View) {
+    let registered = match record {
+        Record::Register { transaction, .. } => Some(transaction.number),
+        _ => None,
+    };
+    let aborted = |number: u32| {
+        let mut known = now.known.iter();
+        let known = known.find(|known| known.transaction.number == number);
+        known.is_some_and(|known| outcome(known) == Outcome::Abort)
+    };
+    for token in now.tokens {
+        let ended = |number| now.turned && aborted(number);
+        if let Some(number) = token.pledge {
+            assert!(!ended(number), "pledged to {number}, which is aborted");
+        }
+        let mut earlier = before.tokens.iter();
+        let earlier = earlier.find(|earlier| named(earlier) == named(token));
+        let pledge = earlier.and_then(|earlier| earlier.pledge);
+        match (pledge, token.pledge) {
+            (before, now) if before == now => {}
+            (Some(number), None) => assert!(ended(number), "a pledge to {number} has ended"),
+            (None, begun) => assert_eq!(begun, registered, "a pledge has begun"),
+            (before, now) => panic!("a pledge to {before:?} is one to {now:?}"),
+        }
+    }
 }
 
 /// A verdict heard stays, and so does the decision, while votes still come in.

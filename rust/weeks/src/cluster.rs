@@ -6,7 +6,7 @@ use reference::{
 
 use crate::rng::Rng;
 use crate::transactions::{add_input, known, transfer, variant};
-use crate::week::{Plan, Week, Wrong};
+use crate::week::{Plan, Turns, Week, Wrong};
 
 /// What a week is like.
 #[derive(Clone, Copy, Debug)]
@@ -25,13 +25,16 @@ pub struct ClusterStyle {
     pub due: usize,
     /// One record in so many is damaged.
     pub damage: Option<usize>,
+    /// When shards are turned.
+    pub turns: Turns,
 }
 
 impl ClusterStyle {
     /// Any style.
     pub fn random(rng: &mut Rng) -> Self {
         let damage = rng.pick(&[None, Some(60), Some(20), Some(6)]);
-        match rng.below(16) {
+        let turns = Turns::NEVER;
+        let style = match rng.below(16) {
             // A shard or two that run full.
             0 => ClusterStyle {
                 calls: 500 + rng.below(300),
@@ -41,6 +44,7 @@ impl ClusterStyle {
                 new: 14,
                 due: 50,
                 damage,
+                turns,
             },
             _ => {
                 let shards = rng.pick(&[1, 2, 2, 3, 3, 4, 8]);
@@ -53,9 +57,12 @@ impl ClusterStyle {
                     new: rng.pick(&[6, 10, 14]),
                     due: rng.pick(&[20, 40, 55]),
                     damage,
+                    turns,
                 }
             }
-        }
+        };
+        let turns = Turns::random(rng, style.calls);
+        ClusterStyle { turns, ..style }
     }
 }
 
@@ -73,12 +80,15 @@ pub fn cluster_week_of(rng: &mut Rng, style: ClusterStyle) -> Vec<Record> {
         calls: style.calls,
         amounts: style.amounts,
         damage: style.damage,
+        turns: style.turns,
     };
     let mut week = Week::new(rng, style, plan, Cluster::new(LIMITS), next);
     let shards = (0..style.shards).map(|number| ((first + number) % 8) as u8);
     week.shards = shards.collect();
+    week.turn();
     week.mints();
     while !week.is_over() {
+        week.turn();
         week.step();
     }
     week.records

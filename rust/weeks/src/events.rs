@@ -1,8 +1,8 @@
 //! What happened at a call, beside its answer.
 
 use reference::{
-    Answer, Done, Input, Known, LIMITS, Outcome, Output, Record, Refusal, Shard, Token, TokenId,
-    Transaction, Verdict,
+    Answer, Done, Input, Known, LIMITS, Outcome, Output, Record, Refusal, SHARDS, Shard, Token,
+    TokenId, Transaction, Verdict, takes_part,
 };
 
 use crate::answers::label;
@@ -41,16 +41,43 @@ pub const EARLY_ABORTS: [&str; 7] = [
     "not held off, another aborted early",
 ];
 
-/// What only a cluster shows.
-pub const CLUSTER_EVENTS: [&str; 2] = ["vote overtaking another", "two commits of one number"];
+/// What a turned shard brings, and what one keeps that is not turned. Tokens are
+/// counted one by one.
+pub const TURNS: [&str; 9] = [
+    "freed by a turn",
+    "pledged over a turn",
+    "freed by a no heard early",
+    "freed by a no heard last",
+    "freed by its own no",
+    "freed and pledged again",
+    "freed and spent",
+    "committed at a turned shard",
+    "no, pledged to an aborted one",
+];
+
+/// What only a cluster shows. How many of its shards are turned is counted once
+/// a week, with the first call after which it is so.
+pub const CLUSTER_EVENTS: [&str; 7] = [
+    "vote overtaking another",
+    "two commits of one number",
+    NONE_TURNED,
+    SOME_TURNED,
+    ALL_TURNED,
+    "committed, turned at some of its shards",
+    "aborted, turned at some of its shards",
+];
+
+const NONE_TURNED: &str = "none turned";
+const SOME_TURNED: &str = "some turned";
+const ALL_TURNED: &str = "all eight turned";
 
 /// What has to be noted before a call, to tell what the call did.
-#[derive(Clone, Copy, Debug)]
+#[derive(Clone, Debug)]
 pub struct Before {
     /// The receiving shard's place among the shards.
     pub place: usize,
-    pledged: usize,
-    held: usize,
+    /// The tokens that it held.
+    tokens: Vec<Token>,
 }
 
 impl Before {
@@ -59,18 +86,16 @@ impl Before {
     pub fn of(shards: &[Shard], record: &Record) -> Option<Self> {
         let number = receiver(record);
         let place = shards.iter().position(|shard| shard.number() == number)?;
-        let shard = &shards[place];
         Some(Before {
             place,
-            pledged: pledged(shard),
-            held: shard.tokens().len(),
+            tokens: shards[place].tokens().to_vec(),
         })
     }
-}
 
-fn pledged(shard: &Shard) -> usize {
-    let tokens = shard.tokens().iter();
-    tokens.filter(|token| token.pledge.is_some()).count()
+    /// Those tokens that were pledged.
+    fn pledged(&self) -> impl Iterator<Item = &Token> {
+        self.tokens.iter().filter(|token| token.pledge.is_some())
+    }
 }
 
 /// Counts a week's answers and events, call by call.
@@ -79,12 +104,17 @@ pub struct Events<'a> {
     pub tally: &'a mut Tally,
     /// The transactions held off so far, each with its shard.
     held_off: Vec<(u8, Transaction)>,
+    /// The tokens that came free so far.
+    freed: Vec<TokenId>,
+    /// How many shards of the cluster are turned, in words.
+    turned: &'static str,
 }
 
 /// A registration or a vote that was carried out.
 struct Carried<'a> {
     transaction: &'a Transaction,
     done: Done,
+    before: &'a Before,
     /// The receiver after the call.
     shard: &'a Shard,
     /// The lone shard or all eight after the call.
@@ -97,6 +127,8 @@ impl Tally {
         Events {
             tally: self,
             held_off: Vec::new(),
+            freed: Vec::new(),
+            turned: "",
         }
     }
 }
@@ -112,6 +144,7 @@ impl Events<'_> {
         shards: &[Shard],
     ) {
         self.tally.add(label(answer));
+        self.count_turned(shards);
         let Some(before) = before else {
             return;
         };
@@ -126,18 +159,24 @@ impl Events<'_> {
         let carried = |transaction| Carried {
             transaction,
             done,
+            before: &before,
             shard,
             shards,
         };
         match record {
             Record::Mint { .. } => {}
-            Record::Register { transaction, .. } => self.register(&carried(transaction), before),
+            Record::Turn { .. } => self.turn(shard, &before),
+            Record::Register { transaction, .. } => self.register(&carried(transaction)),
             Record::Vote {
                 sender,
                 transaction,
                 ..
             } => self.vote(&carried(transaction), *sender),
         }
+        self.count_full(shard);
+    }
+
+    fn count_full(&mut self, shard: &Shard) {
         match shard.tokens().len() {
             127 => self.tally.add("127 tokens held"),
             128 => self.tally.add("128 tokens held"),
@@ -157,7 +196,42 @@ impl Events<'_> {
         self.held_off.push((shard.number(), *transaction));
     }
 
-    fn register(&mut self, call: &Carried, before: Before) {
+    /// Counts how many shards are turned, if that has become another word.
+    fn count_turned(&mut self, shards: &[Shard]) {
+        if shards.len() < SHARDS {
+            return;
+        }
+        let now = match shards.iter().filter(|shard| shard.is_turned()).count() {
+            0 => NONE_TURNED,
+            SHARDS => ALL_TURNED,
+            _ => SOME_TURNED,
+        };
+        if now != self.turned {
+            self.turned = now;
+            self.tally.add(now);
+        }
+    }
+
+    fn turn(&mut self, shard: &Shard, before: &Before) {
+        self.free("freed by a turn", shard, before);
+        let pledged = shard.tokens().iter().filter(|token| token.pledge.is_some());
+        for _ in pledged {
+            self.tally.add("pledged over a turn");
+        }
+    }
+
+    /// Counts the tokens that have lost their pledge and are still held.
+    fn free(&mut self, label: &str, shard: &Shard, before: &Before) {
+        for token in before.pledged() {
+            let id = id(shard.number(), token);
+            if held(shard.tokens(), id).is_some_and(|token| token.pledge.is_none()) {
+                self.tally.add(label);
+                self.freed.push(id);
+            }
+        }
+    }
+
+    fn register(&mut self, call: &Carried) {
         let Done::Registered { verdict, outcome } = call.done else {
             return;
         };
@@ -168,25 +242,51 @@ impl Events<'_> {
             Verdict::Yes if takes => {}
             Verdict::Yes => self.tally.add("yes, with outputs only"),
             Verdict::No => {
-                let more = pledged(call.shard) > before.pledged;
-                self.tally.add(if more {
-                    "no, with a pledge"
-                } else {
-                    "no, without a pledge"
-                });
+                self.pledges_of_no(call);
                 self.causes_of_no(call);
                 if !is_all_heard(call.known()) {
                     self.tally.add("aborted early, by its own no");
                 }
             }
         }
-        self.count_let_through(call, before);
+        for input in inputs_at(call.shard.number(), call.transaction) {
+            let token = held(call.shard.tokens(), input.token);
+            let pledged = token.is_some_and(|token| token.pledge == Some(call.transaction.number));
+            if pledged && self.freed.contains(&input.token) {
+                self.tally.add("freed and pledged again");
+            }
+        }
+        self.count_let_through(call);
         self.decide(call, outcome);
+    }
+
+    /// What a no has pledged: what was available, and at a turned shard it is
+    /// free again in the same call.
+    fn pledges_of_no(&mut self, call: &Carried) {
+        let here = call.shard.number();
+        let inputs = inputs_at(here, call.transaction);
+        let available = inputs.filter(|input| {
+            held(&call.before.tokens, input.token).is_some_and(|token| {
+                (token.owner, token.amount, token.pledge) == (input.owner, input.amount, None)
+            })
+        });
+        let available: Vec<TokenId> = available.map(|input| input.token).collect();
+        for &id in &available {
+            if held(call.shard.tokens(), id).is_some_and(|token| token.pledge.is_none()) {
+                self.tally.add("freed by its own no");
+                self.freed.push(id);
+            }
+        }
+        self.tally.add(if available.is_empty() {
+            "no, without a pledge"
+        } else {
+            "no, with a pledge"
+        });
     }
 
     /// Counts a registration that would have been refused if transactions that
     /// were aborted before all votes were in still waited for these votes.
-    fn count_let_through(&mut self, call: &Carried, before: Before) {
+    fn count_let_through(&mut self, call: &Carried) {
         let here = call.shard.number();
         let others = call.shard.known().iter();
         let others = others.filter(|known| known.transaction != *call.transaction);
@@ -195,7 +295,7 @@ impl Events<'_> {
         let outputs = open.iter().map(|open| outputs_at(here, open).count());
         let to_come: usize = outputs.sum();
         let new = outputs_at(here, call.transaction).count();
-        if before.held + to_come + new > LIMITS.tokens {
+        if call.before.tokens.len() + to_come + new > LIMITS.tokens {
             self.tally.add("not too full, another aborted early");
         }
         let makes = |open: &Transaction, token: TokenId| {
@@ -210,10 +310,7 @@ impl Events<'_> {
 
     fn causes_of_no(&mut self, call: &Carried) {
         for input in inputs_at(call.shard.number(), call.transaction) {
-            let named = |token: &&Token| {
-                token.creator == input.token.creator && token.index == input.token.index
-            };
-            match call.shard.tokens().iter().find(named) {
+            match held(&call.before.tokens, input.token) {
                 None => {
                     self.tally.add("no, token not held");
                     if undecided(call.shard, input.token.creator).is_some() {
@@ -222,8 +319,14 @@ impl Events<'_> {
                 }
                 Some(token) if token.owner != input.owner => self.tally.add("no, other owner"),
                 Some(token) if token.amount != input.amount => self.tally.add("no, other amount"),
-                Some(token) if token.pledge != Some(call.transaction.number) => {
+                Some(Token {
+                    pledge: Some(number),
+                    ..
+                }) => {
                     self.tally.add("no, token pledged");
+                    if outcome_of(call.shard, *number) == Some(Outcome::Abort) {
+                        self.tally.add("no, pledged to an aborted one");
+                    }
                 }
                 Some(_) => {}
             }
@@ -252,6 +355,9 @@ impl Events<'_> {
         if before.outcome() != Outcome::Abort {
             if outcome == Outcome::Abort && early {
                 self.tally.add("aborted early, by a no heard");
+                self.free("freed by a no heard early", call.shard, call.before);
+            } else if outcome == Outcome::Abort {
+                self.free("freed by a no heard last", call.shard, call.before);
             }
             return self.decide(call, outcome);
         }
@@ -272,6 +378,13 @@ impl Events<'_> {
             Outcome::Abort if held_off => self.tally.add("held off, later aborted"),
             _ => {}
         }
+        if call.is_mixed() {
+            match outcome {
+                Outcome::Wait => {}
+                Outcome::Commit => self.tally.add("committed, turned at some of its shards"),
+                Outcome::Abort => self.tally.add("aborted, turned at some of its shards"),
+            }
+        }
         if outcome == Outcome::Commit {
             self.commit(call);
         }
@@ -281,6 +394,14 @@ impl Events<'_> {
         let mut inputs = inputs_at(call.shard.number(), call.transaction);
         if inputs.any(|input| input.token.creator != 0) {
             self.tally.add("made token destroyed");
+        }
+        if call.shard.is_turned() {
+            self.tally.add("committed at a turned shard");
+        }
+        for input in inputs_at(call.shard.number(), call.transaction) {
+            if self.freed.contains(&input.token) {
+                self.tally.add("freed and spent");
+            }
         }
         // More tokens than there is space for were here in all.
         let genesis = call.shard.given().iter().filter(|&&given| given).count();
@@ -299,6 +420,14 @@ impl Carried<'_> {
     /// What the receiver now keeps of the transaction.
     fn known(&self) -> &Known {
         known(self.shard, self.transaction).expect("it is known after the call")
+    }
+
+    /// Whether some of the transaction's shards are turned, and some are not.
+    fn is_mixed(&self) -> bool {
+        let shards = self.shards.iter();
+        let mut its = shards.filter(|shard| takes_part(shard.number(), self.transaction));
+        let first = its.next().map(Shard::is_turned);
+        its.any(|shard| Some(shard.is_turned()) != first)
     }
 
     /// Whether an earlier vote of this sender is still on its way to the shard.
@@ -328,10 +457,36 @@ fn outputs_at(number: u8, transaction: &Transaction) -> impl Iterator<Item = (u8
     outputs.filter(move |(_, output)| output.shard == number)
 }
 
+/// The token of this shard among those that it holds.
+fn held(tokens: &[Token], id: TokenId) -> Option<&Token> {
+    let mut tokens = tokens.iter();
+    tokens.find(|token| (token.creator, token.index) == (id.creator, id.index))
+}
+
+/// The name of a token that the shard of this number holds.
+fn id(shard: u8, token: &Token) -> TokenId {
+    let &Token { creator, index, .. } = token;
+    TokenId {
+        shard,
+        creator,
+        index,
+    }
+}
+
+/// What the shard knows by this number.
+fn numbered(shard: &Shard, number: u32) -> Option<&Known> {
+    let mut known = shard.known().iter();
+    known.find(|known| known.transaction.number == number)
+}
+
+/// What the shard has decided on the transaction of this number.
+fn outcome_of(shard: &Shard, number: u32) -> Option<Outcome> {
+    numbered(shard, number).map(Known::outcome)
+}
+
 /// The undecided transaction that the shard knows by this number.
 fn undecided(shard: &Shard, number: u32) -> Option<&Transaction> {
-    let mut known = shard.known().iter();
-    let known = known.find(|known| known.transaction.number == number)?;
+    let known = numbered(shard, number)?;
     (known.outcome() == Outcome::Wait).then_some(&known.transaction)
 }
 

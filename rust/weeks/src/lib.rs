@@ -26,7 +26,7 @@ pub use answers::{
 pub use case::Case;
 pub use clauses::{Clauses, View, views};
 pub use cluster::{ClusterStyle, cluster_week, cluster_week_of};
-pub use events::{Before, CLUSTER_EVENTS, EARLY_ABORTS, Events, SHARD_EVENTS};
+pub use events::{Before, CLUSTER_EVENTS, EARLY_ABORTS, Events, SHARD_EVENTS, TURNS};
 pub use ledger::Playable;
 pub use orders::{Scenario, scenarios};
 pub use rng::Rng;
@@ -34,6 +34,7 @@ pub use shard::{ShardStyle, shard_week, shard_week_of};
 pub use share::{count_weeks, share_out};
 pub use tally::Tally;
 pub use transactions::{Part, amounts_between, part, receiver};
+pub use week::Turns;
 
 /// Start of every random sequence; a failure prints it with the case's number.
 pub const SEED: u64 = 0x5EED_0001;

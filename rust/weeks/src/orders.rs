@@ -20,10 +20,13 @@ enum Step {
         sender: u8,
         receiver: u8,
     },
+    Turn {
+        shard: u8,
+    },
 }
 
 /// Transactions on genesis tokens, with all their registrations and all
-/// deliveries.
+/// deliveries; and turns of shards.
 pub struct Scenario {
     /// For messages.
     pub name: &'static str,
@@ -172,6 +175,38 @@ pub fn scenarios() -> Vec<Scenario> {
             // shard 1 hears the no on 5, with shard 2's yes or without it.
             &[&[]],
         ),
+        Scenario::new(
+            "contended tokens that come free, at shards that turn at any time",
+            &[0, 1],
+            &[
+                (5, &[genesis(0), genesis(1)], &[0, 1]),
+                (6, &[genesis(1)], &[1]),
+                (7, &[genesis(0)], &[0]),
+            ],
+            Orders::All,
+            // 5 commits where it comes first at both shards. Where 6 is before
+            // it at shard 1, shard 1 votes no, and 7 gets the token of shard 0
+            // if it is there before 5, or else if that token has come free:
+            // shard 0 has heard the no and is turned. Likewise with 6 and 7
+            // changed about.
+            &[&[5], &[6], &[6, 7], &[7], &[7, 6]],
+        )
+        .turning(&[0, 1]),
+        Scenario::new(
+            "a token that two transactions keep from each other, and a third spends",
+            &[0, 1],
+            &[
+                (5, &[genesis(0), genesis(1)], &[1, 0]),
+                (6, &[genesis(0), genesis(1)], &[0, 1]),
+                (7, &[genesis(0)], &[0]),
+            ],
+            Orders::EveryTransition,
+            // 5 and 6 may each get one token. Then both are aborted, and 7 gets
+            // the token of shard 0 once it has come free there. One that has
+            // come free in time for 5 or 6 lets that one commit, though they met.
+            &[&[], &[5], &[6], &[7]],
+        )
+        .turning(&[0, 1]),
     ]
 }
 
@@ -265,6 +300,15 @@ impl Scenario {
             needs,
             orders,
         }
+    }
+
+    /// The same with a turn of each of these shards, at any place of an order.
+    fn turning(mut self, shards: &[u8]) -> Self {
+        for &shard in shards {
+            self.steps.push(Step::Turn { shard });
+            self.needs.push(0);
+        }
+        self
     }
 
     /// Calls `visit` with every order's number, its calls and its repeats: the
@@ -397,6 +441,7 @@ impl Scenario {
 
     fn record(&self, step: &Step, early: bool, cluster: &Cluster) -> Record {
         match *step {
+            Step::Turn { shard } => Record::Turn { receiver: shard },
             Step::Register { transaction, shard } => Record::Register {
                 receiver: shard,
                 transaction: self.transactions[transaction],

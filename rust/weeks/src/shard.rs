@@ -4,7 +4,7 @@ use reference::{Input, LIMITS, Outcome, Record, SLOTS, Shard, TokenId, Transacti
 
 use crate::rng::Rng;
 use crate::transactions::{add_input, is_all_heard, transfer, variant};
-use crate::week::{Plan, Week, Wrong};
+use crate::week::{Plan, Turns, Week, Wrong};
 
 /// What a week is like.
 #[derive(Clone, Copy, Debug)]
@@ -23,6 +23,8 @@ pub struct ShardStyle {
     pub damage: Option<usize>,
     /// How many of sixteen votes are yes.
     pub yes: usize,
+    /// When the shard is turned.
+    pub turns: Turns,
 }
 
 impl ShardStyle {
@@ -47,6 +49,7 @@ impl ShardStyle {
             here: rng.pick(&[1, 4, 7, 8]),
             damage: rng.pick(&[None, Some(40), Some(12), Some(4)]),
             yes: rng.pick(&[8, 14, 16]),
+            turns: Turns::random(rng, calls),
         }
     }
 }
@@ -70,10 +73,13 @@ pub fn shard_week_of(rng: &mut Rng, style: ShardStyle) -> (u8, Vec<Record>) {
         calls: style.calls,
         amounts: style.amounts,
         damage: style.damage,
+        turns: style.turns,
     };
     let mut week = Week::new(rng, style, plan, shard, next);
+    week.turn();
     week.mints();
     while !week.is_over() {
+        week.turn();
         week.step();
     }
     (here, week.records)
@@ -229,7 +235,9 @@ impl Week<'_, ShardStyle, Shard> {
         let transaction = self.old_transaction();
         let receiver = self.rng.below(9) as u8;
         let sender = self.rng.below(8) as u8;
-        let record = match self.rng.below(3) {
+        // A turn only where the week has turns: the receiver may be this shard.
+        let kinds = 3 + usize::from(self.style.turns.some.is_some());
+        let record = match self.rng.below(kinds) {
             0 => Record::Register {
                 receiver,
                 transaction,
@@ -240,12 +248,13 @@ impl Week<'_, ShardStyle, Shard> {
                 verdict: self.verdict(),
                 transaction,
             },
-            _ => Record::Mint {
+            2 => Record::Mint {
                 receiver,
                 index: 0,
                 owner: 1,
                 amount: 1,
             },
+            _ => Record::Turn { receiver },
         };
         self.send(record);
     }

@@ -26,7 +26,8 @@ const WORDS: [u32; 12] = [
 pub fn receiver(record: &Record) -> u8 {
     let (Record::Register { receiver, .. }
     | Record::Vote { receiver, .. }
-    | Record::Mint { receiver, .. }) = *record;
+    | Record::Mint { receiver, .. }
+    | Record::Turn { receiver }) = *record;
     receiver
 }
 
@@ -136,7 +137,7 @@ pub enum Part<'a> {
 }
 
 /// One of the record's parts: each field in front of a transaction once in so
-/// many times, else the transaction; any field of a mint.
+/// many times, else the transaction; any field of a mint; a turn's only one.
 pub fn part<'a>(rng: &mut Rng, record: &'a mut Record, times: usize) -> Part<'a> {
     match record {
         Record::Register {
@@ -168,6 +169,7 @@ pub fn part<'a>(rng: &mut Rng, record: &'a mut Record, times: usize) -> Part<'a>
             2 => Part::Word(owner),
             _ => Part::Word(amount),
         },
+        Record::Turn { receiver } => Part::Byte(receiver),
     }
 }
 

@@ -6,6 +6,40 @@ use crate::ledger::Playable;
 use crate::rng::Rng;
 use crate::transactions::{damage, owner};
 
+/// When a week turns shards: never, if it says nothing.
+#[derive(Clone, Copy, Debug, Default)]
+pub struct Turns {
+    /// With this call, or soon after it, all are turned that are not, one behind
+    /// the other; 0 is before the first mint.
+    pub all: Option<usize>,
+    /// One call in so many turns some shard, turned already or not.
+    pub some: Option<usize>,
+}
+
+impl Turns {
+    /// For a week that never turns a shard.
+    pub const NEVER: Turns = Turns {
+        all: None,
+        some: None,
+    };
+
+    /// For a week of so many calls: of six weeks two never turn a shard, one
+    /// turns all before the first mint, one all in its midst, and two some, now
+    /// and then. Those that turn all try it again later.
+    pub fn random(rng: &mut Rng, calls: usize) -> Self {
+        let (all, some) = match rng.below(6) {
+            0 | 1 => return Turns::NEVER,
+            2 => (Some(0), 80),
+            3 => (Some(calls / 4 + rng.below(calls / 2 + 1)), 80),
+            _ => (None, rng.pick(&[8, 25, 80])),
+        };
+        Turns {
+            all,
+            some: Some(some),
+        }
+    }
+}
+
 /// What every style of a week tells.
 #[derive(Clone, Copy)]
 pub(crate) struct Plan {
@@ -15,6 +49,8 @@ pub(crate) struct Plan {
     pub amounts: u32,
     /// One record in so many is damaged.
     pub damage: Option<usize>,
+    /// When shards are turned.
+    pub turns: Turns,
 }
 
 /// The week so far. The shard or the cluster is played along, so that calls can
@@ -93,6 +129,34 @@ impl<'a, S, L: Playable> Week<'a, S, L> {
         let record = self.held_off.swap_remove(place);
         self.send(record);
         true
+    }
+
+    /// Turns shards, where the week says that this is the time. A week that
+    /// never does so is what it would be without.
+    pub fn turn(&mut self) {
+        let Turns { all, some } = self.plan.turns;
+        if all.is_some_and(|call| self.records.len() >= call) {
+            self.plan.turns.all = None;
+            let shards = self.ledger.shards().iter();
+            let left = shards.filter(|shard| !shard.is_turned());
+            let left: Vec<u8> = left.map(Shard::number).collect();
+            for receiver in left {
+                self.send_turn(receiver);
+            }
+        }
+        if some.is_some_and(|once| self.rng.once_in(once)) {
+            let receiver = match self.rng.below(16) {
+                0 => self.rng.below(9) as u8,
+                _ => self.rng.pick(&self.shards),
+            };
+            self.send_turn(receiver);
+        }
+    }
+
+    fn send_turn(&mut self, receiver: u8) {
+        if !self.is_over() {
+            self.send(Record::Turn { receiver });
+        }
     }
 
     /// A mint of any owner and amount.

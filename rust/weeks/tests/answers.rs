@@ -13,9 +13,7 @@ use weeks::{
 #[test]
 fn rows_are_told_apart() {
     assert!(DONE.is_sorted_by_key(|reply| reply.code));
-    for (cause, number) in CAUSES.iter().zip(1..) {
-        assert_eq!(cause.reply.code, number, "{cause:?}");
-    }
+    assert!(CAUSES.is_sorted_by_key(|cause| cause.reply.code));
     let codes: BTreeSet<u32> = replies().map(|reply| reply.code).collect();
     let words: BTreeSet<&str> = replies().map(|reply| reply.words).collect();
     let all = DONE.len() + CAUSES.len();
@@ -41,21 +39,21 @@ fn every_refusal_has_its_row() {
     assert_eq!(refused(0), ACCEPTED);
 }
 
-/// Who gives what, by hand from documents 01 and 02, as far as the first
-/// seventeen refusals go.
+/// Who gives what, by hand from documents 01 and 02, as far as the refusals up to
+/// 19 go.
 #[test]
 fn givers() {
     let numbers = |giver| -> Vec<u32> {
         let given = given_by(&[giver]);
         let causes = CAUSES.iter().map(|cause| cause.reply);
-        let first = causes.filter(|reply| reply.code <= 17 && given.contains(&reply.words));
+        let first = causes.filter(|reply| reply.code <= 19 && given.contains(&reply.words));
         first.map(|reply| reply.code).collect()
     };
     assert_eq!(numbers(Giver::Reader), [1, 2, 3, 4, 5]);
     assert_eq!(numbers(Giver::Writer), [3, 4, 5, 15]);
-    let shard = [3, 4, 5, 6, 7, 8, 9, 10, 11, 12, 13, 14, 17];
+    let shard = [3, 4, 5, 6, 7, 8, 9, 10, 11, 12, 13, 14, 17, 19];
     assert_eq!(numbers(Giver::Shard), shard);
-    let cluster = [3, 4, 5, 6, 7, 8, 9, 10, 11, 13, 14, 16, 17];
+    let cluster = [3, 4, 5, 6, 7, 8, 9, 10, 11, 13, 14, 16, 17, 19];
     assert_eq!(numbers(Giver::Cluster), cluster);
     let both = given_by(&[Giver::Shard, Giver::Cluster]);
     assert!(carried_out().iter().all(|words| both.contains(words)));

@@ -2,6 +2,7 @@
 //! scenarios, on the reference alone; and wrong states, which the clauses have
 //! to shut out.
 
+use std::collections::BTreeSet;
 use std::panic::{AssertUnwindSafe, catch_unwind};
 
 use reference::{
@@ -9,8 +10,8 @@ use reference::{
     Verdict,
 };
 use weeks::{
-    Before, Case, Clauses, EARLY_ABORTS, Giver, Rng, SEED, Tally, View, changes_nothing,
-    cluster_week, label, never_given_by, scenarios, shard_week, views,
+    Before, CLUSTER_EVENTS, Case, Clauses, EARLY_ABORTS, Giver, Rng, SEED, TURNS, Tally, View,
+    changes_nothing, cluster_week, label, never_given_by, scenarios, shard_week, views,
 };
 
 const WEEKS: u64 = 3000;
@@ -18,13 +19,13 @@ const WEEKS: u64 = 3000;
 /// What the clauses have to be tried on.
 const MET: [&str; 10] = [
     "REFUSED 17",
+    "REFUSED 19",
+    "TURNED",
     "held off, later committed",
     "HEARD COMMIT",
     "HEARD ABORT",
     "AGAIN COMMIT",
     "made token destroyed",
-    "vote overtaking another",
-    "two commits of one number",
     "serial ledger, all decided",
     "serial ledger, some undecided",
 ];
@@ -59,12 +60,14 @@ fn random_weeks_keep_the_clauses() {
     let title = "clauses over random weeks";
     tally.report(title, &MET, 100);
     tally.check(title, &EARLY_ABORTS, 100);
+    tally.check(title, &TURNS, 100);
+    tally.check(title, &CLUSTER_EVENTS, 100);
 }
 
 #[test]
 fn every_order_keeps_the_clauses() {
     for scenario in scenarios() {
-        let mut tally = Tally::default();
+        let (mut tally, mut ends) = (Tally::default(), BTreeSet::new());
         let orders = scenario.orders(|order, calls, repeats| {
             let mut cluster = Cluster::new(LIMITS);
             let mut clauses = Clauses::new();
@@ -83,7 +86,10 @@ fn every_order_keeps_the_clauses() {
                 }
             }
             assert!(whole, "order {order} leaves a transaction undecided");
+            ends.insert(clauses.committed_numbers());
         });
+        let ends: Vec<&[u32]> = ends.iter().map(Vec::as_slice).collect();
+        assert_eq!(ends, scenario.ends, "{}", scenario.name);
         tally.print(&format!("{}, {orders} orders", scenario.name));
     }
 }
@@ -175,7 +181,7 @@ fn calls(transaction: Transaction) -> Vec<Record> {
     ]
 }
 
-type Shards = [(Vec<Token>, Vec<Known>); SHARDS];
+type Shards = [(Vec<Token>, Vec<Known>, bool); SHARDS];
 
 /// Plays the calls, with `wrong` changing the shards seen after a call; the
 /// change lasts only if it is made after every later call too.
@@ -185,14 +191,16 @@ fn caught(records: &[Record], wrong: impl Fn(usize, &mut Shards)) -> bool {
         let mut clauses = Clauses::new();
         for (call, record) in records.iter().enumerate() {
             let answer: Answer = cluster.play(record);
-            let mut shards: Shards = cluster
-                .shards()
-                .each_ref()
-                .map(|shard| (shard.tokens().to_vec(), shard.known().to_vec()));
+            let mut shards: Shards = cluster.shards().each_ref().map(|shard| {
+                let (tokens, known) = (shard.tokens().to_vec(), shard.known().to_vec());
+                (tokens, known, shard.is_turned())
+            });
             wrong(call, &mut shards);
-            let views = shards
-                .each_ref()
-                .map(|(tokens, known)| View { tokens, known });
+            let views = shards.each_ref().map(|(tokens, known, turned)| View {
+                tokens,
+                known,
+                turned: *turned,
+            });
             clauses.step(record, answer.is_err(), &views);
             clauses.serial();
         }
@@ -257,7 +265,7 @@ fn wrong_states_are_caught() {
         (
             "votes no although all is available",
             Box::new(|call, shards| {
-                for (_, known) in &mut shards[..2] {
+                for (_, known, _) in &mut shards[..2] {
                     for known in known.iter_mut().filter(|_| call >= 1) {
                         known.heard[0] = known.heard[0].map(|_| Verdict::No);
                     }
@@ -297,7 +305,7 @@ fn wrong_states_are_caught() {
     let unminted = &records[1..];
     assert!(!caught(unminted, |_, _| ()), "nothing is wrong");
     let yes = |_: usize, shards: &mut Shards| {
-        for (_, known) in &mut shards[..2] {
+        for (_, known, _) in &mut shards[..2] {
             for known in known {
                 known.heard[0] = known.heard[0].map(|_| Verdict::Yes);
             }
@@ -376,4 +384,90 @@ fn wrong_states_after_a_no_are_caught() {
     assert!(!caught(&records, after([no, yes])), "nothing is wrong");
     assert!(caught(&records, after([no, None])), "a vote is not noted");
     assert!(caught(&records, after([yes, yes])), "the no is forgotten");
+}
+
+/// A no of shard 1 that brings an abort at shard 0, where a token is pledged.
+fn bound() -> Vec<Record> {
+    let mut both = away(5);
+    both.input_count = 2;
+    both.inputs[1] = Input {
+        token: TokenId {
+            shard: 1,
+            ..TokenId::default()
+        },
+        owner: 10,
+        amount: 3,
+    };
+    both.outputs[0].amount = 6;
+    let mut records = vec![mint(), register(0, both), register(1, both)];
+    records.push(vote(0, 1, 0, both));
+    records
+}
+
+const TURN: Record = Record::Turn { receiver: 0 };
+
+/// Sets the pledge of shard 0's token from this call on.
+fn pledging(from: usize, pledge: Option<u32>) -> impl Fn(usize, &mut Shards) {
+    move |call, shards| {
+        if call >= from {
+            shards[0].0[0].pledge = pledge;
+        }
+    }
+}
+
+/// At a shard that is not turned a pledge stays; at one that is turned it ends
+/// with the abort, and not before.
+#[test]
+fn wrong_pledges_are_caught() {
+    let records = bound();
+    assert!(!caught(&records, |_, _| ()), "nothing is wrong");
+    assert!(caught(&records, pledging(3, None)), "an abort frees");
+    assert!(caught(&records[..3], pledging(2, None)), "another shard's");
+    assert!(caught(&records, pledging(1, Some(6))), "another's pledge");
+    assert!(caught(&records, pledging(3, Some(6))), "another's later");
+    assert!(
+        caught(&records[..1], pledging(0, Some(5))),
+        "a mint pledges"
+    );
+
+    // Turned before the abort, and behind it.
+    let first = [&records[..2], &[TURN], &records[2..]].concat();
+    let last = [&records[..], &[TURN]].concat();
+    for records in [&first, &last] {
+        assert!(!caught(records, |_, _| ()), "nothing is wrong");
+        assert!(caught(records, pledging(4, Some(5))), "nothing is freed");
+    }
+    assert!(caught(&first, pledging(2, None)), "freed while undecided");
+    assert!(caught(&last, pledging(3, None)), "freed before the turn");
+}
+
+/// A turn changes no token but its pledge, no known transaction and no other
+/// shard, and lasts.
+#[test]
+fn wrong_turns_are_caught() {
+    let records = [&bound()[..], &[TURN, register(0, away(6))]].concat();
+    assert!(!caught(&records, |_, _| ()), "nothing is wrong");
+    let from = |from: usize, change: fn(&mut Shards)| {
+        move |call: usize, shards: &mut Shards| {
+            if call >= from {
+                change(shards);
+            }
+        }
+    };
+    type Change = fn(&mut Shards);
+    let cases: [(usize, &str, Change); 8] = [
+        (4, "a token is gone", |shards| shards[0].0.clear()),
+        (4, "another owner", |shards| shards[0].0[0].owner = 11),
+        (4, "another amount", |shards| shards[0].0[0].amount = 4),
+        (4, "another index", |shards| shards[0].0[0].index = 1),
+        (4, "forgets the aborted one", |shards| shards[0].1.clear()),
+        (4, "is not noted", |shards| shards[0].2 = false),
+        (4, "turns another, too", |shards| shards[1].2 = true),
+        (5, "does not last", |shards| shards[0].2 = false),
+    ];
+    for (call, name, change) in cases {
+        assert!(caught(&records[..=call], from(call, change)), "{name}");
+    }
+    let unasked = from(3, |shards| shards[0].2 = true);
+    assert!(caught(&records[..4], unasked), "an abort turns the shard");
 }

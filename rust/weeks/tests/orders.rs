@@ -1,13 +1,56 @@
 //! What all orders of a scenario bring together, counted by hand.
-//!
-//! Transaction 5 has the shards 0, 1 and 2, each of which hears the other two,
-//! and shard 0 votes no on it. Transaction 6 takes at shard 1 what 5 takes there
-//! and what 5 is to make there.
+
+use std::collections::BTreeMap;
 
 use reference::{Cluster, LIMITS};
-use weeks::{Before, Tally, scenarios};
+use weeks::{Before, Clauses, Tally, scenarios, views};
 
-const SCENARIO: &str = "one no or two of three votes, and a transaction behind them";
+/// What all orders of a scenario have brought.
+struct Played {
+    orders: u64,
+    tally: Tally,
+    /// How often each end was reached: the commits in serial order.
+    ends: BTreeMap<Vec<u32>, u64>,
+}
+
+/// Plays every order of the scenario of this name, with its repeats, on the
+/// reference.
+fn play(name: &str) -> Played {
+    let mut scenarios = scenarios().into_iter();
+    let scenario = scenarios.find(|scenario| scenario.name == name);
+    let (mut tally, mut ends) = (Tally::default(), BTreeMap::new());
+    let orders = scenario.expect(name).orders(|_, calls, repeats| {
+        let (mut cluster, mut clauses) = (Cluster::new(LIMITS), Clauses::new());
+        let mut events = tally.week();
+        for record in calls.iter().chain(repeats) {
+            let before = Before::of(cluster.shards(), record);
+            let answer = cluster.play(record);
+            events.call(record, answer, before, cluster.shards());
+            clauses.step(record, answer.is_err(), &views(&cluster));
+        }
+        *ends.entry(clauses.committed_numbers()).or_default() += 1;
+    });
+    Played {
+        orders,
+        tally,
+        ends,
+    }
+}
+
+impl Played {
+    /// Compares how often each answer and event was met.
+    fn check(&self, expected: &[(&str, u64)]) {
+        for &(label, count) in expected {
+            assert_eq!(self.tally.count(label), count, "{label}");
+        }
+    }
+}
+
+// One no or two. Transaction 5 has the shards 0, 1 and 2, each of which hears the
+// other two, and shard 0 votes no on it. Transaction 6 takes at shard 1 what 5
+// takes there and what 5 is to make there.
+
+const ONE_NO: &str = "one no or two of three votes, and a transaction behind them";
 
 /// Without 6 there are nine steps. The first two are registrations, in 6 ways;
 /// of the other seven the third registration comes before the four deliveries
@@ -44,31 +87,13 @@ const PLACES_OF_THE_NO: u64 = 2 * 6048 + 4 * 6720;
 /// who registers last, 0 or 2, or else 1.
 const PLACES_OF_THE_FIRST: u64 = 4 * 5088 + 2 * 5600;
 
-/// Plays every order of the scenario on the reference, and compares how often
-/// each answer and event is met.
-fn check(expected: &[(&str, u64)]) {
-    let mut scenarios = scenarios().into_iter();
-    let scenario = scenarios.find(|scenario| scenario.name == SCENARIO);
-    let mut tally = Tally::default();
-    let orders = scenario.expect(SCENARIO).orders(|_, calls, repeats| {
-        assert!(repeats.is_empty(), "no step is too early");
-        let mut cluster = Cluster::new(LIMITS);
-        let mut events = tally.week();
-        for record in calls {
-            let before = Before::of(cluster.shards(), record);
-            let answer = cluster.play(record);
-            events.call(record, answer, before, cluster.shards());
-        }
-    });
-    assert_eq!(orders, ORDERS, "orders");
-    for &(label, count) in expected {
-        assert_eq!(tally.count(label), count, "{label}");
-    }
-}
-
 #[test]
 fn one_no_or_two() {
-    check(&[
+    let played = play(ONE_NO);
+    assert_eq!(played.orders, ORDERS, "orders");
+    played.check(&[
+        // No step is too early, so there are no repeats.
+        ("REFUSED 8", 0),
         // On 5 one or two, on 6 one.
         ("NO ABORT", 3 * BEFORE + 2 * BEHIND),
         ("YES WAIT", BEFORE + 2 * BEHIND),
@@ -101,12 +126,104 @@ fn one_no_or_two() {
 fn held_off_until_the_no() {
     const HELD_OFF: u64 = PLACES_OF_THE_NO - BEFORE;
     const PLACES_OF_THE_LAST: u64 = 2 * PLACES_OF_THE_NO - PLACES_OF_THE_FIRST;
-    check(&[
+    play(ONE_NO).check(&[
         ("held off, later aborted", HELD_OFF),
         ("held off, later committed", 0),
         (
             "not held off, another aborted early",
             (PLACES_OF_THE_LAST - BEFORE) / 2,
+        ),
+    ]);
+}
+
+// Tokens that come free. Transaction 5 takes the tokens of the shards 0 and 1,
+// transaction 6 that of shard 1 alone and 7 that of shard 0 alone. The eight
+// steps may come in any order: at each shard its registration of 5, the delivery
+// of the other's vote on 5, the registration of 6 or 7, and the turn. A delivery
+// has its effect in its place if both registrations of 5 are before it, else it
+// has it in the repeats. All is the same with the shards changed about.
+
+const FREED: &str = "contended tokens that come free, at shards that turn at any time";
+
+/// All orders.
+const EIGHT: u64 = 40_320;
+
+/// Orders of which something is asked that depends on five steps, or on six: so
+/// many for each order of these.
+const OF_FIVE: u64 = EIGHT / 120;
+const OF_SIX: u64 = EIGHT / 720;
+
+/// 5 comes first at both shards, second at both, or first at shard 0 and second
+/// at shard 1: one order of four each. The last of these are told apart below;
+/// there shard 1 votes no on 5, and shard 0, which has voted yes, frees its token
+/// sooner or later.
+const QUARTER: u64 = EIGHT / 4;
+
+/// Of that last quarter: the vote and the turn come to shard 0 before 7 does, so
+/// that 7 spends the freed token. 7 is the last of the six steps; the vote is
+/// behind 6 at shard 1, behind 5 there and behind 5 at shard 0, which may stand
+/// in 3 orders; the turn has 5 places.
+const SPENT: u64 = 3 * 5 * OF_SIX;
+
+/// Of that quarter: the no comes to shard 0 before the turn does. As before there
+/// are 3 orders in front of the vote, with 5 at shard 0 first, second or third of
+/// them, and 7 is somewhere behind that.
+const NO_BEFORE_TURN: u64 = (5 + 4 + 3) * OF_SIX;
+
+/// And 7 stands between the two.
+const STILL_BOUND: u64 = 3 * OF_SIX;
+
+/// 5 comes to shard 0 before 7 and before the turn, in a third of the orders, and
+/// the vote has not decided it when the turn comes. It has where it is behind both
+/// registrations of 5, in either order, and before the turn, with 7 behind that of
+/// shard 0.
+const UNDECIDED_AT_TURN: u64 = EIGHT / 3 - (4 + 3) * OF_FIVE;
+
+/// 7 commits at shard 0 although the token never was 5's, behind the turn: 7 is
+/// between the turn and 5.
+const TURN_SEVEN_FIVE: u64 = EIGHT / 6;
+
+/// 5 commits, and its vote comes to shard 0 before the turn: behind both
+/// registrations, in either order. 7 is behind the one, in 4 places, and 6 behind
+/// the other, in 4 more, or in 3 if 7 stands between the two.
+const FIVE_BEFORE_TURN: u64 = 2 * (3 + 3 * 4) * OF_SIX;
+
+#[test]
+fn contended_tokens_come_free() {
+    let played = play(FREED);
+    assert_eq!(played.orders, EIGHT, "orders");
+    let ends = [
+        (vec![5], QUARTER),
+        (vec![6], QUARTER - SPENT),
+        // 5 second at both shards, and every second time 6 before 7.
+        (vec![6, 7], QUARTER / 2 + SPENT),
+        (vec![7], QUARTER - SPENT),
+        (vec![7, 6], QUARTER / 2 + SPENT),
+    ];
+    assert_eq!(played.ends, ends.into());
+    played.check(&[
+        // Each shard is turned once, and not a second time by the repeats.
+        ("TURNED", 2 * EIGHT),
+        ("REFUSED 19", 2 * EIGHT),
+        // 6 and 7; 5 at both; 5 at one and 7 or 6, unless it is freed in time.
+        (
+            "NO ABORT",
+            2 * QUARTER + 2 * QUARTER + 2 * (2 * QUARTER - SPENT),
+        ),
+        ("YES COMMIT", 2 * QUARTER + 2 * (QUARTER + SPENT)),
+        ("freed and spent", 2 * SPENT),
+        ("freed by a turn", 2 * NO_BEFORE_TURN),
+        // In the repeats at the latest.
+        ("freed by a no heard last", 2 * (QUARTER - NO_BEFORE_TURN)),
+        // 5 has two shards, so a no is the last vote. At one shard it takes one
+        // token: nothing is available there if it votes no.
+        ("freed by a no heard early", 0),
+        ("freed by its own no", 0),
+        ("no, pledged to an aborted one", 2 * STILL_BOUND),
+        ("pledged over a turn", 2 * UNDECIDED_AT_TURN),
+        (
+            "committed at a turned shard",
+            2 * (TURN_SEVEN_FIVE + SPENT + QUARTER - FIVE_BEFORE_TURN),
         ),
     ]);
 }

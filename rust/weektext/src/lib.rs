@@ -16,6 +16,7 @@
 //!
 //! register 5 at 0
 //! vote yes on 5 from 1 to 0
+//! turn pantry 0
 //! bytes 01 ff
 //! ```
 //!

@@ -7,7 +7,7 @@ use reference::{Input, Output, Record, SLOTS, TokenId, Transaction, encode};
 use crate::Error;
 use crate::words::{Words, decimal};
 
-const FIRST_WORDS: &str = "opening, swap, take, give, counts, register, vote or bytes";
+const FIRST_WORDS: &str = "opening, swap, take, give, counts, register, vote, turn or bytes";
 
 /// The records of a week's text, one behind the other; or the first error.
 pub fn records(text: &[u8]) -> Result<Vec<u8>, Error> {
@@ -64,6 +64,7 @@ impl Week {
                     "swap" => self.swap(words)?,
                     "register" => self.register(words)?,
                     "vote" => self.vote(words)?,
+                    "turn" => self.turn(words)?,
                     "bytes" => return self.raw(words),
                     _ => return Err(words.error("first word", FIRST_WORDS, Some(first))),
                 }
@@ -136,6 +137,14 @@ impl Week {
             sender,
             verdict,
             transaction,
+        };
+        encode(&record, &mut self.bytes);
+        Ok(())
+    }
+
+    fn turn(&mut self, words: &mut Words) -> Result<(), Error> {
+        let record = Record::Turn {
+            receiver: words.named_byte("pantry")?,
         };
         encode(&record, &mut self.bytes);
         Ok(())

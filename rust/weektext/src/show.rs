@@ -4,8 +4,8 @@ use std::collections::HashMap;
 use std::fmt::{self, Write};
 
 use reference::{
-    Input, MINT_LENGTH, Output, REGISTER_LENGTH, Record, SLOTS, Transaction, VOTE_LENGTH, decode,
-    rest,
+    Input, MINT_LENGTH, Output, REGISTER_LENGTH, Record, SLOTS, TURN_LENGTH, Transaction,
+    VOTE_LENGTH, decode, rest,
 };
 
 /// Bytes on a line of them.
@@ -67,6 +67,7 @@ impl Week {
                 }
                 writeln!(self.text, " on {label} from {sender} to {receiver}")
             }
+            Record::Turn { receiver } => writeln!(self.text, "turn pantry {receiver}"),
         }
     }
 
@@ -184,6 +185,7 @@ fn length(kind: u8) -> Option<usize> {
         1 => Some(REGISTER_LENGTH),
         2 => Some(VOTE_LENGTH),
         3 => Some(MINT_LENGTH),
+        4 => Some(TURN_LENGTH),
         _ => None,
     }
 }

@@ -6,7 +6,7 @@ mod example;
 #[path = "../../reference/tests/common/week.rs"]
 mod week;
 
-use reference::{MINT_LENGTH, Record, VOTE_LENGTH, decode, rest};
+use reference::{MINT_LENGTH, Record, TURN_LENGTH, VOTE_LENGTH, decode, rest};
 use weektext::{records, text};
 
 use week::week;
@@ -129,6 +129,22 @@ register b-2 at 2
     assert_eq!(records(shown.as_bytes()), Ok(bytes));
 }
 
+/// The turn of a pantry, in range or out of it, and cut.
+#[test]
+fn turns() {
+    let week = "turn pantry 0\nturn pantry 7\nturn pantry 255\n";
+    assert_eq!(bytes(week), [4, 0, 4, 7, 4, 255]);
+    assert_eq!(text(&[4, 0, 4, 7, 4, 255]), week);
+    assert_eq!(record("turn pantry 3"), Record::Turn { receiver: 3 });
+    assert_eq!(
+        text(&[4]),
+        "# a record of kind 4, cut: 1 of 2 bytes\nbytes 04\n"
+    );
+    // It ends a swap's lines.
+    let between = "swap 5\nturn pantry 0\ntake pantry 0 opening 0 household 1 portions 1";
+    assert!(records(between.as_bytes()).is_err());
+}
+
 #[test]
 fn raw_bytes() {
     assert_eq!(
@@ -136,6 +152,7 @@ fn raw_bytes() {
         [1, 255, 170, 0, 127]
     );
     assert_eq!(text(&[9, 1, 2]), "# kind 9 is unknown\nbytes 09 01 02\n");
+    assert_eq!(text(&[5, 0]), "# kind 5 is unknown\nbytes 05 00\n");
     assert_eq!(
         text(&[3, 1]),
         "# a record of kind 3, cut: 2 of 11 bytes\nbytes 03 01\n"
@@ -151,8 +168,8 @@ fn errors() {
     let cases = [
         (
             "oping pantry 0".into(),
-            "line 1: first word: expected opening, swap, take, give, counts, register, vote or \
-             bytes, found 'oping'",
+            "line 1: first word: expected opening, swap, take, give, counts, register, vote, turn \
+             or bytes, found 'oping'",
         ),
         (
             "\n# a comment\nopening position 0".into(),
@@ -314,6 +331,22 @@ fn errors() {
             "line 2: receiving pantry: expected a number from 0 to 255, found '300'",
         ),
         (
+            "turn".into(),
+            "line 1: pantry: expected the word 'pantry', found the end of the line",
+        ),
+        (
+            "turn 3".into(),
+            "line 1: pantry: expected the word 'pantry', found '3'",
+        ),
+        (
+            "turn pantry 256".into(),
+            "line 1: pantry: expected a number from 0 to 255, found '256'",
+        ),
+        (
+            "turn pantry 3 4".into(),
+            "line 1: end of the line: expected nothing more, found '4'",
+        ),
+        (
             "bytes".into(),
             "line 1: bytes: expected two hexadecimal digits, found the end of the line",
         ),
@@ -366,7 +399,8 @@ fn every_neighbour_of_the_example_comes_back() {
         &week[22..122],
         &week[222..][..VOTE_LENGTH],
     );
-    for record in [opening, swap, vote] {
+    let turn = &[4, 0][..TURN_LENGTH];
+    for record in [opening, swap, vote, turn] {
         for place in 0..record.len() {
             comes_back(&record[..place]);
             for value in 0..=255 {
@@ -396,9 +430,9 @@ fn random_bytes_come_back() {
         let mut bytes: Vec<u8> = (0..length).map(|_| (next() % values) as u8).collect();
         let mut place = 0;
         while place < bytes.len() {
-            let kind = 1 + (next() % 3) as u8;
+            let kind = 1 + (next() % 4) as u8;
             bytes[place] = kind;
-            place += [100, 102, 11][usize::from(kind) - 1];
+            place += [100, 102, 11, 2][usize::from(kind) - 1];
         }
         if next().is_multiple_of(4) && !bytes.is_empty() {
             let place = next() as usize % bytes.len();

@@ -14,7 +14,7 @@ use bench::kinds::{KINDS, Kind, kinds};
 use bench::ledgers::{Run, Week, engine_run, reference_run};
 use plankeeper::boundary::{CLUSTER_WORDS, SHARD_WORDS};
 use reference::{Known, LIMITS, Shard, Token};
-use weeks::{ClusterStyle, Rng, SEED, ShardStyle, cluster_week_of, shard_week_of};
+use weeks::{ClusterStyle, Rng, SEED, ShardStyle, Turns, cluster_week_of, shard_week_of};
 
 /// Weeks of each kind.
 const WEEKS: u64 = 8;
@@ -31,6 +31,7 @@ const SHARD: ShardStyle = ShardStyle {
     here: 4,
     damage: None,
     yes: 14,
+    turns: Turns::NEVER,
 };
 const FULL_SHARD: ShardStyle = ShardStyle {
     calls: 500,
@@ -45,12 +46,22 @@ const CLUSTER: ClusterStyle = ClusterStyle {
     new: 10,
     due: 55,
     damage: None,
+    turns: Turns::NEVER,
 };
 const FULL_CLUSTER: ClusterStyle = ClusterStyle {
     calls: 800,
     shards: 2,
     mints: 122,
     amounts: 60,
+    ..CLUSTER
+};
+
+/// As `CLUSTER`, with all shards turned first.
+const TURNED_CLUSTER: ClusterStyle = ClusterStyle {
+    turns: Turns {
+        all: Some(0),
+        some: None,
+    },
     ..CLUSTER
 };
 
@@ -64,8 +75,12 @@ fn main() -> ExitCode {
             return ExitCode::FAILURE;
         }
     };
-    let clusters = [("cluster", CLUSTER), ("full cluster", FULL_CLUSTER)]
-        .map(|(name, style)| (name, weeks(|rng| cluster_of(rng, style))));
+    let clusters = [
+        ("cluster", CLUSTER),
+        ("full cluster", FULL_CLUSTER),
+        ("turned cluster", TURNED_CLUSTER),
+    ]
+    .map(|(name, style)| (name, weeks(|rng| cluster_of(rng, style))));
     let shards = [("shard", SHARD), ("full shard", FULL_SHARD)]
         .map(|(name, style)| (name, weeks(|rng| shard_of(rng, style))));
 

@@ -14,7 +14,7 @@ use std::time::{Duration, Instant};
 
 use program::{encode_all, list, program, stdin, wait, wait_until_asleep};
 use reference::{Record, listing};
-use weeks::{ClusterStyle, Rng, SEED, cluster_week_of};
+use weeks::{ClusterStyle, Rng, SEED, Turns, cluster_week_of};
 
 /// Calls of the one week that the input is made of.
 const WEEK: usize = 1_000;
@@ -74,6 +74,7 @@ fn week() -> Vec<Record> {
         new: 8,
         due: 60,
         damage: Some(200),
+        turns: Turns::NEVER,
     };
     cluster_week_of(&mut Rng::new(SEED, 0), style)
 }
@@ -94,6 +95,7 @@ fn kinds(week: &[Record]) -> String {
             Record::Mint { .. } => mints += 1,
             Record::Register { .. } => registrations += 1,
             Record::Vote { .. } => votes += 1,
+            Record::Turn { .. } => unreachable!("the week turns no shard"),
         }
     }
     format!("{mints} genesis tokens, {registrations} registrations, {votes} votes")

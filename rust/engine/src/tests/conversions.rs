@@ -113,3 +113,14 @@ fn calls_are_typed_where_types_can_say_them() {
         assert_eq!(to_words(&meant), expected);
     }
 }
+
+#[test]
+fn turns_are_typed_where_types_can_say_them() {
+    for (receiver, typed) in [(0, true), (255, true), (256, false), (u32::MAX, false)] {
+        let words = Words::Turn([receiver]);
+        let call = Call::from(words);
+        assert_eq!(matches!(call, Call::Typed(_)), typed, "{receiver}");
+        let receiver = receiver.min(255) as u8;
+        assert_eq!(Record::from(&words), Record::Turn { receiver });
+    }
+}

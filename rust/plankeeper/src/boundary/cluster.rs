@@ -70,6 +70,11 @@ impl ClusterMemory {
         unsafe { raw::plankeeper_outcome_of(&self.words, shard, number) }
     }
 
+    /// Whether the shard is turned: 1, or 0 where it is not.
+    pub fn is_turned(&self, shard: u32) -> u32 {
+        unsafe { raw::plankeeper_is_turned(&self.words, shard) }
+    }
+
     /// The sum of the amounts that the shard holds.
     pub fn total_at(&self, shard: u32) -> u64 {
         unsafe { raw::plankeeper_total_at(&self.words, shard) }
@@ -112,6 +117,11 @@ impl Memory for ClusterMemory {
         transaction: &TransactionWords,
     ) -> u32 {
         unsafe { raw::plankeeper_deliver(&mut self.words, receiver, sender, verdict, transaction) }
+    }
+
+    #[inline]
+    fn turn(&mut self, receiver: u32) -> u32 {
+        unsafe { raw::plankeeper_turn(&mut self.words, receiver) }
     }
 
     fn total(&self) -> u64 {

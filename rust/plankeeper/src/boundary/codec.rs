@@ -43,3 +43,9 @@ pub fn write_mint(receiver: u32, index: u32, owner: u32, amount: u32, buffer: &m
     let (out, room) = (buffer.as_mut_ptr(), buffer.len());
     unsafe { raw::plankeeper_write_mint(receiver, index, owner, amount, out, room) }
 }
+
+/// Writes a record of kind 4 to the front of the buffer.
+pub fn write_turn(receiver: u32, buffer: &mut [u8]) -> u64 {
+    let (out, room) = (buffer.as_mut_ptr(), buffer.len());
+    unsafe { raw::plankeeper_write_turn(receiver, out, room) }
+}

@@ -16,6 +16,7 @@
 //! | 200 + 10 × verdict + outcome | registered; verdict 1 for yes, 0 for no |
 //! | 300 + outcome | a vote heard for the first time |
 //! | 400 + outcome | a vote that was heard before |
+//! | 500 | the shard is turned |
 //!
 //! The outcome is 0 wait, 1 commit or 2 abort. 200, 201 and 212 are never given:
 //! a shard that votes no aborts at once, and one that votes yes has then heard
@@ -40,13 +41,13 @@ mod shard;
 mod tests;
 
 pub use cluster::ClusterMemory;
-pub use codec::{read, taken, write_mint, write_register, write_vote};
+pub use codec::{read, taken, write_mint, write_register, write_turn, write_vote};
 pub use shard::ShardMemory;
 
 /// Words of a cluster's memory.
-pub const CLUSTER_WORDS: usize = 17_176;
+pub const CLUSTER_WORDS: usize = 17_184;
 /// Words of a lone shard's memory.
-pub const SHARD_WORDS: usize = 2147;
+pub const SHARD_WORDS: usize = 2148;
 /// Words of a transaction.
 pub const TRANSACTION_WORDS: usize = 35;
 /// Words of what was read of a record.
@@ -65,9 +66,9 @@ pub type ShardWords = [u32; SHARD_WORDS];
 /// and four outputs of three (shard, owner, amount). Slots beyond a count must
 /// be all zero, or the transaction is refused.
 pub type TransactionWords = [u32; TRANSACTION_WORDS];
-/// What was read of a record: kind (1 register, 2 vote, 3 mint), receiver,
-/// sender, verdict, index, owner, amount, and the transaction. Fields that the
-/// kind does not have are 0.
+/// What was read of a record: kind (1 register, 2 vote, 3 mint, 4 turn),
+/// receiver, sender, verdict, index, owner, amount, and the transaction. Fields
+/// that the kind does not have are 0.
 pub type ReadingWords = [u32; READING_WORDS];
 /// A token that a shard holds: creator, index, owner, amount, and the number of
 /// the transaction that it is pledged to (0 for none).
@@ -105,6 +106,9 @@ pub trait Memory: sealed::Sealed {
         verdict: u32,
         transaction: &TransactionWords,
     ) -> u32;
+
+    /// Turns the receiving shard: from now on an abort there ends its pledges.
+    fn turn(&mut self, receiver: u32) -> u32;
 
     /// The sum of the amounts held.
     fn total(&self) -> u64;

@@ -44,6 +44,8 @@ unsafe extern "C" {
         transaction: &TransactionWords,
     ) -> u32;
 
+    pub fn plankeeper_turn(cluster: &mut ClusterWords, receiver: u32) -> u32;
+
     pub fn plankeeper_held_count(cluster: &ClusterWords, shard: u32) -> usize;
 
     pub fn plankeeper_token_at(
@@ -65,6 +67,8 @@ unsafe extern "C" {
     pub fn plankeeper_outcome_of(cluster: &ClusterWords, shard: u32, number: u32) -> u32;
 
     pub fn plankeeper_total_at(cluster: &ClusterWords, shard: u32) -> u64;
+
+    pub fn plankeeper_is_turned(cluster: &ClusterWords, shard: u32) -> u32;
 }
 
 // A lone shard.
@@ -97,6 +101,8 @@ unsafe extern "C" {
         transaction: &TransactionWords,
     ) -> u32;
 
+    pub fn plankeeper_shard_turn(shard: &mut ShardWords, receiver: u32) -> u32;
+
     pub fn plankeeper_shard_held_count(shard: &ShardWords) -> usize;
 
     pub fn plankeeper_shard_token_at(shard: &ShardWords, k: usize, token: &mut TokenWords) -> u32;
@@ -106,6 +112,8 @@ unsafe extern "C" {
     pub fn plankeeper_shard_known_at(shard: &ShardWords, k: usize, known: &mut KnownWords) -> u32;
 
     pub fn plankeeper_shard_outcome_of(shard: &ShardWords, number: u32) -> u32;
+
+    pub fn plankeeper_shard_is_turned(shard: &ShardWords) -> u32;
 }
 
 // Records.
@@ -138,4 +146,6 @@ unsafe extern "C" {
         out: *mut u8,
         room: usize,
     ) -> u64;
+
+    pub fn plankeeper_write_turn(receiver: u32, out: *mut u8, room: usize) -> u64;
 }

@@ -68,6 +68,11 @@ impl ShardMemory {
     pub fn outcome_of(&self, number: u32) -> u32 {
         unsafe { raw::plankeeper_shard_outcome_of(&self.words, number) }
     }
+
+    /// Whether the shard is turned: 1, or 0 where it is not.
+    pub fn is_turned(&self) -> u32 {
+        unsafe { raw::plankeeper_shard_is_turned(&self.words) }
+    }
 }
 
 impl Memory for ShardMemory {
@@ -101,6 +106,11 @@ impl Memory for ShardMemory {
     ) -> u32 {
         let words = &mut self.words;
         unsafe { raw::plankeeper_shard_hear(words, receiver, sender, verdict, transaction) }
+    }
+
+    #[inline]
+    fn turn(&mut self, receiver: u32) -> u32 {
+        unsafe { raw::plankeeper_shard_turn(&mut self.words, receiver) }
     }
 
     fn total(&self) -> u64 {

@@ -43,6 +43,7 @@ struct Calls<W> {
     mint: unsafe extern "C" fn(&mut W, u32, u32, u32, u32) -> u32,
     register: unsafe extern "C" fn(&mut W, u32, &TransactionWords) -> u32,
     deliver: unsafe extern "C" fn(&mut W, u32, u32, u32, &TransactionWords) -> u32,
+    turn: unsafe extern "C" fn(&mut W, u32) -> u32,
     total: unsafe extern "C" fn(&W) -> u64,
 }
 
@@ -50,6 +51,7 @@ const CLUSTER: Calls<ClusterWords> = Calls {
     mint: raw::plankeeper_mint,
     register: raw::plankeeper_register,
     deliver: raw::plankeeper_deliver,
+    turn: raw::plankeeper_turn,
     total: raw::plankeeper_total,
 };
 
@@ -57,6 +59,7 @@ const SHARD: Calls<ShardWords> = Calls {
     mint: raw::plankeeper_shard_mint,
     register: raw::plankeeper_shard_register,
     deliver: raw::plankeeper_shard_hear,
+    turn: raw::plankeeper_shard_turn,
     total: raw::plankeeper_shard_total,
 };
 
@@ -97,6 +100,7 @@ impl<const WORDS: usize> Calls<[u32; WORDS]> {
                     let (receiver, sender) = (receiver.into(), sender.into());
                     (self.deliver)(words, receiver, sender, verdict as u32, transaction.words())
                 }
+                Record::Turn { receiver } => (self.turn)(words, receiver.into()),
             }
         }
     }
@@ -104,8 +108,8 @@ impl<const WORDS: usize> Calls<[u32; WORDS]> {
 
 #[test]
 fn the_library_asks_for_as_many_words() {
-    assert_eq!(raw::plankeeper_words(), 17_176);
-    assert_eq!(raw::plankeeper_shard_words(), 2147);
+    assert_eq!(raw::plankeeper_words(), 17_184);
+    assert_eq!(raw::plankeeper_shard_words(), 2148);
 }
 
 #[test]

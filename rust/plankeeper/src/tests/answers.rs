@@ -36,6 +36,7 @@ fn code<M: Memory>(memory: &mut M, record: &Record) -> u32 {
             (verdict == Verdict::Yes).into(),
             transaction.words(),
         ),
+        Record::Turn { receiver } => memory.turn(receiver.into()),
     }
 }
 
@@ -50,7 +51,8 @@ fn play<M: Memory + Clone>(ledger: &mut Ledger<M>, told: &[Told], codes: &mut BT
         assert_eq!(code, *expected, "{record:?}");
         let after = ledger.memory().words().as_ref();
         let changed = *after != before;
-        assert_eq!(changed, (100..400).contains(&code), "{record:?}: {code}");
+        let carried_out = matches!(code, 100..400 | 500);
+        assert_eq!(changed, carried_out, "{record:?}: {code}");
         codes.insert(code);
 
         let answer = typed.play(record);
@@ -64,8 +66,8 @@ fn codes_of_a_cluster() {
     let mut codes = BTreeSet::new();
     play(&mut Cluster::new(), &cluster_story(), &mut codes);
     let every = [
-        3, 4, 5, 6, 7, 8, 9, 10, 11, 13, 14, 16, 17, 100, 202, 210, 211, 300, 301, 302, 400, 401,
-        402,
+        3, 4, 5, 6, 7, 8, 9, 10, 11, 13, 14, 16, 17, 19, 100, 202, 210, 211, 300, 301, 302, 400,
+        401, 402, 500,
     ];
     assert_eq!(codes, every.into());
 }
@@ -77,8 +79,8 @@ fn codes_of_a_shard() {
         play(&mut Shard::new(number), &told, &mut codes);
     }
     let every = [
-        3, 4, 5, 6, 7, 8, 9, 10, 11, 12, 13, 14, 17, 100, 202, 210, 211, 300, 301, 302, 400, 401,
-        402,
+        3, 4, 5, 6, 7, 8, 9, 10, 11, 12, 13, 14, 17, 19, 100, 202, 210, 211, 300, 301, 302, 400,
+        401, 402, 500,
     ];
     assert_eq!(codes, every.into());
 }
@@ -104,6 +106,7 @@ fn shards_that_there_are_not() {
                     transaction,
                     ..
                 } => shard.deliver(number, sender, verdict, &transaction),
+                Record::Turn { .. } => shard.turn(number),
             };
             assert!(own.is_err(), "shard {number}: {record:?}");
             assert_eq!(shard.play(record), Err(Refusal::OutOfRange), "{record:?}");
@@ -126,7 +129,7 @@ fn codes_of_bytes() {
             assert_eq!(memory.apply(&bytes[..length]), 2, "{length} bytes");
             assert_eq!(taken(&bytes[..length]), length);
         }
-        for kind in [0, 4, 255] {
+        for kind in [0, 5, 255] {
             let mut unknown = bytes.clone();
             unknown[0] = kind;
             assert_eq!(memory.apply(&unknown), 1, "kind {kind}");
@@ -145,7 +148,7 @@ fn codes_of_bytes() {
 #[test]
 fn calls_answers_are_told_apart() {
     let registered = |verdict, outcome| Ok(Answer::Registered { verdict, outcome });
-    let answers: [(u32, &str, Result<Answer, Refusal>); 13] = [
+    let answers: [(u32, &str, Result<Answer, Refusal>); 14] = [
         (100, "OPENED", Ok(Answer::Minted)),
         (200, "NO WAIT", registered(Verdict::No, Outcome::Wait)),
         (201, "NO COMMIT", registered(Verdict::No, Outcome::Commit)),
@@ -159,20 +162,21 @@ fn calls_answers_are_told_apart() {
         (400, "AGAIN WAIT", Ok(Answer::Again(Outcome::Wait))),
         (401, "AGAIN COMMIT", Ok(Answer::Again(Outcome::Commit))),
         (402, "AGAIN ABORT", Ok(Answer::Again(Outcome::Abort))),
+        (500, "TURNED", Ok(Answer::Turned)),
     ];
     for (code, text, answer) in answers {
         assert_eq!(answer_from_code(code), Some(answer), "{code}");
         assert_eq!(answer_code(&answer), code, "{answer:?}");
         assert_eq!(answer.map(|answer| answer.to_string()), Ok(text.into()));
     }
-    for (number, refusal) in (1..).zip(Refusal::ALL) {
+    for (number, refusal) in (1..=17).chain([19]).zip(Refusal::ALL) {
         assert_eq!(answer_from_code(number), Some(Err(refusal)), "{number}");
         assert_eq!(answer_code(&Err(refusal)), number, "{refusal:?}");
     }
     // No other number is one.
     let codes = (0..100_000).filter(|&code| answer_from_code(code).is_some());
-    assert_eq!(codes.count(), 13 + 17);
-    for odd in [0, 18, 99, 101, 203, 259, 310, 403, 500, u32::MAX] {
+    assert_eq!(codes.count(), 14 + 18);
+    for odd in [0, 18, 20, 99, 101, 203, 259, 310, 403, 501, u32::MAX] {
         assert_eq!(answer_from_code(odd), None, "{odd} passed for an answer");
         assert!(catch_unwind(|| answered(odd)).is_err(), "{odd}");
     }

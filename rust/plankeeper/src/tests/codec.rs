@@ -1,6 +1,6 @@
 //! Records written and read.
 
-use super::story::{Told, cluster_story, encode, mint, register, transaction};
+use super::story::{Told, cluster_story, encode, mint, register, transaction, turn};
 use crate::{Record, Refusal, read, records};
 
 /// Whether the reader and the writers refuse the record, by its answer's code.
@@ -32,7 +32,8 @@ fn records_are_written_and_read() {
 
 #[test]
 fn a_buffer_that_is_too_short() {
-    for record in [mint(1, 2), register(1, transaction(5, &[(1, 0)], &[1]))] {
+    let five = transaction(5, &[(1, 0)], &[1]);
+    for record in [mint(1, 2), register(1, five), turn(1)] {
         for room in 0..record.length() {
             let mut lent = vec![0xEE; room];
             assert_eq!(record.write(&mut lent), Err(Refusal::BufferTooShort));

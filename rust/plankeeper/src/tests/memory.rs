@@ -1,7 +1,7 @@
 //! The words of the memory by hand.
 
 use super::story::{
-    AMOUNT, OWNER, UNSET, cluster_story, mint, register, shard_stories, transaction, yes,
+    AMOUNT, OWNER, UNSET, cluster_story, mint, register, shard_stories, transaction, turn, yes,
 };
 use crate::boundary::{ClusterMemory, Memory, ShardMemory};
 use crate::{Cluster, Ledger, Record, Shard, Transaction};
@@ -17,7 +17,7 @@ fn shard(number: u8) -> Shard {
 
 /// The words of one shard in a cluster.
 fn words_of(cluster: &Cluster, number: usize) -> &[u32] {
-    &cluster.memory().words()[2147 * number..][..2147]
+    &cluster.memory().words()[2148 * number..][..2148]
 }
 
 fn play_story(cluster: &mut Cluster) {
@@ -26,8 +26,8 @@ fn play_story(cluster: &mut Cluster) {
     }
 }
 
-/// A shard's words by hand: its number, the indices given, the tokens, and the
-/// transactions with what was heard.
+/// The words by hand of a shard that is not turned: its number, the indices
+/// given, the tokens, and the transactions with what was heard.
 fn check_shard(
     words: &[u32],
     number: u32,
@@ -35,16 +35,16 @@ fn check_shard(
     tokens: &[[u32; 5]],
     known: &[(Transaction, [u32; 8])],
 ) {
-    let counts = [number, tokens.len() as u32, known.len() as u32];
-    assert_eq!(words[..3], counts, "number and counts");
-    let flags = (0..128).filter(|index| words[3 + index] != 0);
+    let front = [number, tokens.len() as u32, known.len() as u32, 0];
+    assert_eq!(words[..4], front, "number, counts, not turned");
+    let flags = (0..128).filter(|index| words[4 + index] != 0);
     assert_eq!(flags.collect::<Vec<_>>(), given, "indices given");
-    assert_eq!(words[131..131 + 5 * tokens.len()], *tokens.as_flattened());
+    assert_eq!(words[132..132 + 5 * tokens.len()], *tokens.as_flattened());
     let known = known
         .iter()
         .flat_map(|(transaction, heard)| transaction.words().iter().chain(heard));
     let known: Vec<u32> = known.copied().collect();
-    assert_eq!(words[771..771 + known.len()], known, "transactions known");
+    assert_eq!(words[772..772 + known.len()], known, "transactions known");
 }
 
 #[test]
@@ -164,10 +164,47 @@ fn the_last_words_of_a_full_shard() {
     let mut cluster = cluster();
     play_story(&mut cluster);
     let words = words_of(&cluster, 7);
-    assert_eq!(words[..3], [7, 128, 32]);
-    assert!(words[3..131].iter().all(|&flag| flag != 0));
-    assert_eq!(words[766..771], [0, 127, OWNER, AMOUNT, 0]);
+    assert_eq!(words[..4], [7, 128, 32, 0]);
+    assert!(words[4..132].iter().all(|&flag| flag != 0));
+    assert_eq!(words[767..772], [0, 127, OWNER, AMOUNT, 0]);
     let last = transaction(131, &[(7, 31)], &[6]);
-    assert_eq!(words[2104..2139], *last.words());
-    assert_eq!(words[2139..], [0, 0, 0, 0, 0, 0, 0, 2]);
+    assert_eq!(words[2105..2140], *last.words());
+    assert_eq!(words[2140..], [0, 0, 0, 0, 0, 0, 0, 2]);
+}
+
+/// The places of the words that the call changes, each with what it was and what
+/// it is.
+fn changed<M: Memory>(ledger: &mut Ledger<M>, record: &Record) -> Vec<(usize, u32, u32)> {
+    let before = ledger.memory().words().as_ref().to_vec();
+    ledger.play(record).expect("it is carried out");
+    let after = ledger.memory().words().as_ref();
+    let places = 0..before.len();
+    places
+        .filter(|&place| before[place] != after[place])
+        .map(|place| (place, before[place], after[place]))
+        .collect()
+}
+
+/// A turn changes its own word and the pledges of what was aborted. Transaction 5
+/// has bound a token for nothing, 6 waits, and the third token is free.
+#[test]
+fn words_of_a_turn() {
+    let vain = transaction(5, &[(1, 0), (1, 9)], &[1, 1]);
+    let waits = transaction(6, &[(1, 1)], &[2]);
+    let (mut cluster, mut shard) = (cluster(), shard(1));
+    let mut records = Vec::from([0, 1, 2].map(|index| mint(1, index)));
+    records.extend([register(1, vain), register(1, waits)]);
+    for record in &records {
+        cluster.play(record).expect("it is carried out");
+        shard.play(record).expect("it is carried out");
+    }
+    let lone = changed(&mut shard, &turn(1));
+    assert_eq!(lone, [(3, 0, 1), (132 + 4, 5, 0)]);
+    let member = lone
+        .into_iter()
+        .map(|(place, was, is)| (2148 + place, was, is));
+    assert!(member.eq(changed(&mut cluster, &turn(1))));
+    // A shard that holds nothing, and the last one.
+    assert_eq!(changed(&mut cluster, &turn(0)), [(3, 0, 1)]);
+    assert_eq!(changed(&mut cluster, &turn(7)), [(7 * 2148 + 3, 0, 1)]);
 }

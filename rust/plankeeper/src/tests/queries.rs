@@ -1,6 +1,6 @@
 //! Queries by hand.
 
-use super::story::{AMOUNT, OWNER, cluster_story, mint, register, transaction, yes};
+use super::story::{AMOUNT, OWNER, cluster_story, mint, register, transaction, turn, yes};
 use crate::boundary::Memory;
 use crate::{Cluster, Known, Outcome, Shard, Token, TokenId, Verdict};
 
@@ -61,6 +61,30 @@ fn queries_after_calls() {
     assert_eq!((shard.outcome(0), cluster.outcome(3, 7)), (None, None));
 }
 
+/// Alone and in a cluster, by words and in types; a shard that there is not is
+/// not turned either.
+#[test]
+fn turned_shards() {
+    let (mut cluster, mut shard) = (Cluster::new(), Shard::new(6));
+    assert_eq!((shard.is_turned(), shard.memory().is_turned()), (false, 0));
+    for number in 0..=255 {
+        let answer = cluster.turn(number);
+        assert_eq!(answer.is_ok(), number < 8, "shard {number}");
+        assert_eq!(shard.turn(number).is_ok(), number == 6, "shard {number}");
+        assert_eq!(shard.is_turned(), number >= 6);
+        for other in [0, 6, 7, 8, number] {
+            let turned = other <= number && other < 8;
+            assert_eq!(cluster.is_turned(other), turned, "{other} of {number}");
+            let word = cluster.memory().is_turned(other.into());
+            assert_eq!(word, turned.into(), "{other} of {number}");
+        }
+    }
+    assert_eq!(shard.memory().is_turned(), 1);
+    for none in [8, 255, 256, 262, u32::MAX] {
+        assert_eq!(cluster.memory().is_turned(none), 0, "shard {none}");
+    }
+}
+
 /// The words of every answer, also where there is nothing.
 #[test]
 fn words_of_queries() {
@@ -79,10 +103,10 @@ fn words_of_queries() {
     assert_eq!(known[..35], *transaction(6, &[(1, 0)], &[1]).words());
     assert_eq!(known[35..], [0, 1, 0, 0, 0, 0, 0, 0]);
     // Transaction 8 is aborted by the no of shard 1 itself, which has heard no
-    // other vote; 11 by one that it has heard, while at shard 2 it waits.
+    // other vote; 11 by one that it has heard, while at shard 4 it waits.
     let outcomes = [5, 6, 7, 8, 9, 11].map(|number| memory.outcome_of(1, number));
     assert_eq!(outcomes, [1, 2, 1, 2, 3, 2]);
-    assert_eq!(memory.outcome_of(2, 11), 0);
+    assert_eq!(memory.outcome_of(4, 11), 0);
     assert_eq!(memory.known_at(1, 3, &mut known), 2);
     assert_eq!((known[0], &known[35..]), (8, &[0, 1, 0, 0, 0, 0, 0, 0][..]));
     assert_eq!(memory.known_at(1, 4, &mut known), 2);
@@ -111,13 +135,18 @@ fn ledgers_are_shown() {
     shard.play(&mint(3, 4)).expect("the token is given");
     let token = "Token { id: TokenId { shard: 3, creator: 0, index: 4 }, \
         owner: 16909060, amount: 1000, pledge: None }";
-    let shown = format!("Shard {{ number: 3, tokens: [{token}], transactions: [] }}");
+    let rest = format!("tokens: [{token}], transactions: [] }}");
+    let shown = format!("Shard {{ number: 3, turned: false, {rest}");
     assert_eq!(format!("{shard:?}"), shown);
+    shard.play(&turn(3)).expect("it was not turned");
+    let turned = format!("Shard {{ number: 3, turned: true, {rest}");
+    assert_eq!(format!("{shard:?}"), turned);
 
     let mut cluster = Cluster::new();
     cluster.play(&mint(3, 4)).expect("the token is given");
     let text = format!("{cluster:?}");
-    assert!(text.starts_with("Cluster [Shard { number: 0, tokens: [], transactions: [] }, "));
+    let empty = "Shard { number: 0, turned: false, tokens: [], transactions: [] }";
+    assert!(text.starts_with(&format!("Cluster [{empty}, ")), "{text}");
     assert!(text.contains(&shown), "{text}");
     assert_eq!(text.matches("number").count(), 8);
 }

@@ -49,6 +49,10 @@ pub fn no(sender: u8, receiver: u8, transaction: Transaction) -> Record {
     }
 }
 
+pub fn turn(receiver: u8) -> Record {
+    Record::Turn { receiver }
+}
+
 /// Takes genesis tokens (shard, index) and makes as many tokens at these
 /// shards.
 pub fn transaction(number: u32, tokens: &[(u8, u8)], shards: &[u8]) -> Transaction {
@@ -130,6 +134,7 @@ pub fn encode(record: &Record) -> Vec<u8> {
             let numbers = [owner, amount].map(u32::to_be_bytes);
             return [&[3, receiver, index], numbers.as_flattened()].concat();
         }
+        Record::Turn { receiver } => return vec![4, receiver],
     };
     for (place, word) in transaction.words().iter().enumerate() {
         let all = word.to_be_bytes();
@@ -192,9 +197,27 @@ pub fn cluster_story() -> Vec<Told> {
         (yes(4, 1, four), 302),
         (yes(4, 1, four), 402),
     ];
+    told.extend(turned_shard(four));
     told.extend(refused_forms());
     told.extend(full_shard());
     told
+}
+
+/// Shard 2 is turned. Its first token is bound by a transaction that it has
+/// aborted, and comes free; the other one by `four`, which waits there, and the
+/// turn leaves it so until the no.
+fn turned_shard(four: Transaction) -> [Told; 8] {
+    let again = |number, index| register(2, transaction(number, &[(2, index)], &[2]));
+    [
+        (again(12, 0), 202),
+        (turn(2), 500),
+        (turn(2), 19),
+        (turn(8), 3),
+        (again(13, 0), 211),
+        (again(14, 1), 202),
+        (no(3, 2, four), 302),
+        (again(15, 1), 211),
+    ]
 }
 
 /// Every answer that a lone shard can give to a call, first shard 1 and then
@@ -236,6 +259,7 @@ pub fn shard_stories() -> [(u8, Vec<Told>); 2] {
         (yes(4, 1, four), 402),
         (no(4, 1, four), 12),
     ];
+    told.extend([(turn(2), 3), (turn(1), 500), (turn(1), 19), (turn(2), 3)]);
     told.extend(refused_forms());
     [(1, told), (7, full_shard())]
 }

@@ -1,7 +1,9 @@
 //! Words wider than their fields.
 
 use super::story::{AMOUNT, BYTES, OWNER, Told, cluster_story, shard_stories, transaction};
-use crate::boundary::{Memory, TransactionWords, write_mint, write_register, write_vote};
+use crate::boundary::{
+    Memory, TransactionWords, write_mint, write_register, write_turn, write_vote,
+};
 use crate::{Cluster, Ledger, Record, Shard};
 
 /// What goes beyond a byte, wherever it stands.
@@ -63,6 +65,9 @@ fn wide_codes<M: Memory>(memory: &mut M, record: &Record) -> Vec<u32> {
                 })
                 .collect()
         }
+        Record::Turn { receiver } => widened([receiver.into()], &[0])
+            .map(|[receiver]| memory.turn(receiver))
+            .collect(),
     }
 }
 
@@ -76,6 +81,7 @@ fn check_story<M: Memory>(ledger: &mut Ledger<M>, told: &[Told]) {
             Record::Mint { .. } => 2,
             Record::Register { .. } => 15,
             Record::Vote { .. } => 17,
+            Record::Turn { .. } => 1,
         };
         assert_eq!(codes, vec![3; 4 * ways], "{record:?}");
         let after = ledger.memory().words().as_ref();
@@ -107,6 +113,7 @@ fn wide_words_are_refused_by_the_writers() {
     }
     for [receiver] in widened([1], &[0]) {
         assert_eq!(write_register(receiver, &narrow, out), 3000);
+        assert_eq!(write_turn(receiver, out), 3000);
     }
     for [receiver, sender, verdict] in widened([1, 2, 1], &[0, 1, 2]) {
         let answer = write_vote(receiver, sender, verdict, &narrow, out);
@@ -120,4 +127,5 @@ fn wide_words_are_refused_by_the_writers() {
     assert_eq!(write_register(1, &narrow, out), 100);
     assert_eq!(write_vote(1, 2, 1, &narrow, out), 102);
     assert_eq!(write_mint(1, 2, OWNER, AMOUNT, out), 11);
+    assert_eq!(write_turn(1, out), 2);
 }

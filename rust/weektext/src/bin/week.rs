@@ -28,6 +28,7 @@ line; # begins a comment.
 
   register 5 at 0                         # to the receiving pantry
   vote yes on 5 from 1 to 0               # yes, no or the verdict's byte
+  turn pantry 0                           # its aborts free their tokens from now on
   bytes 01 ff                             # any bytes, in hexadecimal digits
 
 A second, different swap with the same number needs a label: 'swap 5 as b', and
