@@ -58,11 +58,11 @@ use Rattle.model.specs.Steps.{
 use Rattle.model.specs.Shard.{Call, ifUndecided, reservedBy, reserved, shardStep}
 use Rattle.model.specs.Fit.{isSet, counted, Fit}
 use Rattle.model.specs.Cluster.{ledgerAt}
-use Rattle.model.specs.Model.{Model, emptyModel, step, after, play}
-use Rattle.model.proofs.Basics.{eqb-apart, find-at, set-elim, getD-same}
+use Rattle.model.specs.Model.{Model, play}
+use Rattle.model.proofs.Basics.{eqb-apart, find-at, getD-same}
 use Rattle.model.proofs.Entries.{same-eq, whole-known}
 use Rattle.model.proofs.Outcomes.{outcome-yes, CaseOutcome, case-wait, case-commit, case-abort, case-outcome, abort-stays}
-use Rattle.model.proofs.Refusals.{shard-below, part-in, MintPasses, RegisterPasses, DeliverPasses}
+use Rattle.model.proofs.Refusals.{part-in, MintPasses, RegisterPasses, DeliverPasses}
 use Rattle.model.proofs.Effects.{
   ShardEffect,
   shard-refused,
@@ -77,11 +77,10 @@ use Rattle.model.proofs.Effects.{
   did-register,
   did-hear,
   did-repeat,
-  effect,
   shard-turned,
   did-turn,
 }
-use Rattle.model.proofs.Steps.{Inv, step-next, empty-inv}
+use Rattle.model.proofs.Steps.{Inv, at-one, play-keeps}
 
 -- ---- Lengths and sums
 
@@ -198,7 +197,7 @@ unfolding freeing
 freeing-length f tokens = length-map tokens (pledgeWhen 0 f)
 
 -- so the end of pledges leaves as many tokens
-pub ended-length : (turned : Bool) (o : Outcome) (number : ℕ) (tokens : List Token) → length (ended turned o number tokens) ≡ length tokens
+ended-length : (turned : Bool) (o : Outcome) (number : ℕ) (tokens : List Token) → length (ended turned o number tokens) ≡ length tokens
 ended-length turned Wait number tokens = refl
 ended-length turned Commit number tokens = refl
 ended-length false Abort number tokens = refl
@@ -343,36 +342,21 @@ module _ (limits : Limits) (sized : limits .genesis ≤ limits .tokens) where
   step-fit place model w f call _ (did-refuse h) = f
   step-fit place model w f call _ (did-repeat h z) = f
   step-fit place model w f call _ (did-mint {p = p} h) =
-      set-elim (λ q l. Fit limits q l) (model .shards) (emptyLedger limits) p _ (let e = w .eight in let b = shard-below p (h .receiver-fits) in omega arith)
-      (mint-fit limits sized p (ledgerAt limits (model .shards) p) (f p) h) (λ q n. f q)
+      at-one limits place model w (Fit limits) p _ (h .receiver-fits) (mint-fit limits sized p (ledgerAt limits (model .shards) p) (f p) h) (λ q n. f q)
   step-fit place model w f call _ (did-register {p = p} h) =
-      set-elim (λ q l. Fit limits q l) (model .shards) (emptyLedger limits) p _
-      (let e = w .eight in let b = shard-below p (h .form .receiver-fits) in omega arith)
+      at-one limits place model w (Fit limits) p _ (h .form .receiver-fits)
       (register-fit limits sized p (ledgerAt limits (model .shards) p) (f p) h) (λ q n. f q)
   step-fit place model w f call _ (did-turn {p = p} h) =
-      set-elim (λ q l. Fit limits q l) (model .shards) (emptyLedger limits) p _ (let e = w .eight in let b = shard-below p (h .receiver-fits) in omega arith)
-      (turn-fit limits sized p (ledgerAt limits (model .shards) p) (f p)) (λ q n. f q)
+      at-one limits place model w (Fit limits) p _ (h .receiver-fits) (turn-fit limits sized p (ledgerAt limits (model .shards) p) (f p)) (λ q n. f q)
   step-fit place model w f call _ (did-hear {p = p} h g z) =
-      set-elim (λ q l. Fit limits q l) (model .shards) (emptyLedger limits) p _
-      (let e = w .eight in let b = shard-below p (h .form .receiver-fits) in omega arith)
+      at-one limits place model w (Fit limits) p _ (h .form .receiver-fits)
       (vote-fit limits sized p (ledgerAt limits (model .shards) p) (f p) h z) (λ q n. f q)
-
-  -- and so does every list of calls
-  after-fit : (place : ℕ) (model : Model) → Inv limits model → ((p : ℕ) → Fit limits p (ledgerAt limits (model .shards) p))
-      → (calls : List Call) (p : ℕ) → Fit limits p (ledgerAt limits (after limits place model calls .shards) p)
-  unfolding after
-  after-fit place model w f [] = f
-  after-fit place model w f (call ∷ calls) =
-      let e = effect limits place model call in
-      after-fit (suc place) (step limits place model call .0)
-      (step-next limits place model w call (step limits place model call) e .inv) (step-fit place model w f call (step limits place model call) e) calls
 
   -- every shard of every play keeps its limits
   pub play-fit : (calls : List Call) (p : ℕ) → Fit limits p (ledgerAt limits (play limits calls .shards) p)
-  unfolding play
-  play-fit calls =
-      after-fit 1 (emptyModel limits) (empty-inv limits)
-      (λ p. subst (Fit limits p) (sym (getD-same 8 (emptyLedger limits) p)) (empty-fit limits p)) calls
+  play-fit =
+      play-keeps limits (λ model. (p : ℕ) → Fit limits p (ledgerAt limits (model .shards) p)) step-fit
+      (λ p. subst (Fit limits p) (sym (getD-same 8 (emptyLedger limits) p)) (empty-fit limits p))
 
   -- held tokens plus reserved outputs never pass the limit
   pub never-passes : (calls : List Call) (p : ℕ)

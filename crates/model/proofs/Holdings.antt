@@ -158,7 +158,7 @@ available-token tokens x s e =
 -- ---- Pledges
 
 -- a change of pledge changes neither creator, index nor value
-pub pledge-keeps : (n : ℕ) (f : Token → Bool) (t : Token) → ((pledgeWhen n f t) .creator ≡ t .creator)
+pledge-keeps : (n : ℕ) (f : Token → Bool) (t : Token) → ((pledgeWhen n f t) .creator ≡ t .creator)
     × ((pledgeWhen n f t) .index ≡ t .index) × (tokenValue (pledgeWhen n f t) ≡ tokenValue t)
 pledge-keeps n f t = go (f t)
   where

@@ -12,7 +12,7 @@ use Rattle.transaction.specs.declared.Input.{Input}
 use Rattle.transaction.specs.declared.Transaction.{Transaction}
 use Rattle.transaction.specs.Lists.{any, all}
 use Rattle.transaction.specs.Tokens.{shardsOf, sameToken}
-use Rattle.transaction.specs.Checks.{namedTwice}
+use Rattle.transaction.specs.Checks.{namedTwice, shardFits}
 use Rattle.model.specs.declared.Token.{Token}
 use Rattle.model.specs.declared.Known.{Known}
 use Rattle.model.specs.declared.Outcome.{Outcome}
@@ -131,7 +131,7 @@ use Rattle.model.proofs.Invariant.{
   ended-ok,
 }
 use Rattle.model.proofs.Refusals.{shard-below, number-positive, part-in}
-use Rattle.model.proofs.Effects.{Effect, did-refuse, did-mint, did-register, did-hear, did-repeat, did-turn, effect}
+use Rattle.model.proofs.Effects.{Effect, did-refuse, did-mint, did-register, did-hear, did-repeat, did-turn, effect, replaced}
 
 -- ---- The log
 
@@ -703,9 +703,25 @@ module _ (limits : Limits) (place : ℕ) (model : Model) (w : Inv limits model) 
   abbrev at : ℕ → Ledger
   at p = ledgerAt limits (model .shards) p
 
-  -- the eight shards are all there
-  in-range : {p : ℕ} → p < 8 → p < length (model .shards)
-  in-range h = let e = w .eight in omega arith
+  -- one shard's ledger replaced: what holds of the new one there, and of each other shard's as it was
+  pub at-one : (P : ℕ → Ledger → Type 0) (p : ℕ) (l : Ledger) → shardFits p ≡ true → P p l → ((q : ℕ) → (q ≡ p → ⊥) → P q (at q))
+      → (q : ℕ) → P q (ledgerAt limits (set (model .shards) p l) q)
+  at-one P p l fits here others =
+      let below : p < length (model .shards) = let e = w .eight in let b = shard-below p fits in omega arith in
+      set-elim P (model .shards) (emptyLedger limits) p l below here others
+
+  -- with the log and the genesis tokens beside it
+  replaced-next : (p : ℕ) (l : Ledger) (log : List Entry) (minted : List Genesis) → shardFits p ≡ true → Ok limits log p (genesisAt minted p) l
+      → ((q : ℕ) → (q ≡ p → ⊥) → Ok limits log q (genesisAt minted q) (at q)) → Logged log → Grows (at p .known) (l .known)
+      → Next limits model (replaced limits place model p l log minted)
+  replaced-next p l log minted fits here others logged grows = record {
+    inv = record {
+      eight = length-set (model .shards) p l ∙ w .eight;
+      at = at-one (λ q l. Ok limits log q (genesisAt minted q) l) p l fits here others;
+      logged = logged;
+    };
+    grows = at-one (λ q l. Grows (at q .known) (l .known)) p l fits grows (λ q n. grows-refl (at q .known));
+  }
 
   -- another shard's genesis tokens are what they were
   genesis-other : (g : Genesis) (q : ℕ) → (q ≡ g .shard → ⊥) → genesisAt (model .minted) q ≡ genesisAt (g ∷ model .minted) q
@@ -719,82 +735,34 @@ module _ (limits : Limits) (place : ℕ) (model : Model) (w : Inv limits model) 
   step-next call _ (did-refuse h) = stay w
   step-next call _ (did-repeat h z) = stay w
   step-next call _ (did-turn {p = p} h) =
-      let l : Ledger = afterTurn (at p) in
-      let below : p < length (model .shards) = in-range (shard-below p (h .receiver-fits)) in
-      record {
-        inv = record {
-          eight = length-set (model .shards) p l ∙ w .eight;
-          at = set-elim (λ q l. Ok limits (model .log) q (genesisAt (model .minted) q) l) (model .shards) (emptyLedger limits) p l below
-              (turn-ok (w .at p)) (λ q n. w .at q);
-          logged = w .logged;
-        };
-        grows = set-elim (λ q l. Grows (at q .known) (l .known)) (model .shards) (emptyLedger limits) p l below
-            (unfold afterTurn in grows-refl (at p .known)) (λ q n. grows-refl (at q .known));
-      }
+      replaced-next p (afterTurn (at p)) (model .log) (model .minted) (h .receiver-fits) (turn-ok (w .at p)) (λ q n. w .at q) (w .logged)
+      (unfold afterTurn in grows-refl (at p .known))
   step-next call _ (did-mint {p = p} {index = i} {owner = owner} {amount = amount} h) =
       let g : Genesis = record { shard = p; index = i; owner = owner; amount = amount } in
-      let l : Ledger = afterMint (at p) i owner amount in
-      let below : p < length (model .shards) = in-range (shard-below p (h .receiver-fits)) in
-      record {
-        inv = record {
-          eight = length-set (model .shards) p l ∙ w .eight;
-          at = set-elim (λ q l. Ok limits (model .log) q (genesisAt (g ∷ model .minted) q) l) (model .shards) (emptyLedger limits) p l below
-              (unfold genesisLedger in mint-ok (w .at p) i owner amount (h .none-known) (h .index-fits)
-              (is-none-of (genesisAt (model .minted) p 0 i) (sym (w .at p .indices i) ∙ h .ungiven)))
-              (λ q n. subst (λ (f : ℕ → ℕ → Option Value). Ok limits (model .log) q f (at q)) (genesis-other g q n) (w .at q));
-          logged = w .logged;
-        };
-        grows = set-elim (λ q l. Grows (at q .known) (l .known)) (model .shards) (emptyLedger limits) p l below
-            (unfold afterMint in grows-refl (at p .known)) (λ q n. grows-refl (at q .known));
-      }
+      replaced-next p (afterMint (at p) i owner amount) (model .log) (g ∷ model .minted) (h .receiver-fits)
+      (unfold genesisLedger in mint-ok (w .at p) i owner amount (h .none-known) (h .index-fits)
+      (is-none-of (genesisAt (model .minted) p 0 i) (sym (w .at p .indices i) ∙ h .ungiven)))
+      (λ q n. subst (λ (f : ℕ → ℕ → Option Value). Ok limits (model .log) q f (at q)) (genesis-other g q n) (w .at q))
+      (w .logged) (unfold afterMint in grows-refl (at p .known))
   step-next call _ (did-register {p = p} {t = t} h) =
-      let l : Ledger = afterRegister p (at p) t in
       let below : p < 8 = shard-below p (h .form .receiver-fits) in
       let positive : t .number ≡ 0 → ⊥ = number-positive (limits .genesis) t (h .form .fields) in
       let unknown : look (at p .known) (t .number) ≡ none = number-unknown t (at p .known) (h .no-other) (h .unknown) in
       let member : List·Memᴰ p (shardsOf t) = part-in p t (h .form .takes-part) in
       let r : Entry = entryFor limits place (model .shards) p t in
-      record {
-        inv = record {
-          eight = length-set (model .shards) p l ∙ w .eight;
-          at = set-elim (λ q l. Ok limits (r ∷ model .log) q (genesisAt (model .minted) q) l) (model .shards) (emptyLedger limits) p l (in-range below)
-              (register-ok (w .at p) t positive unknown (h .form .distinct) member below place) (λ q n. ok-other r (λ z. n (sym z)) (w .at q));
-          logged = register-logged (w .at p) t positive unknown (h .form .distinct) member below place (w .logged);
-        };
-        grows = set-elim (λ q l. Grows (at q .known) (l .known)) (model .shards) (emptyLedger limits) p l (in-range below)
-            (register-grows (w .at p) t positive unknown (h .form .distinct) member below place) (λ q n. grows-refl (at q .known));
-      }
+      replaced-next p (afterRegister p (at p) t) (r ∷ model .log) (model .minted) (h .form .receiver-fits)
+      (register-ok (w .at p) t positive unknown (h .form .distinct) member below place) (λ q n. ok-other r (λ z. n (sym z)) (w .at q))
+      (register-logged (w .at p) t positive unknown (h .form .distinct) member below place (w .logged))
+      (register-grows (w .at p) t positive unknown (h .form .distinct) member below place)
   step-next call _ (did-hear {p = p} {sender = q} {verdict = v} {t = t} h g z) =
-      let l : Ledger = afterVote p (at p) q v t in
-      let below : p < 8 = shard-below p (h .form .receiver-fits) in
       let known : any (isFor t) (at p .known) ≡ true = whole-known t (at p .known) (h .number-known) (h .no-other) in
+      let from : q < 8 = shard-below q (h .sender-fits) in
       let member : List·Memᴰ q (shardsOf t) = part-in q t (h .sender-part) in
-      let v₁ : Voted (model .log) q t (v + 1) = gave-vote limits model w q v t g in
-      record {
-        inv = record {
-          eight = length-set (model .shards) p l ∙ w .eight;
-          at = set-elim (λ a l. Ok limits (model .log) a (genesisAt (model .minted) a) l) (model .shards) (emptyLedger limits) p l (in-range below)
-              (vote-ok (w .at p) t known q v (shard-below q (h .sender-fits)) z member v₁) (λ a n. w .at a);
-          logged = w .logged;
-        };
-        grows = set-elim (λ a l. Grows (at a .known) (l .known)) (model .shards) (emptyLedger limits) p l (in-range below)
-            (vote-grows (w .at p) t known q v (shard-below q (h .sender-fits)) z member v₁) (λ a n. grows-refl (at a .known));
-      }
+      let given : Voted (model .log) q t (v + 1) = gave-vote limits model w q v t g in
+      replaced-next p (afterVote p (at p) q v t) (model .log) (model .minted) (h .form .receiver-fits)
+      (vote-ok (w .at p) t known q v from z member given) (λ a n. w .at a) (w .logged) (vote-grows (w .at p) t known q v from z member given)
 
 -- ---- Every list of calls
-
--- after any list of calls
-pub after-next : (limits : Limits) (place : ℕ) (model : Model) → Inv limits model → (calls : List Call) → Next limits model (after limits place model calls)
-unfolding after
-after-next limits place model w [] = stay w
-after-next limits place model w (call ∷ calls) =
-    let one = step-next limits place model w call (step limits place model call) (effect limits place model call) in
-    let rest = after-next limits (suc place) (step limits place model call .0) (one .inv) calls in
-    record {
-      inv = rest .inv;
-      grows = λ p. grows-trans (ledgerAt limits (model .shards) p .known) (ledgerAt limits (step limits place model call .0 .shards) p .known)
-          (ledgerAt limits (after limits (suc place) (step limits place model call .0) calls .shards) p .known) (one .grows p) (rest .grows p);
-    }
 
 -- each shard of the empty cluster is empty
 empty-at : (limits : Limits) (p : ℕ) → ledgerAt limits (emptyShards limits) p ≡ emptyLedger limits
@@ -828,22 +796,51 @@ empty-inv limits = record {
   logged = record { once = tt; member = λ r m. elim m [ ]; unique = λ r₁ r₂ m. elim m [ ] };
 }
 
+-- what each call keeps, every list of calls keeps
+module _ (limits : Limits) (P : Model → Type 0)
+    (keeps : (place : ℕ) (model : Model) → Inv limits model → P model → (call : Call) (r : Model × Answer) → Effect limits place model call r → P (r .0)) where
+  -- one call further
+  next-keeps : (place : ℕ) (model : Model) → Inv limits model → P model → (call : Call) → P (step limits place model call .0)
+  next-keeps place model w p call = keeps place model w p call (step limits place model call) (effect limits place model call)
+
+  -- and the invariant with it
+  next-inv : (place : ℕ) (model : Model) → Inv limits model → (call : Call) → Inv limits (step limits place model call .0)
+  next-inv place model w call = step-next limits place model w call (step limits place model call) (effect limits place model call) .inv
+
+  after-keeps : (place : ℕ) (model : Model) → Inv limits model → P model → (calls : List Call) → P (after limits place model calls)
+  unfolding after
+  after-keeps place model w p [] = p
+  after-keeps place model w p (call ∷ calls) =
+      after-keeps (suc place) (step limits place model call .0) (next-inv place model w call) (next-keeps place model w p call) calls
+
+  -- from the state that a list leads to, however it goes on
+  longer-keeps : (place : ℕ) (model : Model) → Inv limits model → (calls more : List Call)
+      → P (after limits place model calls) → P (after limits place model (calls ++ more))
+  unfolding after
+  longer-keeps place model w [] more p = after-keeps place model w p more
+  longer-keeps place model w (call ∷ calls) more p =
+      longer-keeps (suc place) (step limits place model call .0) (next-inv place model w call) calls more p
+
+  -- of every play
+  pub play-keeps : P (emptyModel limits) → (calls : List Call) → P (play limits calls)
+  unfolding play
+  play-keeps p calls = after-keeps 1 (emptyModel limits) (empty-inv limits) p calls
+
+  -- and of every longer one
+  pub play-longer : (calls more : List Call) → P (play limits calls) → P (play limits (calls ++ more))
+  unfolding play
+  play-longer calls more p = longer-keeps 1 (emptyModel limits) (empty-inv limits) calls more p
+
 -- the invariant of a play
 pub play-inv : (limits : Limits) (calls : List Call) → Inv limits (play limits calls)
-unfolding play
-play-inv limits calls = after-next limits 1 (emptyModel limits) (empty-inv limits) calls .inv
-
--- what a longer list leads to is what its first part leads to, and then more
-later : (limits : Limits) (place : ℕ) (model : Model) → Inv limits model → (calls more : List Call) (p : ℕ)
-    → Grows (ledgerAt limits (after limits place model calls .shards) p .known) (ledgerAt limits (after limits place model (calls ++ more) .shards) p .known)
-unfolding after
-later limits place model w [] more p = after-next limits place model w more .grows p
-later limits place model w (call ∷ calls) more p =
-    later limits (suc place) (step limits place model call .0)
-    (step-next limits place model w call (step limits place model call) (effect limits place model call) .inv) calls more p
+play-inv limits calls = play-keeps limits (Inv limits) (λ place model w _ call r e. step-next limits place model w call r e .inv) (empty-inv limits) calls
 
 -- nothing is forgotten in a longer play
 pub play-grows : (limits : Limits) (calls more : List Call) (p : ℕ)
     → Grows (ledgerAt limits (play limits calls .shards) p .known) (ledgerAt limits (play limits (calls ++ more) .shards) p .known)
-unfolding play
-play-grows limits calls more p = later limits 1 (emptyModel limits) (empty-inv limits) calls more p
+play-grows limits calls more p =
+    let known : Model → List Known = λ model. ledgerAt limits (model .shards) p .known in
+    let first : List Known = known (play limits calls) in
+    play-longer limits (λ model. Grows first (known model))
+    (λ place model w g call r e. grows-trans first (known model) (known (r .0)) g (step-next limits place model w call r e .grows p))
+    calls more (grows-refl first)

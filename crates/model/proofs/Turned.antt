@@ -1,17 +1,15 @@
 -- Document 02, 4. A turn changes no token but its pledge, and an unturned shard's steps are document 01's. At a turned shard no token is pledged to
 -- a transaction that the shard has aborted: turning frees those that are, each later abort frees its own, and a turned shard stays so.
-use Prim.Native.Nat.{ℕ, suc, _<_}
-use native.Mathlib.Omega.{arith}
+use Prim.Native.Nat.{ℕ}
 use mathlib.Core.Path.{_≡_, refl, ap, sym, _∙_, subst}
 use mathlib.Core.Logic.{_≢_}
 use mathlib.Core.Bool.{Bool, true, false, cond, true≢false}
 use mathlib.Core.Option.{Option, none, some}
 use mathlib.Core.List.{List, [], _∷_, _++_, map, List·Memᴰ, List·Memᴰ·head, List·Memᴰ·tail}
 use lib.Dec.{eqb}
-use lib.ListN.{length, set}
+use lib.ListN.{set}
 use Rattle.transaction.specs.declared.Transaction.{Transaction}
 use Rattle.transaction.specs.Lists.{any}
-use Rattle.transaction.specs.Checks.{shardFits}
 use Rattle.model.specs.declared.Token.{Token}
 use Rattle.model.specs.declared.Known.{Known}
 use Rattle.model.specs.declared.Outcome.{Outcome}
@@ -54,7 +52,7 @@ use Rattle.model.specs.Steps.{
 }
 use Rattle.model.specs.Shard.{Call, hear}
 use Rattle.model.specs.Cluster.{ledgerAt}
-use Rattle.model.specs.Model.{Entry, Model, emptyModel, step, after, play}
+use Rattle.model.specs.Model.{Entry, Model, play}
 use Rattle.model.specs.Demand.{Value, tokenAt}
 use Rattle.model.proofs.Basics.{
   eqb-eq,
@@ -70,7 +68,6 @@ use Rattle.model.proofs.Basics.{
   orElse,
   some≢none,
   some-inj,
-  set-elim,
   getD-same,
 }
 use Rattle.model.proofs.Lookups.{lookup-mem}
@@ -90,9 +87,9 @@ use Rattle.model.proofs.Entries.{
 }
 use Rattle.model.proofs.Holdings.{taken, mem-tok, tok-when, made-unpledged, tok-commit}
 use Rattle.model.proofs.Invariant.{Pledged, Aborted, Ok}
-use Rattle.model.proofs.Refusals.{shard-below, number-positive}
-use Rattle.model.proofs.Effects.{Effect, did-refuse, did-mint, did-register, did-hear, did-repeat, did-turn, effect}
-use Rattle.model.proofs.Steps.{Inv, step-next, empty-inv, play-inv}
+use Rattle.model.proofs.Refusals.{number-positive}
+use Rattle.model.proofs.Effects.{Effect, did-refuse, did-mint, did-register, did-hear, did-repeat, did-turn}
+use Rattle.model.proofs.Steps.{Inv, play-inv, at-one, play-keeps, play-longer}
 use Rattle.model.proofs.OneNo.{late-vote}
 
 -- ---- What turning leaves as it was
@@ -302,46 +299,29 @@ module _ {limits : Limits} {log : List Entry} {p : ℕ} {genesis : ℕ → ℕ �
 -- ---- Every list of calls
 
 module _ (limits : Limits) where
-  -- a ledger more at one shard: what holds of it, and of every other one as before
-  at-one : (model : Model) → Inv limits model → (P : ℕ → Ledger → Type 0) (p : ℕ) (l : Ledger) → shardFits p ≡ true → P p l
-      → ((q : ℕ) → P q (ledgerAt limits (model .shards) q)) → (q : ℕ) → P q (ledgerAt limits (set (model .shards) p l) q)
-  at-one model w P p l fits here others =
-      let below : p < length (model .shards) = let e = w .eight in let b = shard-below p fits in omega arith in
-      set-elim P (model .shards) (emptyLedger limits) p l below here (λ q n. others q)
-
   -- by cases on what a call did
   step-clear : (place : ℕ) (model : Model) → Inv limits model → ((p : ℕ) → TurnedClear (ledgerAt limits (model .shards) p))
       → (call : Call) (r : Model × Answer) → Effect limits place model call r → (p : ℕ) → TurnedClear (ledgerAt limits (r .0 .shards) p)
   step-clear place model w f call _ (did-refuse h) = f
   step-clear place model w f call _ (did-repeat h z) = f
   step-clear place model w f call _ (did-mint {p = p} h) =
-      at-one model w (λ q l. TurnedClear l) p _ (h .receiver-fits)
-      (unfold afterMint in λ y m i n a b. some≢none (a .is-known) (ap (λ (known : List Known). look known n) (h .none-known))) f
+      at-one limits place model w (λ q l. TurnedClear l) p _ (h .receiver-fits)
+      (unfold afterMint in λ y m i n a b. some≢none (a .is-known) (ap (λ (known : List Known). look known n) (h .none-known))) (λ q n. f q)
   step-clear place model w f call _ (did-register {p = p} {t = t} h) =
       let unknown = number-unknown t (ledgerAt limits (model .shards) p .known) (h .no-other) (h .unknown) in
-      at-one model w (λ q l. TurnedClear l) p _ (h .form .receiver-fits)
-      (register-clear (w .at p) t (number-positive (limits .genesis) t (h .form .fields)) unknown (f p)) f
+      at-one limits place model w (λ q l. TurnedClear l) p _ (h .form .receiver-fits)
+      (register-clear (w .at p) t (number-positive (limits .genesis) t (h .form .fields)) unknown (f p)) (λ q n. f q)
   step-clear place model w f call _ (did-hear {p = p} {sender = q} {verdict = v} {t = t} h g z) =
-      at-one model w (λ q l. TurnedClear l) p _ (h .form .receiver-fits)
-      (vote-clear (w .at p) t q v (whole-known t (ledgerAt limits (model .shards) p .known) (h .number-known) (h .no-other)) (f p)) f
-  step-clear place model w f call _ (did-turn {p = p} h) = at-one model w (λ q l. TurnedClear l) p _ (h .receiver-fits) (turn-clear (w .at p)) f
-
-  -- and so does every list of calls
-  after-clear : (place : ℕ) (model : Model) → Inv limits model → ((p : ℕ) → TurnedClear (ledgerAt limits (model .shards) p))
-      → (calls : List Call) (p : ℕ) → TurnedClear (ledgerAt limits (after limits place model calls .shards) p)
-  unfolding after
-  after-clear place model w f [] = f
-  after-clear place model w f (call ∷ calls) =
-      let e = effect limits place model call in
-      let next = step limits place model call in
-      after-clear (suc place) (next .0) (step-next limits place model w call next e .inv) (step-clear place model w f call next e) calls
+      at-one limits place model w (λ q l. TurnedClear l) p _ (h .form .receiver-fits)
+      (vote-clear (w .at p) t q v (whole-known t (ledgerAt limits (model .shards) p .known) (h .number-known) (h .no-other)) (f p)) (λ q n. f q)
+  step-clear place model w f call _ (did-turn {p = p} h) =
+      at-one limits place model w (λ q l. TurnedClear l) p _ (h .receiver-fits) (turn-clear (w .at p)) (λ q n. f q)
 
   -- of every play
   play-clear : (calls : List Call) (p : ℕ) → TurnedClear (ledgerAt limits (play limits calls .shards) p)
-  unfolding play
-  play-clear calls =
-      after-clear 1 (emptyModel limits) (empty-inv limits)
-      (λ p. subst TurnedClear (sym (getD-same 8 (emptyLedger limits) p)) (λ y. absurd (true≢false (sym y)))) calls
+  play-clear =
+      play-keeps limits (λ model. (p : ℕ) → TurnedClear (ledgerAt limits (model .shards) p)) step-clear
+      (λ p. subst TurnedClear (sym (getD-same 8 (emptyLedger limits) p)) (λ y. absurd (true≢false (sym y))))
 
   -- at a turned shard of every play, no token held is pledged to a transaction that the shard has aborted
   pub turned-clear : (calls : List Call) (p : ℕ) → let ledger = ledgerAt limits (play limits calls .shards) p in
@@ -366,39 +346,20 @@ module _ (limits : Limits) where
   step-turned place model w call _ (did-refuse h) = λ q y. y
   step-turned place model w call _ (did-repeat h z) = λ q y. y
   step-turned place model w call _ (did-mint {p = p} h) =
-      at-one model w (Stays model) p _ (h .receiver-fits) (unfold afterMint in λ y. y) (λ q y. y)
+      at-one limits place model w (Stays model) p _ (h .receiver-fits) (unfold afterMint in λ y. y) (λ q n y. y)
   step-turned place model w call _ (did-register {p = p} h) =
-      at-one model w (Stays model) p _ (h .form .receiver-fits) (unfold afterRegister in λ y. y) (λ q y. y)
+      at-one limits place model w (Stays model) p _ (h .form .receiver-fits) (unfold afterRegister in λ y. y) (λ q n y. y)
   step-turned place model w call _ (did-hear {p = p} h g z) =
-      at-one model w (Stays model) p _ (h .form .receiver-fits) (unfold afterVote in λ y. y) (λ q y. y)
+      at-one limits place model w (Stays model) p _ (h .form .receiver-fits) (unfold afterVote in λ y. y) (λ q n y. y)
   step-turned place model w call _ (did-turn {p = p} h) =
-      at-one model w (Stays model) p _ (h .receiver-fits) (unfold afterTurn in λ y. refl) (λ q y. y)
-
-  -- after any list of calls
-  after-turned : (place : ℕ) (model : Model) → Inv limits model → (calls : List Call) (p : ℕ)
-      → ledgerAt limits (model .shards) p .turned ≡ true → ledgerAt limits (after limits place model calls .shards) p .turned ≡ true
-  unfolding after
-  after-turned place model w [] p y = y
-  after-turned place model w (call ∷ calls) p y =
-      let e = effect limits place model call in
-      let next = step limits place model call in
-      after-turned (suc place) (next .0) (step-next limits place model w call next e .inv) calls p (step-turned place model w call next e p y)
-
-  -- however the list goes on
-  later-turned : (place : ℕ) (model : Model) → Inv limits model → (calls more : List Call) (p : ℕ)
-      → ledgerAt limits (after limits place model calls .shards) p .turned ≡ true
-      → ledgerAt limits (after limits place model (calls ++ more) .shards) p .turned ≡ true
-  unfolding after
-  later-turned place model w [] more p y = after-turned place model w more p y
-  later-turned place model w (call ∷ calls) more p y =
-      let next = step limits place model call in
-      later-turned (suc place) (next .0) (step-next limits place model w call next (effect limits place model call) .inv) calls more p y
+      at-one limits place model w (Stays model) p _ (h .receiver-fits) (unfold afterTurn in λ y. refl) (λ q n y. y)
 
   -- a shard that has turned stays turned for the rest of the play
   pub stays-turned : (calls more : List Call) (p : ℕ) → ledgerAt limits (play limits calls .shards) p .turned ≡ true
       → ledgerAt limits (play limits (calls ++ more) .shards) p .turned ≡ true
-  unfolding play
-  stays-turned calls more p y = later-turned 1 (emptyModel limits) (empty-inv limits) calls more p y
+  stays-turned calls more p =
+      play-longer limits (λ model. ledgerAt limits (model .shards) p .turned ≡ true)
+      (λ place model w y call r e. step-turned place model w call r e p y) calls more
 
   -- ---- A late vote on an aborted transaction changes no token, at a turned shard either: its tokens are free already
 
