@@ -93,7 +93,11 @@ module _ (limits : Limits) (me : ℕ) (ledger : Ledger) (receiver : ℕ) where
   unfolding turnRefusals
   turn-passes e =
       let g = passed (turnRefusals me ledger receiver) refl e in
-      record { addressed = eqb-eq receiver me (not-no (eqb receiver me) (g .0)); receiver-fits = not-no (shardFits receiver) (g .1 .0); unturned = g .1 .1 .0 }
+      record {
+        addressed = eqb-eq receiver me (not-no (eqb receiver me) (g .0));
+        receiver-fits = not-no (shardFits receiver) (g .1 .0);
+        unturned = g .1 .1 .0;
+      }
 
   -- what both kinds of record that carry a transaction have passed
   pub record FormPasses (t : Transaction) : Type 0 where

@@ -29,7 +29,6 @@ use Rattle.reader.specs.Reading.{
   answerOf,
   readingOf,
   refusal,
-  bareReading,
   Reads,
 }
 
@@ -133,7 +132,8 @@ module _ (l : List ℕ) (h : headCause l ≡ 0) where
   reading-bad {number} {taken} en n ek = rw (← en, ne-eqb number 0 n, ek) refl
 
   pub reading-bare : {number taken : ℕ} {fields : Record} → number ≡ readCause l → fields ≡ recordAt l
-      → transactionIn l ≡ blankTransaction → taken ≡ takenOf l → bareReading number fields taken ≡ readingOf l
+      → transactionIn l ≡ blankTransaction → taken ≡ takenOf l
+      → record { answer = answerOf number fields; transaction = blankTransaction; taken = taken } ≡ readingOf l
   unfolding readingOf
   reading-bare en ef et ek = rw (en, ef, et, ek, blank-beside (eqb (readCause l) 0)) refl
 

@@ -84,11 +84,6 @@ readingOf l =
 abbrev pub refusal : ℕ → ℕ → Reading
 refusal number taken = record { answer = Refused number; transaction = blankTransaction; taken = taken }
 
--- the reading of fields that have no transaction, by the number of their checks
-abbrev pub bareReading : ℕ → Record → ℕ → Reading
-bareReading number fields taken =
-    record { answer = answerOf number fields; transaction = blankTransaction; taken = taken }
-
 -- what the reader promises: the number of the first check that fits, and the whole reading
 pub record Reads (l : List ℕ) (r : Reading) : Type 0 where
   pub number : numberOf (r .answer) ≡ readCause l

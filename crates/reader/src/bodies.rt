@@ -4,9 +4,10 @@ ghost use mathlib.Core.Bool.{cond, _&&_};
 ghost use mathlib.Core.Logic.{_⊎_};
 ghost use Prim.Native.Nat.{_<_};
 ghost use lib.Dec.{eqb, leb};
+ghost use Rattle.transaction.specs.Tokens.{blankTransaction};
 ghost use Rattle.transaction.specs.Checks.{houseGenesis, shardFits, causeOf};
 ghost use Rattle.reader.specs.Layout.{byteAt};
-ghost use Rattle.reader.specs.Reading.{kindOf, headCause, recordAt, readingOf, refusal, bareReading};
+ghost use Rattle.reader.specs.Reading.{kindOf, headCause, recordAt, readingOf, refusal, answerOf};
 use crate::Answer;
 use crate::Reading;
 use crate::Record;
@@ -96,7 +97,7 @@ pub(crate) fn cause_of(t: Transaction) -> u8
 
 // The fields of a record that has no transaction, by the number of its checks, with the bytes that the record takes.
 fn bare(cause: u8, fields: Record, taken: usize) -> Reading
-    ensures { λ r. ⌜ r ≡ bareReading cause fields taken ⌝ }
+    ensures { λ r. ⌜ r ≡ record { answer = answerOf cause fields; transaction = blankTransaction; taken = taken } ⌝ }
 {
     if cause != 0 {
         return refused(cause, taken);
