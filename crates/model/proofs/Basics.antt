@@ -174,6 +174,11 @@ passed (t ∷ l) s e = go (t .0) refl e (passed l (both (isNumber t) (all isNumb
     go true p q h = clash (both (isNumber t) (all isNumber l) s .0) (ap not (eqb-yes q))
     go false p q h = (p, h q)
 
+-- and where each of its tests is false, it answers 0
+pub first-none : (l : List (Bool × ℕ)) → AllFalse l → firstOf l ≡ 0
+first-none [] a = refl
+first-none (t ∷ l) a = ap (λ (b : Bool). cond b (t .1) (firstOf l)) (a .0) ∙ first-none l (a .1)
+
 -- one table behind another: where both answer 0, the first does
 pub first-append : (a b : List (Bool × ℕ)) → all isNumber a ≡ true → firstOf (a ++ b) ≡ 0 → firstOf a ≡ 0
 first-append [] b s e = refl

@@ -62,7 +62,7 @@ use Rattle.model.specs.Model.{Model, play}
 use Rattle.model.proofs.Basics.{eqb-apart, find-at, getD-same}
 use Rattle.model.proofs.Entries.{same-eq, whole-known}
 use Rattle.model.proofs.Outcomes.{outcome-yes, CaseOutcome, case-wait, case-commit, case-abort, case-outcome, abort-stays}
-use Rattle.model.proofs.Refusals.{part-in, MintPasses, RegisterPasses, DeliverPasses}
+use Rattle.model.proofs.Refusals.{part-in, MintPasses, RegisterPasses, DeliverPasses, brought-registers, brought-hears, brought-fresh}
 use Rattle.model.proofs.Effects.{
   ShardEffect,
   shard-refused,
@@ -79,6 +79,7 @@ use Rattle.model.proofs.Effects.{
   did-repeat,
   shard-turned,
   did-turn,
+  shard-brought,
 }
 use Rattle.model.proofs.Steps.{Inv, at-one, play-keeps}
 
@@ -281,7 +282,7 @@ module _ (limits : Limits) (sized : limits .genesis ≤ limits .tokens) (me : �
   unfolding afterVote reserved reservedBy entryOf placeOf
   vote-fit {sender = sender} {verdict = verdict} {t = t} h fresh =
       let known : List Known = ledger .known in
-      let there : any (isFor t) known ≡ true = whole-known t known (h .number-known) (h .no-other) in
+      let there : any (isFor t) known ≡ true = h .is-known in
       let k : Known = entryOf t known in
       let k′ : Known = hearing sender verdict k in
       let at = find-at (isFor t) known nothingKnown there in
@@ -289,7 +290,7 @@ module _ (limits : Limits) (sized : limits .genesis ≤ limits .tokens) (me : �
       let below = find-below (isFor t) known there in
       let sum = total-set (reservedBy me) known (find (isFor t) known) k′ nothingKnown below in
       let room = f .token-room in
-      let part = subst (λ (s : Transaction). List·Memᴰ sender (shardsOf s)) (sym whole) (part-in sender t (h .sender-part)) in
+      let part = subst (λ (s : Transaction). List·Memᴰ sender (shardsOf s)) (sym whole) (part-in sender t (h .passes .sender-part)) in
       let after = hear-room me k sender verdict (ledger .tokens) part fresh in
       let same = ended-length (ledger .turned) (outcomeOf k′) (k .transaction .number) (settle (outcomeOf k′) me (k .transaction) (ledger .tokens)) in
       let count = length-set known (find (isFor t) known) k′ in
@@ -319,14 +320,17 @@ module _ (limits : Limits) (sized : limits .genesis ≤ limits .tokens) (me : �
         eight = f .eight;
       }
 
-  -- a call at a lone shard keeps it
-  pub shard-fit : (call : Call) (r : Ledger × Answer) → ShardEffect limits me ledger call r → Fit limits me (r .0)
-  shard-fit call _ (shard-refused h) = f
-  shard-fit call _ (shard-minted h) = mint-fit h
-  shard-fit call _ (shard-registered h) = register-fit h
-  shard-fit call _ (shard-heard h e z) = vote-fit h z
-  shard-fit call _ (shard-again h z) = f
-  shard-fit call _ (shard-turned h) = turn-fit
+-- a call at a lone shard keeps it, also a vote that brings its transaction: the registration keeps it, and then the vote
+pub shard-fit : (limits : Limits) → limits .genesis ≤ limits .tokens → (me : ℕ) (ledger : Ledger) → Fit limits me ledger
+    → (call : Call) (r : Ledger × Answer) → ShardEffect limits me ledger call r → Fit limits me (r .0)
+shard-fit limits sized me ledger f call _ (shard-refused h) = f
+shard-fit limits sized me ledger f call _ (shard-minted h) = mint-fit limits sized me ledger f h
+shard-fit limits sized me ledger f call _ (shard-registered h) = register-fit limits sized me ledger f h
+shard-fit limits sized me ledger f call _ (shard-heard h e z) = vote-fit limits sized me ledger f h z
+shard-fit limits sized me ledger f call _ (shard-again h z) = f
+shard-fit limits sized me ledger f call _ (shard-turned h) = turn-fit limits sized me ledger f
+shard-fit limits sized me ledger f call _ (shard-brought {t = t} h e) =
+    vote-fit limits sized me (afterRegister me ledger t) (register-fit limits sized me ledger f (brought-registers h)) (brought-hears h) (brought-fresh h)
 
 -- every call at a lone shard keeps its ledger fit
 pub fit-step : (limits : Limits) → limits .genesis ≤ limits .tokens → (me : ℕ) (ledger : Ledger) → Fit limits me ledger
@@ -349,7 +353,7 @@ module _ (limits : Limits) (sized : limits .genesis ≤ limits .tokens) where
   step-fit place model w f call _ (did-turn {p = p} h) =
       at-one limits place model w (Fit limits) p _ (h .receiver-fits) (turn-fit limits sized p (ledgerAt limits (model .shards) p) (f p)) (λ q n. f q)
   step-fit place model w f call _ (did-hear {p = p} h g z) =
-      at-one limits place model w (Fit limits) p _ (h .form .receiver-fits)
+      at-one limits place model w (Fit limits) p _ (h .passes .form .receiver-fits)
       (vote-fit limits sized p (ledgerAt limits (model .shards) p) (f p) h z) (λ q n. f q)
 
   -- every shard of every play keeps its limits

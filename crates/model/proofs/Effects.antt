@@ -1,4 +1,5 @@
--- What one call does to the model: it is refused and changes nothing, or it has passed its table and does its step.
+-- What one call does to the model: it is refused and changes nothing, or it has passed its table and does its step; a vote that brings its
+-- transaction does two steps.
 use Prim.Native.Nat.{ℕ}
 use mathlib.Core.Path.{_≡_, refl, sym, subst}
 use mathlib.Core.Bool.{Bool, true, false, cond}
@@ -9,7 +10,7 @@ use lib.Seq.{set-getD}
 use Rattle.transaction.specs.declared.Transaction.{Transaction}
 use Rattle.transaction.specs.Lists.{firstOf}
 use Rattle.model.specs.declared.Answer.{Answer}
-use Rattle.model.specs.declared.Answer.the-variants.{Refused, Minted, Registered, Heard, Again, Turned}
+use Rattle.model.specs.declared.Answer.the-variants.{Refused, Minted, Registered, Heard, Again, Turned, Brought}
 use Rattle.model.specs.Steps.{
   Limits,
   Ledger,
@@ -38,6 +39,8 @@ use Rattle.model.specs.Shard.{
   turnRefusals,
   hear,
   shardStep,
+  isUnknown,
+  bring,
 }
 use Rattle.model.specs.Cluster.{ledgerAt, gave, notGiven, atShard, clusterStep}
 use Rattle.model.specs.Model.{Entry, Genesis, Model, entryFor, logAfter, mintedAfter, step}
@@ -52,6 +55,8 @@ use Rattle.model.proofs.Refusals.{
   form-passes,
   TurnPasses,
   turn-passes,
+  BringPasses,
+  bring-passes,
 }
 
 -- ---- At one shard
@@ -73,10 +78,16 @@ module _ (limits : Limits) (me : ℕ) (ledger : Ledger) where
         → (heardFrom sender (entryOf t (ledger .known)) ≡ 0 → ⊥)
         → ShardEffect (deliver receiver sender verdict t) (ledger, Again (outcomeOf (entryOf t (ledger .known))))
     shard-turned : {receiver : ℕ} → TurnPasses limits me ledger receiver → ShardEffect (turn receiver) (afterTurn ledger, Turned)
+    shard-brought : {receiver sender verdict : ℕ} {t : Transaction} → BringPasses limits me ledger receiver sender verdict t
+        → firstOf (deliverForm limits me receiver sender verdict t) ≡ 0
+        → ShardEffect (deliver receiver sender verdict t) (
+          afterVote me (afterRegister me ledger t) sender verdict t,
+          Brought (vote me (ledger .tokens) t) (outcomeOf (hearing sender verdict (entryOf t (afterRegister me ledger t .known)))),
+        )
 
   -- every call does one of these
   pub shard-effect : (call : Call) → ShardEffect call (shardStep limits me ledger call)
-  unfolding shardStep hear
+  unfolding shardStep hear bring
   shard-effect (mint receiver index owner amount) = go (eqb (firstOf (mintRefusals limits me ledger receiver index owner amount)) 0) refl
     where
       go : (b : Bool) → eqb (firstOf (mintRefusals limits me ledger receiver index owner amount)) 0 ≡ b
@@ -94,22 +105,27 @@ module _ (limits : Limits) (me : ℕ) (ledger : Ledger) where
       go true e = shard-registered (register-passes limits me ledger receiver t (eqb-eq (firstOf (registerRefusals limits me ledger receiver t)) 0 e))
       go false e = shard-refused (eqb-apart e)
   shard-effect (deliver receiver sender verdict t) =
-      go (eqb (firstOf (deliverRefusals limits me ledger receiver sender verdict t)) 0) refl (eqb (heardFrom sender (entryOf t (ledger .known))) 0) refl
+      go (eqb cause 0) refl (isUnknown t (ledger .known)) refl (eqb (heardFrom sender (entryOf t (ledger .known))) 0) refl
     where
-      go : (b : Bool) → eqb (firstOf (deliverRefusals limits me ledger receiver sender verdict t)) 0 ≡ b
-          → (c : Bool) → eqb (heardFrom sender (entryOf t (ledger .known))) 0 ≡ c
-          → ShardEffect (deliver receiver sender verdict t) (cond b
-          (cond c (afterVote me ledger sender verdict t, Heard (outcomeOf (hearing sender verdict (entryOf t (ledger .known)))))
-          (ledger, Again (outcomeOf (entryOf t (ledger .known)))))
-          (ledger, Refused (firstOf (deliverRefusals limits me ledger receiver sender verdict t))))
-      go true e true f =
-          let z = eqb-eq (firstOf (deliverRefusals limits me ledger receiver sender verdict t)) 0 e in
-          shard-heard (deliver-passes limits me ledger receiver sender verdict t z)
+      cause : ℕ
+      cause = firstOf (deliverRefusals limits me ledger receiver sender verdict t)
+
+      go : (passes : Bool) → eqb cause 0 ≡ passes → (unknown : Bool) → isUnknown t (ledger .known) ≡ unknown
+          → (fresh : Bool) → eqb (heardFrom sender (entryOf t (ledger .known))) 0 ≡ fresh
+          → ShardEffect (deliver receiver sender verdict t) (cond passes
+          (cond unknown (bring me ledger sender verdict t)
+          (cond fresh (afterVote me ledger sender verdict t, Heard (outcomeOf (hearing sender verdict (entryOf t (ledger .known)))))
+          (ledger, Again (outcomeOf (entryOf t (ledger .known))))))
+          (ledger, Refused cause))
+      go true e true u fresh f =
+          let z = eqb-eq cause 0 e in
+          shard-brought (bring-passes limits me ledger receiver sender verdict t z u) (form-passes limits me ledger receiver sender verdict t z)
+      go true e false u true f =
+          let z = eqb-eq cause 0 e in
+          shard-heard (deliver-passes limits me ledger receiver sender verdict t z u)
           (form-passes limits me ledger receiver sender verdict t z) (eqb-eq (heardFrom sender (entryOf t (ledger .known))) 0 f)
-      go true e false f =
-          let z = eqb-eq (firstOf (deliverRefusals limits me ledger receiver sender verdict t)) 0 e in
-          shard-again (deliver-passes limits me ledger receiver sender verdict t z) (eqb-apart f)
-      go false e c f = shard-refused (eqb-apart e)
+      go true e false u false f = shard-again (deliver-passes limits me ledger receiver sender verdict t (eqb-eq cause 0 e) u) (eqb-apart f)
+      go false e unknown u fresh f = shard-refused (eqb-apart e)
   shard-effect (turn receiver) = go (eqb (firstOf (turnRefusals me ledger receiver)) 0) refl
     where
       go : (b : Bool) → eqb (firstOf (turnRefusals me ledger receiver)) 0 ≡ b
@@ -128,7 +144,7 @@ module _ (limits : Limits) (place : ℕ) (model : Model) where
   abbrev pub replaced : ℕ → Ledger → List Entry → List Genesis → Model
   replaced shard ledger log minted = record { shards = set (model .shards) shard ledger; log = log; minted = minted }
 
-  -- what a call can do to the model, with its answer
+  -- what a call can do to the model in one step, with its answer
   pub data Effect : Call → Model × Answer → Type 0 where
     did-refuse : {call : Call} {n : ℕ} → (n ≡ 0 → ⊥) → Effect call (model, Refused n)
     did-mint : {p index owner amount : ℕ} → MintPasses limits p (at p) p index owner amount
@@ -150,6 +166,15 @@ module _ (limits : Limits) (place : ℕ) (model : Model) where
         → (heardFrom sender (entryOf t (at p .known)) ≡ 0 → ⊥)
         → Effect (deliver p sender verdict t) (model, Again (outcomeOf (entryOf t (at p .known))))
     did-turn : {p : ℕ} → TurnPasses limits p (at p) p → Effect (turn p) (replaced p (afterTurn (at p)) (model .log) (model .minted), Turned)
+
+  -- and what in two: a vote that brings its transaction does what its registration does, and then what the vote does (Steps: `brought-first`, `brought-then`)
+  pub data Effects : Call → Model × Answer → Type 0 where
+    did-one : {call : Call} {r : Model × Answer} → Effect call r → Effects call r
+    did-bring : {p sender verdict : ℕ} {t : Transaction} → BringPasses limits p (at p) p sender verdict t → gave (at sender) sender verdict t ≡ true
+        → Effects (deliver p sender verdict t) (
+          replaced p (afterVote p (afterRegister p (at p) t) sender verdict t) (entryFor limits place (model .shards) p t ∷ model .log) (model .minted),
+          Brought (vote p (at p .tokens) t) (outcomeOf (hearing sender verdict (entryOf t (afterRegister p (at p) t .known)))),
+        )
 
   -- a ledger put back where it was changes nothing
   put-back : (p : ℕ) → replaced p (at p) (model .log) (model .minted) ≡ model
@@ -183,31 +208,41 @@ module _ (limits : Limits) (place : ℕ) (model : Model) where
   turn-effect p _ (shard-refused h) = back p (did-refuse h)
   turn-effect p _ (shard-turned h) = did-turn h
 
+  -- a vote that is not refused with 16 and has passed 3 to 6 was given
+  was-given : (p sender verdict : ℕ) (t : Transaction) → notGiven limits (model .shards) p sender verdict t ≡ false
+      → firstOf (deliverForm limits p p sender verdict t) ≡ 0 → gave (at sender) sender verdict t ≡ true
+  unfolding notGiven
+  was-given p sender verdict t g f = not-no (gave (at sender) sender verdict t) (not-yes (λ n. clash (and-intro (eqb-yes f) n) g))
+
   -- a vote's effect from that at its shard
   deliver-effect : (p sender verdict : ℕ) (t : Transaction) → notGiven limits (model .shards) p sender verdict t ≡ false
       → (r : Ledger × Answer) → ShardEffect limits p (at p) (deliver p sender verdict t) r
-      → Effect (deliver p sender verdict t) (noted-at p (deliver p sender verdict t) r)
-  unfolding logAfter mintedAfter notGiven
-  deliver-effect p sender verdict t g _ (shard-refused h) = back p (did-refuse h)
-  deliver-effect p sender verdict t g _ (shard-heard h f z) =
-      did-hear h (not-no (gave (at sender) sender verdict t) (not-yes (λ n. clash (and-intro (eqb-yes f) n) g))) z
-  deliver-effect p sender verdict t g _ (shard-again h z) = back p (did-repeat h z)
+      → Effects (deliver p sender verdict t) (noted-at p (deliver p sender verdict t) r)
+  unfolding logAfter mintedAfter
+  deliver-effect p sender verdict t g _ (shard-refused h) = did-one (back p (did-refuse h))
+  deliver-effect p sender verdict t g _ (shard-heard h f z) = did-one (did-hear h (was-given p sender verdict t g f) z)
+  deliver-effect p sender verdict t g _ (shard-again h z) = did-one (back p (did-repeat h z))
+  deliver-effect p sender verdict t g _ (shard-brought h f) = did-bring h (was-given p sender verdict t g f)
 
   -- every call does one of these
-  pub effect : (call : Call) → Effect call (step limits place model call)
+  pub effect : (call : Call) → Effects call (step limits place model call)
   unfolding step clusterStep atShard logAfter mintedAfter
-  effect (mint p index owner amount) = mint-effect p index owner amount _ (shard-effect limits p (at p) (mint p index owner amount))
-  effect (register p t) = register-effect p t _ (shard-effect limits p (at p) (register p t))
-  effect (turn p) = turn-effect p _ (shard-effect limits p (at p) (turn p))
+  effect (mint p index owner amount) = did-one (mint-effect p index owner amount _ (shard-effect limits p (at p) (mint p index owner amount)))
+  effect (register p t) = did-one (register-effect p t _ (shard-effect limits p (at p) (register p t)))
+  effect (turn p) = did-one (turn-effect p _ (shard-effect limits p (at p) (turn p)))
   effect (deliver p sender verdict t) = go (notGiven limits (model .shards) p sender verdict t) refl
     where
       done : List Ledger × Answer
       done = atShard limits (model .shards) p (deliver p sender verdict t)
 
       go : (b : Bool) → notGiven limits (model .shards) p sender verdict t ≡ b
-          → Effect (deliver p sender verdict t) (
-            record { shards = cond {A = List Ledger × Answer} b (model .shards, Refused 16) done .0; log = model .log; minted = model .minted },
+          → Effects (deliver p sender verdict t) (
+            record {
+              shards = cond {A = List Ledger × Answer} b (model .shards, Refused 16) done .0;
+              log = logAfter limits place model (deliver p sender verdict t) (cond {A = List Ledger × Answer} b (model .shards, Refused 16) done .1);
+              minted = model .minted;
+            },
             cond {A = List Ledger × Answer} b (model .shards, Refused 16) done .1,
           )
-      go true e = did-refuse (eqb-apart {m = 16} {n = 0} refl)
+      go true e = did-one (did-refuse (eqb-apart {m = 16} {n = 0} refl))
       go false e = deliver-effect p sender verdict t e _ (shard-effect limits p (at p) (deliver p sender verdict t))

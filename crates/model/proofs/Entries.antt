@@ -1,19 +1,21 @@
 -- The known transactions of a shard: looked up by number, and entered.
 use Prim.Native.Nat.{ℕ, suc}
 use mathlib.Core.Path.{_≡_, refl, ap, sym, _∙_, subst}
-use mathlib.Core.Bool.{Bool, true, false, cond, _||_, not, false≢true}
+use mathlib.Core.Bool.{Bool, true, false, cond, _&&_, _||_, not, false≢true}
 use mathlib.Core.Option.{Option, none, some}
 use mathlib.Core.List.{List, [], _∷_, _++_, List·Memᴰ}
 use lib.Dec.{eqb}
-use lib.ListN.{getD, set}
+use lib.ListN.{length, getD, set, replicate}
+use lib.Seq.{getD-set-other}
 use Rattle.transaction.specs.declared.Transaction.{Transaction}
 use Rattle.transaction.specs.Lists.{any}
 use Rattle.transaction.specs.Tokens.{sameTransaction}
 use Rattle.transaction.proofs.Same.{same-exactly}
+use Rattle.transaction.proofs.Slots.{any-append}
 use Rattle.model.specs.declared.Known.{Known}
 use Rattle.model.specs.Lists.{find, lookup}
-use Rattle.model.specs.Steps.{isFor, nothingKnown, placeOf, entryOf}
-use Rattle.model.specs.Shard.{hasNumber, isOther}
+use Rattle.model.specs.Steps.{isFor, nothingKnown, placeOf, entryOf, Ledger, vote, noted, newlyKnown, heardFrom, afterRegister}
+use Rattle.model.specs.Shard.{hasNumber, isOther, isUnknown}
 use Rattle.model.proofs.Basics.{
   eqb-eq,
   eqb-same,
@@ -31,6 +33,10 @@ use Rattle.model.proofs.Basics.{
   any-none,
   any-no,
   find-at,
+  both,
+  neither,
+  not-is,
+  getD-same,
 }
 use Rattle.model.proofs.Lookups.{lookup-passes, lookup-mem, lookup-no, Alone, alone-lookup}
 
@@ -168,6 +174,20 @@ whole-known t l number other =
     let r = any-at (hasNumber t) l number in
     any-of (isFor t) (r .1) (not-no (isFor t (r .0)) (not-yes (λ n. clash (and-intro (r .2) n) (any-none (isOther t) other (r .1)))))
 
+-- an unknown number: no other transaction of it is known, nor this one
+pub new-number : (t : Transaction) (l : List Known) → isUnknown t l ≡ true → (any (isOther t) l ≡ false) × (any (isFor t) l ≡ false)
+new-number t l e =
+    let none : any (hasNumber t) l ≡ false = not-is e in (
+      any-no (isOther t) l (λ k m y. clash (both (hasNumber t k) (not (isFor t k)) y .0) (any-none (hasNumber t) none m)),
+      any-no (isFor t) l (λ k m y. clash (eqb-yes (ap (λ (a : Transaction). a .number) (same-eq (k .transaction) t y))) (any-none (hasNumber t) none m)),
+    )
+
+-- a transaction that is known has its number known
+pub known-number : (t : Transaction) (l : List Known) → any (isFor t) l ≡ true → any (hasNumber t) l ≡ true
+known-number t l e =
+    let r = any-at (isFor t) l e in
+    any-of (hasNumber t) (r .1) (eqb-yes (ap (λ (a : Transaction). a .number) (same-eq (r .0 .transaction) t (r .2))))
+
 -- the entry of a known transaction, by its place and by its number
 pub entry-look : (t : Transaction) (l : List Known) → OneEach l → any (isFor t) l ≡ true
     → (look l (t .number) ≡ some (entryOf t l)) × (entryOf t l .transaction ≡ t)
@@ -183,3 +203,53 @@ pub look-entry : (t : Transaction) (l : List Known) → OneEach l → {k : Known
 look-entry t l s {k} e w =
     let a : any (isFor t) l ≡ true = any-of (isFor t) (lookup-mem (numbered (t .number)) l e) (same-true w) in
     (a, some-inj (sym (entry-look t l s a .0) ∙ e))
+
+-- ---- What a registration enters
+
+-- the first one of which a test holds, where it is the last one
+pub find-last : {A : Type 0} (f : A → Bool) (l : List A) (a : A) → any f l ≡ false → f a ≡ true → find f (l ++ (a ∷ [])) ≡ length l
+find-last f [] a n y = ap (λ (b : Bool). cond b 0 1) y
+find-last f (x ∷ l) a n y =
+    let r = neither (f x) (any f l) n in
+    ap (λ (b : Bool). cond b 0 (suc (find f (l ++ (a ∷ []))))) (r .0) ∙ ap suc (find-last f l a (r .1) y)
+
+-- the transaction that is entered behind the others is known, and this is its entry
+pub entry-last : (t : Transaction) (l : List Known) (k : Known) → any (isFor t) l ≡ false → isFor t k ≡ true
+    → (any (isFor t) (l ++ (k ∷ [])) ≡ true) × (entryOf t (l ++ (k ∷ [])) ≡ k)
+unfolding entryOf placeOf
+entry-last t l k n y = (
+  any-append (isFor t) l (k ∷ []) ∙ (λ i. n i || (y i || false)),
+  ap (λ (place : ℕ). getD (l ++ (k ∷ [])) place nothingKnown) (find-last (isFor t) l k n y) ∙ at-end l,
+)
+  where
+    at-end : (l : List Known) → getD (l ++ (k ∷ [])) (length l) nothingKnown ≡ k
+    at-end [] = refl
+    at-end (j ∷ l) = at-end l
+
+module _ (p : ℕ) (l : Ledger) (t : Transaction) (unknown : any (isFor t) (l .known) ≡ false) where
+  -- after a registration the transaction is known, with the own vote alone
+  pub registered-known : any (isFor t) (afterRegister p l t .known) ≡ true
+  unfolding afterRegister newlyKnown
+  registered-known = entry-last t (l .known) (newlyKnown p (l .tokens) t) unknown (same-true refl) .0
+
+  pub registered-entry : entryOf t (afterRegister p l t .known) ≡ newlyKnown p (l .tokens) t
+  unfolding afterRegister newlyKnown
+  registered-entry = entry-last t (l .known) (newlyKnown p (l .tokens) t) unknown (same-true refl) .1
+
+  -- and no other one of its number, if none was
+  pub registered-alone : any (isOther t) (l .known) ≡ false → any (isOther t) (afterRegister p l t .known) ≡ false
+  unfolding afterRegister newlyKnown
+  registered-alone others =
+      let k : Known = newlyKnown p (l .tokens) t in
+      any-append (isOther t) (l .known) (k ∷ []) ∙ (λ i. others i || (and-no (hasNumber t k) (same-true {a = t} {b = t} refl) i || false))
+    where
+      and-no : (a : Bool) {b : Bool} → b ≡ true → a && not b ≡ false
+      and-no true e = ap not e
+      and-no false e = refl
+
+  -- no other shard is heard yet
+  pub registered-unheard : (q : ℕ) → (q ≡ p → ⊥) → heardFrom q (entryOf t (afterRegister p l t .known)) ≡ 0
+  unfolding newlyKnown
+  registered-unheard q n =
+      ap (heardFrom q) registered-entry
+      ∙ getD-set-other (replicate 8 0) p q (noted (vote p (l .tokens) t)) 0 n ∙ getD-same {A = ℕ} 8 0 q

@@ -13,7 +13,7 @@ use Rattle.transaction.specs.Tokens.{zeroInput, zeroOutput, takesPart, sameToke
 use Rattle.transaction.specs.Checks.{indexFits, valueFits, inputFits, outputFits, countsFit, fieldsFit, sameName, namedTwice, balanced, mintFits}
 use Rattle.model.specs.declared.Token.{Token}
 use Rattle.model.specs.declared.Outcome.the-variants.{Wait, Commit, Abort}
-use Rattle.model.specs.declared.Answer.the-variants.{Refused, Minted, Registered, Heard, Again, Turned}
+use Rattle.model.specs.declared.Answer.the-variants.{Refused, Minted, Registered, Heard, Again, Turned, Brought}
 use Rattle.model.specs.Lists.{andThen}
 use Rattle.model.specs.Steps.{
   Limits,
@@ -52,6 +52,7 @@ use Rattle.model.specs.Shard.{
   shardStep,
   turn,
   turnRefusals,
+  bring,
 }
 use Rattle.model.specs.Cluster.{ledgerAt, gave, notGiven, atShard, clusterStep}
 use Rattle.model.specs.Model.{logAfter, mintedAfter, step, after, answers, play, playAnswers}
@@ -68,6 +69,7 @@ use Rattle.model.specs.Demand.{
   addOutputs,
   spend,
   serialRun,
+  lastPlace,
 }
 
 -- ---- Small transactions
@@ -118,6 +120,10 @@ votes = deliver 0 1 1 both ∷ deliver 1 0 1 both ∷ deliver 1 0 1 both ∷ []
 alone : ℕ → Transaction
 alone number = make number (input 0 0 0 10 3 ∷ []) (output 0 11 3 ∷ [])
 
+-- of the token that it is given second
+alone-second : ℕ → Transaction
+alone-second number = make number (input 0 0 1 10 3 ∷ []) (output 0 11 3 ∷ [])
+
 -- the token with another owner
 wrong : Transaction
 wrong = make 6 (input 0 0 0 99 3 ∷ []) (output 0 11 3 ∷ [])
@@ -165,6 +171,14 @@ known-at-three = register 0 three ∷ register 1 three ∷ register 2 three ∷ 
 -- shard 1's token is not there, and its no has come to shard 0, where shard 2's vote is still missing
 early : List Call
 early = mint 0 0 10 3 ∷ known-at-three ++ (deliver 0 1 0 three ∷ [])
+
+-- shard 0 is to pass on to shard 1 what document 01's is to make at shard 0
+onward-to : ℕ → Transaction
+onward-to number = make number (input 0 5 1 20 2 ∷ []) (output 1 11 2 ∷ [])
+
+-- document 01's, registered at shard 0 alone, and its vote delivered to shard 1
+brought : List Call
+brought = mint 0 0 10 3 ∷ mint 1 0 20 2 ∷ register 0 both ∷ deliver 1 0 1 both ∷ []
 
 -- limits of two tokens and two transactions
 small : Limits
@@ -221,9 +235,9 @@ pub record Examples : Type 0 where
   -- a genesis token after a transaction is known: 13; an index given twice: 14
   late-mint : playAnswers house (mint 0 0 10 3 ∷ mint 0 0 10 3 ∷ register 0 both ∷ mint 0 1 10 3 ∷ []) ≡ Minted
       ∷ Refused 14 ∷ Registered true Wait ∷ Refused 13 ∷ []
-  -- a vote that was not given: 16, also on a transaction that differs in one field; given, and the receiver does not know it: 11
+  -- a vote that was not given: 16, also on a transaction that differs in one field; given, and the receiver does not know it: it is brought
   not-given : playAnswers house (mint 0 0 10 3 ∷ register 0 both ∷ deliver 0 1 1 both ∷ deliver 1 0 0 both ∷ deliver 1 0 1 near5 ∷ deliver 1 0 1 both ∷ [])
-      ≡ Minted ∷ Registered true Wait ∷ Refused 16 ∷ Refused 16 ∷ Refused 16 ∷ Refused 11 ∷ []
+      ≡ Minted ∷ Registered true Wait ∷ Refused 16 ∷ Refused 16 ∷ Refused 16 ∷ Brought false Abort ∷ []
   -- given, and the receiver knows its number for a transaction that differs in one field: 7
   near-vote : playAnswers house (mint 0 0 10 3 ∷ mint 1 0 20 2 ∷ register 0 near5 ∷ register 1 both ∷ deliver 0 1 1 both ∷ [])
       ≡ Minted ∷ Minted ∷ Registered true Wait ∷ Registered true Wait ∷ Refused 7 ∷ []
@@ -264,7 +278,8 @@ pub record Examples : Type 0 where
   -- a full shard: 10 and 9 go first
   full-17 : playAnswers small (mint 0 0 10 3 ∷ register 0 both ∷ register 0 (onward 6 5 1 20) ∷ register 0 (pass 0 1) ∷ register 0 (onward 6 5 1 20) ∷ [])
       ≡ Minted ∷ Registered true Wait ∷ Refused 10 ∷ Registered false Abort ∷ Refused 9 ∷ []
-  -- two that each take what the other is to make: known at one shard each, they are held off at the other, each until the other is decided
+  -- two that each take what the other is to make: known at one shard each, they are held off at the other, each until the other is decided, and no vote
+  -- brings them
   crossed-17 : playAnswers house (
       register 0 (crossed 6 7 1 0)
       ∷ register 1 (crossed 7 6 0 1)
@@ -273,7 +288,7 @@ pub record Examples : Type 0 where
       ∷ deliver 1 0 1 (crossed 6 7 1 0)
       ∷ []
       )
-      ≡ Registered true Wait ∷ Registered true Wait ∷ Refused 17 ∷ Refused 17 ∷ Refused 11 ∷ []
+      ≡ Registered true Wait ∷ Registered true Wait ∷ Refused 17 ∷ Refused 17 ∷ Refused 17 ∷ []
   -- commit needs every yes: two of three shards heard is not enough
   every-yes : playAnswers house (mint 0 0 10 3 ∷ mint 1 0 20 2 ∷ known-at-three ++ (deliver 0 1 1 three ∷ deliver 0 2 1 three ∷ []))
       ≡ Minted ∷ Minted ∷ Registered true Wait ∷ Registered true Wait ∷ Registered true Wait ∷ Heard Wait ∷ Heard Commit ∷ []
@@ -330,14 +345,57 @@ pub record Examples : Type 0 where
   turned-other : tokensAfter (turn 1 ∷ torn-apart) 0 ≡ token 0 0 10 3 8 ∷ []
   -- at a lone shard: a turn of another shard is 3
   lone-turn : shardStep house 0 (ledgerAt house (play house [] .shards) 0) (turn 1) .1 ≡ Refused 3
+  -- a vote brings its transaction, which both votes decide; it is known from then on, and the receiver's own vote is given
+  brings : playAnswers house (brought ++ (deliver 1 0 1 both ∷ deliver 0 1 1 both ∷ register 1 both ∷ []))
+      ≡ Minted ∷ Minted ∷ Registered true Wait ∷ Brought true Commit ∷ Again Commit ∷ Heard Commit ∷ Refused 8 ∷ []
+  brings-held : tokensAfter brought 1 ≡ token 5 0 10 3 0 ∷ []
+  -- it is logged at the place of the vote's call, and last registration counts it: of two that commit, the one brought last is the newest
+  brings-place : lastPlace (play house brought .log) both ≡ 4
+  brings-order : serialOrder (play house (
+      mint 0 0 10 3
+      ∷ mint 0 1 10 3
+      ∷ register 0 (pass 0 1)
+      ∷ register 0 (alone-second 6)
+      ∷ deliver 1 0 1 (pass 0 1)
+      ∷ []
+      ))
+      ≡ pass 0 1 ∷ alone-second 6 ∷ []
+  -- three shards: it waits for the third; the own no aborts, and so does the sender's
+  brings-waits : playAnswers house (mint 0 0 10 3 ∷ mint 1 0 20 2 ∷ register 0 three ∷ deliver 1 0 1 three ∷ deliver 2 1 1 three ∷ deliver 2 0 1 three ∷ [])
+      ≡ Minted ∷ Minted ∷ Registered true Wait ∷ Brought true Wait ∷ Brought true Wait ∷ Heard Commit ∷ []
+  brings-own-no : playAnswers house (mint 0 0 10 3 ∷ register 0 three ∷ deliver 1 0 1 three ∷ deliver 2 1 0 three ∷ [])
+      ≡ Minted ∷ Registered true Wait ∷ Brought false Abort ∷ Brought true Abort ∷ []
+  -- under 9, 10 and 17: refused, nothing is changed; the same vote brings it once that no longer fits
+  brings-9 : playAnswers small (register 1 three ∷ register 0 (alone 1) ∷ register 0 (alone 2) ∷ deliver 0 1 0 three ∷ [])
+      ≡ Registered false Abort ∷ Registered false Abort ∷ Registered false Abort ∷ Refused 9 ∷ []
+  brings-10 : playAnswers small (mint 0 0 10 3 ∷ mint 0 1 10 3 ∷ register 1 three ∷ deliver 0 1 0 three ∷ [])
+      ≡ Minted ∷ Minted ∷ Registered false Abort ∷ Refused 10 ∷ []
+  brings-17 : playAnswers house (known-at-both ++ (
+      register 1 (onward-to 6)
+      ∷ deliver 0 1 1 (onward-to 6)
+      ∷ deliver 0 1 1 both
+      ∷ deliver 0 1 1 (onward-to 6)
+      ∷ []
+      ))
+      ≡ Minted ∷ Minted ∷ Registered true Wait ∷ Registered true Wait ∷ Registered true Wait ∷ Refused 17 ∷ Heard Commit ∷ Brought true Commit ∷ []
+  brings-17-held : tokensAfter (known-at-both ++ (register 1 (onward-to 6) ∷ deliver 0 1 1 (onward-to 6) ∷ [])) 0 ≡ token 0 0 10 3 5 ∷ []
+  -- a number that is known for another transaction: 7
+  brings-7 : playAnswers house (mint 0 0 10 3 ∷ register 1 both ∷ register 0 other5 ∷ deliver 0 1 0 both ∷ [])
+      ≡ Minted ∷ Registered false Abort ∷ Registered true Wait ∷ Refused 7 ∷ []
+  -- at a turned shard an abort frees at once what the registration inside has pledged
+  brings-turned : tokensAfter (turn 0 ∷ mint 0 0 10 3 ∷ register 1 torn ∷ deliver 0 1 0 torn ∷ []) 0 ≡ token 0 0 10 3 0 ∷ []
+  brings-unturned : tokensAfter (mint 0 0 10 3 ∷ register 1 torn ∷ deliver 0 1 0 torn ∷ []) 0 ≡ token 0 0 10 3 8 ∷ []
+  -- at a lone shard: its own vote on an unknown number is 11, another shard's brings its transaction
+  lone-11 : shardStep house 0 (ledgerAt house (play house [] .shards) 0) (deliver 0 0 1 both) .1 ≡ Refused 11
+  lone-brings : shardStep house 0 (ledgerAt house (play house [] .shards) 0) (deliver 0 1 1 both) .1 ≡ Brought false Abort
 
 -- each of them by computation
 pub examples : Examples
-unfolding input output make tokensAfter token both known-at-both votes alone wrong half other5 near5 pass torn
-    torn-apart onward crossed three known-at-three early small takesPart sameToken sameInput sameOutput sameTransaction indexFits valueFits inputFits outputFits
+unfolding input output make tokensAfter token both known-at-both votes alone alone-second wrong half other5 near5 pass torn
+    torn-apart onward crossed onward-to brought three known-at-three early small takesPart sameToken sameInput sameOutput sameTransaction indexFits valueFits inputFits outputFits
     countsFit fieldsFit sameName namedTwice balanced mintFits inputsHere available availableHere pledges vote newlyKnown
     decide outputsHere madeHere commit freeing afterMint afterRegister afterVote afterTurn placeOf entryOf reservedBy reserved heldOff
-    mintRefusals registerRefusals deliverForm deliverRefusals turnRefusals hear shardStep gave notGiven atShard clusterStep logAfter
+    mintRefusals registerRefusals deliverForm deliverRefusals turnRefusals hear bring shardStep gave notGiven atShard clusterStep logAfter
     mintedAfter step after answers play playAnswers outcomeIn heardAllIn committed serialFrom serialValue genesisLedger takeInputs addOutputs spend serialRun
 examples = record {
   seven-answers = refl;
@@ -391,4 +449,19 @@ examples = record {
   turned-still = refl;
   turned-other = refl;
   lone-turn = refl;
+  brings = refl;
+  brings-held = refl;
+  brings-place = refl;
+  brings-order = refl;
+  brings-waits = refl;
+  brings-own-no = refl;
+  brings-9 = refl;
+  brings-10 = refl;
+  brings-17 = refl;
+  brings-17-held = refl;
+  brings-7 = refl;
+  brings-turned = refl;
+  brings-unturned = refl;
+  lone-11 = refl;
+  lone-brings = refl;
 }

@@ -14,7 +14,7 @@ use Rattle.transaction.specs.Tokens.{usedInputs, usedOutputs}
 use Rattle.transaction.specs.Checks.{inputAmount, outputAmount, balanced}
 use Rattle.model.specs.declared.Outcome.the-variants.{Abort}
 use Rattle.model.specs.declared.Answer.{Answer}
-use Rattle.model.specs.declared.Answer.the-variants.{Refused, Minted, Registered, Heard, Again, Turned}
+use Rattle.model.specs.declared.Answer.the-variants.{Refused, Minted, Registered, Heard, Again, Turned, Brought}
 use Rattle.model.specs.Steps.{Limits, Ledger, emptyLedger, inputsHere}
 use Rattle.model.specs.Shard.{Call, mint, register, deliver, shardStep, turn}
 use Rattle.model.specs.Cluster.{ledgerAt, notGiven, atShard, clusterStep}
@@ -40,8 +40,12 @@ use Rattle.model.proofs.Effects.{
   effect,
   shard-turned,
   did-turn,
+  shard-brought,
+  Effects,
+  did-one,
+  did-bring,
 }
-use Rattle.model.proofs.Steps.{play-inv}
+use Rattle.model.proofs.Steps.{play-inv, Keeps, play-keeps}
 use Rattle.model.proofs.Order.{committed-logged}
 use Rattle.model.proofs.Holdings.{in-here}
 use Rattle.model.proofs.Decisions.{not-aborted, taken-once}
@@ -56,6 +60,7 @@ leaves (Registered verdict outcome) = false
 leaves (Heard outcome) = false
 leaves (Again outcome) = true
 leaves Turned = false
+leaves (Brought verdict outcome) = false
 
 -- by cases on what a call did at a shard
 shard-left : (limits : Limits) (me : ℕ) (ledger : Ledger) (call : Call) (r : Ledger × Answer)
@@ -66,6 +71,7 @@ shard-left limits me ledger call _ (shard-minted h) e = absurd (true≢false (sy
 shard-left limits me ledger call _ (shard-registered h) e = absurd (true≢false (sym e))
 shard-left limits me ledger call _ (shard-heard h g z) e = absurd (true≢false (sym e))
 shard-left limits me ledger call _ (shard-turned h) e = absurd (true≢false (sym e))
+shard-left limits me ledger call _ (shard-brought h g) e = absurd (true≢false (sym e))
 
 -- a refused call and a repeat change no shard
 pub shard-unchanged : (limits : Limits) (me : ℕ) (ledger : Ledger) (call : Call)
@@ -96,13 +102,14 @@ cluster-unchanged limits shards (deliver p sender verdict t) e = go (notGiven li
 
 -- by cases on what a call did to the model
 model-left : (limits : Limits) (place : ℕ) (model : Model) (call : Call) (r : Model × Answer)
-    → Effect limits place model call r → leaves (r .1) ≡ true → r .0 ≡ model
-model-left limits place model call _ (did-refuse h) e = refl
-model-left limits place model call _ (did-repeat h z) e = refl
-model-left limits place model call _ (did-mint h) e = absurd (true≢false (sym e))
-model-left limits place model call _ (did-register h) e = absurd (true≢false (sym e))
-model-left limits place model call _ (did-hear h g z) e = absurd (true≢false (sym e))
-model-left limits place model call _ (did-turn h) e = absurd (true≢false (sym e))
+    → Effects limits place model call r → leaves (r .1) ≡ true → r .0 ≡ model
+model-left limits place model call _ (did-one (did-refuse h)) e = refl
+model-left limits place model call _ (did-one (did-repeat h z)) e = refl
+model-left limits place model call _ (did-one (did-mint h)) e = absurd (true≢false (sym e))
+model-left limits place model call _ (did-one (did-register h)) e = absurd (true≢false (sym e))
+model-left limits place model call _ (did-one (did-hear h g z)) e = absurd (true≢false (sym e))
+model-left limits place model call _ (did-one (did-turn h)) e = absurd (true≢false (sym e))
+model-left limits place model call _ (did-bring h g) e = absurd (true≢false (sym e))
 
 -- nor do they change the model's notes
 pub model-unchanged : (limits : Limits) (place : ℕ) (model : Model) (call : Call)
@@ -118,6 +125,7 @@ number-left limits me ledger call _ (shard-registered h) n e z = let y : _≡_ {
 number-left limits me ledger call _ (shard-heard h g w) n e z = let y : _≡_ {A = ℕ} 0 1 = cc in omega arith
 number-left limits me ledger call _ (shard-again h w) n e z = let y : _≡_ {A = ℕ} 0 1 = cc in omega arith
 number-left limits me ledger call _ (shard-turned h) n e z = let y : _≡_ {A = ℕ} 0 1 = cc in omega arith
+number-left limits me ledger call _ (shard-brought h g) n e z = let y : _≡_ {A = ℕ} 0 1 = cc in omega arith
 
 -- a refusal has a number
 pub refused-number : (limits : Limits) (me : ℕ) (ledger : Ledger) (call : Call) (n : ℕ) → shardStep limits me ledger call .1 ≡ Refused n → n ≢ 0
@@ -161,36 +169,31 @@ one-number limits calls p = alone-repeats sameNumber (ledgerAt limits (play limi
 
 -- ---- Amounts
 
--- a call logs balanced transactions only
-balanced-step : (limits : Limits) (place : ℕ) (model : Model) → ((e : Entry) → List·Memᴰ e (model .log) → balanced (e .transaction) ≡ true)
-    → (call : Call) (r : Model × Answer) → Effect limits place model call r → (e : Entry) → List·Memᴰ e (r .0 .log) → balanced (e .transaction) ≡ true
-balanced-step limits place model f call _ (did-refuse h) = f
-balanced-step limits place model f call _ (did-mint h) = f
-balanced-step limits place model f call _ (did-hear h g z) = f
-balanced-step limits place model f call _ (did-repeat h z) = f
-balanced-step limits place model f call _ (did-turn h) = f
-balanced-step limits place model f call _ (did-register {p = p} {t = t} h) = go
+-- every entry of the log is of a balanced transaction
+abbrev Balanced : Model → Type 0
+Balanced model = (e : Entry) → List·Memᴰ e (model .log) → balanced (e .transaction) ≡ true
+
+-- by cases on what a call did
+keeps-balanced : (limits : Limits) → Keeps limits Balanced
+keeps-balanced limits place model w f call _ (did-refuse h) = f
+keeps-balanced limits place model w f call _ (did-mint h) = f
+keeps-balanced limits place model w f call _ (did-hear h g z) = f
+keeps-balanced limits place model w f call _ (did-repeat h z) = f
+keeps-balanced limits place model w f call _ (did-turn h) = f
+keeps-balanced limits place model w f call _ (did-register {p = p} {t = t} h) = go
   where
     go : (e : Entry) → List·Memᴰ e (entryFor limits place (model .shards) p t ∷ model .log) → balanced (e .transaction) ≡ true
     go e (List·Memᴰ·head z) = ap (λ (r : Entry). balanced (r .transaction)) z ∙ h .form .balances
     go e (List·Memᴰ·tail m) = f e m
 
--- and so does every list of calls
-balanced-after : (limits : Limits) (place : ℕ) (model : Model) → ((e : Entry) → List·Memᴰ e (model .log) → balanced (e .transaction) ≡ true)
-    → (calls : List Call) (e : Entry) → List·Memᴰ e (after limits place model calls .log) → balanced (e .transaction) ≡ true
-unfolding after
-balanced-after limits place model f [] = f
-balanced-after limits place model f (call ∷ calls) =
-    balanced-after limits (suc place) (step limits place model call .0)
-    (balanced-step limits place model f call (step limits place model call) (effect limits place model call)) calls
-
 -- the amounts of a committed transaction balance
 pub committed-balance : (limits : Limits) (calls : List Call) (t : Transaction) → committed (play limits calls) t ≡ true
     → total inputAmount (usedInputs t) ≡ total outputAmount (usedOutputs t)
-unfolding play balanced
+unfolding balanced
 committed-balance limits calls t c =
     let r = committed-logged limits (play limits calls) (play-inv limits calls) t c in
-    let b : balanced t ≡ true = ap balanced (sym (r .2)) ∙ balanced-after limits 1 (emptyModel limits) (λ e m. elim m [ ]) calls (r .0) (r .1) in
+    let each : Balanced (play limits calls) = play-keeps limits Balanced (keeps-balanced limits) (λ e m. elim m [ ]) calls in
+    let b : balanced t ≡ true = ap balanced (sym (r .2)) ∙ each (r .0) (r .1) in
     eqb-eq (total inputAmount (usedInputs t)) (total outputAmount (usedOutputs t)) b
 
 -- ---- Lists of calls one behind the other

@@ -42,7 +42,17 @@ use Rattle.model.specs.Demand.{outcomeAt, heardAllAt, WasAvailable}
 use Rattle.model.proofs.Basics.{eqb-yes}
 use Rattle.model.proofs.Outcomes.{abort-stays}
 use Rattle.model.proofs.Refusals.{shard-below, part-in}
-use Rattle.model.proofs.Effects.{ShardEffect, shard-refused, shard-minted, shard-registered, shard-heard, shard-again, shard-effect, shard-turned}
+use Rattle.model.proofs.Effects.{
+  ShardEffect,
+  shard-refused,
+  shard-minted,
+  shard-registered,
+  shard-heard,
+  shard-again,
+  shard-effect,
+  shard-turned,
+  shard-brought,
+}
 use Rattle.model.proofs.Steps.{play-inv}
 use Rattle.model.proofs.Decisions.{decided-exact, all-in-at}
 use Rattle.model.proofs.Votes.{own-no, own-yes}
@@ -68,6 +78,7 @@ at-once-by limits me ledger call _ (shard-minted h) verdict o e = let z : _≡_ 
 at-once-by limits me ledger call _ (shard-heard h f z) verdict o e = let y : _≡_ {A = ℕ} 0 1 = cc in absurd (omega arith)
 at-once-by limits me ledger call _ (shard-again h z) verdict o e = let y : _≡_ {A = ℕ} 0 1 = cc in absurd (omega arith)
 at-once-by limits me ledger call _ (shard-turned h) verdict o e = let y : _≡_ {A = ℕ} 0 1 = cc in absurd (omega arith)
+at-once-by limits me ledger call _ (shard-brought h f) verdict o e = let y : _≡_ {A = ℕ} 0 1 = cc in absurd (omega arith)
 
 -- at a lone shard
 pub at-once : (limits : Limits) (me : ℕ) (ledger : Ledger) (call : Call) (verdict : Bool) (o : Outcome)

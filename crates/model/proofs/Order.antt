@@ -14,7 +14,7 @@ use Rattle.model.specs.Demand.{committed, isLast, serialFrom, serialOrde
 use Rattle.model.proofs.Basics.{not-yes, both, and-intro, Case, yes-case, no-case, case}
 use Rattle.model.proofs.Entries.{same-eq, same-true}
 use Rattle.model.proofs.Outcomes.{commit≢wait}
-use Rattle.model.proofs.Effects.{Effect, did-refuse, did-mint, did-register, did-hear, did-repeat, effect, did-turn}
+use Rattle.model.proofs.Effects.{did-refuse, did-mint, did-register, did-hear, did-repeat, effect, did-turn, Effects, did-one, did-bring}
 use Rattle.model.proofs.Steps.{Inv}
 use Rattle.model.proofs.Decisions.{knows, commit-at}
 use Rattle.model.proofs.Serial.{last-entry, last-tail, late}
@@ -118,13 +118,15 @@ placed-new place log r z h = record { below = go; falls = (λ e m. let y = h .be
 
 -- by cases on what a call did
 placed-step : (limits : Limits) (place : ℕ) (model : Model) → Placed place (model .log)
-    → (call : Call) (r : Model × Answer) → Effect limits place model call r → Placed (suc place) (r .0 .log)
-placed-step limits place model h call _ (did-refuse n) = placed-same place (model .log) h
-placed-step limits place model h call _ (did-mint n) = placed-same place (model .log) h
-placed-step limits place model h call _ (did-register {p = p} {t = t} n) = placed-new place (model .log) (entryFor limits place (model .shards) p t) refl h
-placed-step limits place model h call _ (did-hear n g z) = placed-same place (model .log) h
-placed-step limits place model h call _ (did-repeat n z) = placed-same place (model .log) h
-placed-step limits place model h call _ (did-turn n) = placed-same place (model .log) h
+    → (call : Call) (r : Model × Answer) → Effects limits place model call r → Placed (suc place) (r .0 .log)
+placed-step limits place model h call _ (did-one (did-refuse n)) = placed-same place (model .log) h
+placed-step limits place model h call _ (did-one (did-mint n)) = placed-same place (model .log) h
+placed-step limits place model h call _ (did-one (did-register {p = p} {t = t} n)) =
+    placed-new place (model .log) (entryFor limits place (model .shards) p t) refl h
+placed-step limits place model h call _ (did-one (did-hear n g z)) = placed-same place (model .log) h
+placed-step limits place model h call _ (did-one (did-repeat n z)) = placed-same place (model .log) h
+placed-step limits place model h call _ (did-one (did-turn n)) = placed-same place (model .log) h
+placed-step limits place model h call _ (did-bring {p = p} {t = t} n g) = placed-new place (model .log) (entryFor limits place (model .shards) p t) refl h
 
 -- after every list of calls
 falls-after : (limits : Limits) (place : ℕ) (model : Model) (calls : List Call) → Placed place (model .log) → Falls (after limits place model calls .log)

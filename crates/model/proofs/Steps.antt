@@ -8,6 +8,7 @@ use mathlib.Core.Option.{Option, none, some}
 use mathlib.Core.List.{List, [], _∷_, _++_, List·Memᴰ, List·Memᴰ·head, List·Memᴰ·tail}
 use lib.Dec.{eqb}
 use lib.ListN.{length, getD, set, replicate, length-set, length-replicate}
+use lib.Seq.{getD-set-same, getD-set-other, set-set}
 use Rattle.transaction.specs.declared.Input.{Input}
 use Rattle.transaction.specs.declared.Transaction.{Transaction}
 use Rattle.transaction.specs.Lists.{any, all}
@@ -18,6 +19,7 @@ use Rattle.model.specs.declared.Known.{Known}
 use Rattle.model.specs.declared.Outcome.{Outcome}
 use Rattle.model.specs.declared.Outcome.the-variants.{Wait, Commit, Abort}
 use Rattle.model.specs.declared.Answer.{Answer}
+use Rattle.model.specs.declared.Answer.the-variants.{Registered, Heard}
 use Rattle.model.specs.Lists.{mapOption}
 use Rattle.model.specs.Steps.{
   Limits,
@@ -51,7 +53,7 @@ use Rattle.model.specs.Steps.{
   pledgedToAborted,
   afterTurn,
 }
-use Rattle.model.specs.Shard.{Call}
+use Rattle.model.specs.Shard.{Call, register, deliver}
 use Rattle.model.specs.Cluster.{emptyShards, ledgerAt, hasGiven, gave}
 use Rattle.model.specs.Model.{Entry, Genesis, Model, emptyModel, entryFor, step, after, play}
 use Rattle.model.specs.Demand.{Value, inputValue, tokenValue, hasSpot, tokenAt, sameSpot, genesisLedger}
@@ -86,19 +88,7 @@ use Rattle.model.proofs.Basics.{
   getD-same,
 }
 use Rattle.model.proofs.Lookups.{lookup-append, alone-append}
-use Rattle.model.proofs.Entries.{
-  same-eq,
-  look,
-  mem-look,
-  put,
-  look-put-same,
-  look-put-other,
-  append-put,
-  set-put,
-  number-unknown,
-  whole-known,
-  entry-look,
-}
+use Rattle.model.proofs.Entries.{same-eq, look, mem-look, put, look-put-same, look-put-other, append-put, set-put, number-unknown, entry-look}
 use Rattle.model.proofs.Outcomes.{outcome-yes, abort-stays}
 use Rattle.model.proofs.Holdings.{idOf, tok-name, mem-tok, available-token, value-pledges, no-twice-pledges, tok-pledged, tok-unpledged}
 use Rattle.model.proofs.Invariant.{
@@ -130,8 +120,30 @@ use Rattle.model.proofs.Invariant.{
   frees-ok,
   ended-ok,
 }
-use Rattle.model.proofs.Refusals.{shard-below, number-positive, part-in}
-use Rattle.model.proofs.Effects.{Effect, did-refuse, did-mint, did-register, did-hear, did-repeat, did-turn, effect, replaced}
+use Rattle.model.proofs.Refusals.{
+  shard-below,
+  number-positive,
+  part-in,
+  DeliverPasses,
+  BringPasses,
+  brought-registers,
+  brought-fresh,
+  brought-hears,
+}
+use Rattle.model.proofs.Effects.{
+  Effect,
+  did-refuse,
+  did-mint,
+  did-register,
+  did-hear,
+  did-repeat,
+  did-turn,
+  effect,
+  replaced,
+  Effects,
+  did-one,
+  did-bring,
+}
 
 -- ---- The log
 
@@ -755,12 +767,76 @@ module _ (limits : Limits) (place : ℕ) (model : Model) (w : Inv limits model) 
       (register-logged (w .at p) t positive unknown (h .form .distinct) member below place (w .logged))
       (register-grows (w .at p) t positive unknown (h .form .distinct) member below place)
   step-next call _ (did-hear {p = p} {sender = q} {verdict = v} {t = t} h g z) =
-      let known : any (isFor t) (at p .known) ≡ true = whole-known t (at p .known) (h .number-known) (h .no-other) in
-      let from : q < 8 = shard-below q (h .sender-fits) in
-      let member : List·Memᴰ q (shardsOf t) = part-in q t (h .sender-part) in
+      let known : any (isFor t) (at p .known) ≡ true = h .is-known in
+      let from : q < 8 = shard-below q (h .passes .sender-fits) in
+      let member : List·Memᴰ q (shardsOf t) = part-in q t (h .passes .sender-part) in
       let given : Voted (model .log) q t (v + 1) = gave-vote limits model w q v t g in
-      replaced-next p (afterVote p (at p) q v t) (model .log) (model .minted) (h .form .receiver-fits)
+      replaced-next p (afterVote p (at p) q v t) (model .log) (model .minted) (h .passes .form .receiver-fits)
       (vote-ok (w .at p) t known q v from z member given) (λ a n. w .at a) (w .logged) (vote-grows (w .at p) t known q v from z member given)
+
+  -- a vote that brings its transaction
+  module _ {p sender verdict : ℕ} {t : Transaction} (h : BringPasses limits p (at p) p sender verdict t)
+      (given : gave (at sender) sender verdict t ≡ true) where
+    -- the shard's ledger between its two steps, and the model
+    abbrev registered : Ledger
+    registered = afterRegister p (at p) t
+
+    abbrev between : Model
+    between = replaced limits place model p registered (entryFor limits place (model .shards) p t ∷ model .log) (model .minted)
+
+    -- what the vote does then, to a ledger and to the shards
+    abbrev heard : Ledger → List Ledger → Model × Answer
+    heard l shards =
+        (record { shards = shards; log = between .log; minted = between .minted }, Heard (outcomeOf (hearing sender verdict (entryOf t (l .known)))))
+
+    here : ledgerAt limits (between .shards) p ≡ registered
+    here =
+        let below : p < length (model .shards) = let e = w .eight in let b = shard-below p (h .passes .form .receiver-fits) in omega arith in
+        getD-set-same (model .shards) p registered (emptyLedger limits) below
+
+    others : ledgerAt limits (between .shards) sender ≡ at sender
+    others = getD-set-other (model .shards) p sender registered (emptyLedger limits) (h .from-other)
+
+    -- it is registered
+    pub brought-first : Effect limits place model (register p t) (between, Registered (vote p (at p .tokens) t) (outcomeOf (newlyKnown p (at p .tokens) t)))
+    brought-first = did-register (brought-registers h)
+
+    -- and then the vote is heard
+    pub brought-then : Effect limits place between (deliver p sender verdict t)
+        (heard registered (set (model .shards) p (afterVote p registered sender verdict t)))
+    brought-then =
+        let passes : DeliverPasses limits p (ledgerAt limits (between .shards) p) p sender verdict t =
+        subst (λ (l : Ledger). DeliverPasses limits p l p sender verdict t) (sym here) (brought-hears h) in
+        let gives : gave (ledgerAt limits (between .shards) sender) sender verdict t ≡ true = ap (λ (l : Ledger). gave l sender verdict t) others ∙ given in
+        let fresh : heardFrom sender (entryOf t (ledgerAt limits (between .shards) p .known)) ≡ 0 =
+        ap (λ (l : Ledger). heardFrom sender (entryOf t (l .known))) here ∙ brought-fresh h in
+        let once : List Ledger = set (between .shards) p (afterVote p registered sender verdict t) in
+        let done : Effect limits place between (deliver p sender verdict t) (heard registered once) =
+        subst (λ (l : Ledger). Effect limits place between (deliver p sender verdict t) (heard l (set (between .shards) p (afterVote p l sender verdict t))))
+        here (did-hear passes gives fresh) in
+        subst (λ (shards : List Ledger). Effect limits place between (deliver p sender verdict t) (heard registered shards))
+        (set-set (model .shards) p registered (afterVote p registered sender verdict t)) done
+
+-- what each step keeps
+abbrev pub Keeps : Limits → (Model → Type 0) → Type 0
+Keeps limits P = (place : ℕ) (model : Model) → Inv limits model → P model → (call : Call) (r : Model × Answer) → Effect limits place model call r → P (r .0)
+
+-- a call keeps, also one of two steps
+module _ (limits : Limits) (P : Model → Type 0) (keeps : Keeps limits P) where
+  pub call-keeps : (place : ℕ) (model : Model) → Inv limits model → P model → (call : Call) (r : Model × Answer) → Effects limits place model call r → P (r .0)
+  call-keeps place model w p call r (did-one e) = keeps place model w p call r e
+  call-keeps place model w p call _ (did-bring h g) =
+      let first = brought-first limits place model w h g in
+      let middle = step-next limits place model w _ _ first .inv in
+      keeps place _ middle (keeps place model w p _ _ first) call _ (brought-then limits place model w h g)
+
+-- the invariant after a call
+keeps-inv : (limits : Limits) → Keeps limits (Inv limits)
+keeps-inv limits place model w _ call r e = step-next limits place model w call r e .inv
+
+next-inv : (limits : Limits) (place : ℕ) (model : Model) → Inv limits model → (call : Call) → Inv limits (step limits place model call .0)
+next-inv limits place model w call =
+    call-keeps limits (Inv limits) (keeps-inv limits) place model w w call (step limits place model call) (effect limits place model call)
 
 -- ---- Every list of calls
 
@@ -796,22 +872,17 @@ empty-inv limits = record {
   logged = record { once = tt; member = λ r m. elim m [ ]; unique = λ r₁ r₂ m. elim m [ ] };
 }
 
--- what each call keeps, every list of calls keeps
-module _ (limits : Limits) (P : Model → Type 0)
-    (keeps : (place : ℕ) (model : Model) → Inv limits model → P model → (call : Call) (r : Model × Answer) → Effect limits place model call r → P (r .0)) where
+-- and so does every list of calls
+module _ (limits : Limits) (P : Model → Type 0) (keeps : Keeps limits P) where
   -- one call further
   next-keeps : (place : ℕ) (model : Model) → Inv limits model → P model → (call : Call) → P (step limits place model call .0)
-  next-keeps place model w p call = keeps place model w p call (step limits place model call) (effect limits place model call)
-
-  -- and the invariant with it
-  next-inv : (place : ℕ) (model : Model) → Inv limits model → (call : Call) → Inv limits (step limits place model call .0)
-  next-inv place model w call = step-next limits place model w call (step limits place model call) (effect limits place model call) .inv
+  next-keeps place model w p call = call-keeps limits P keeps place model w p call (step limits place model call) (effect limits place model call)
 
   after-keeps : (place : ℕ) (model : Model) → Inv limits model → P model → (calls : List Call) → P (after limits place model calls)
   unfolding after
   after-keeps place model w p [] = p
   after-keeps place model w p (call ∷ calls) =
-      after-keeps (suc place) (step limits place model call .0) (next-inv place model w call) (next-keeps place model w p call) calls
+      after-keeps (suc place) (step limits place model call .0) (next-inv limits place model w call) (next-keeps place model w p call) calls
 
   -- from the state that a list leads to, however it goes on
   longer-keeps : (place : ℕ) (model : Model) → Inv limits model → (calls more : List Call)
@@ -819,7 +890,7 @@ module _ (limits : Limits) (P : Model → Type 0)
   unfolding after
   longer-keeps place model w [] more p = after-keeps place model w p more
   longer-keeps place model w (call ∷ calls) more p =
-      longer-keeps (suc place) (step limits place model call .0) (next-inv place model w call) calls more p
+      longer-keeps (suc place) (step limits place model call .0) (next-inv limits place model w call) calls more p
 
   -- of every play
   pub play-keeps : P (emptyModel limits) → (calls : List Call) → P (play limits calls)
@@ -833,7 +904,7 @@ module _ (limits : Limits) (P : Model → Type 0)
 
 -- the invariant of a play
 pub play-inv : (limits : Limits) (calls : List Call) → Inv limits (play limits calls)
-play-inv limits calls = play-keeps limits (Inv limits) (λ place model w _ call r e. step-next limits place model w call r e .inv) (empty-inv limits) calls
+play-inv limits calls = play-keeps limits (Inv limits) (keeps-inv limits) (empty-inv limits) calls
 
 -- nothing is forgotten in a longer play
 pub play-grows : (limits : Limits) (calls more : List Call) (p : ℕ)

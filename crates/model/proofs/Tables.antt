@@ -1,4 +1,4 @@
--- The tables of refusals: a call from what its table answers, the one table of a vote at a cluster, and 12, which a cluster never answers.
+-- The tables of refusals: a call from what its table answers, the one table of a vote at a cluster, and 12 and 11, which a cluster never answers.
 use Prim.Native.Nat.{ℕ, _+_}
 use native.Mathlib.Omega.{arith}
 use mathlib.Core.Path.{_≡_, refl, ap, sym, _∙_, subst}
@@ -48,11 +48,35 @@ use Rattle.model.specs.Shard.{
   shardStep,
   turn,
   turnRefusals,
+  isUnknown,
+  entryRefusals,
+  bringRest,
+  hearRest,
+  bring,
+  delivered,
 }
-use Rattle.model.specs.Cluster.{ledgerAt, gave, notGiven, atShard, clusterStep}
+use Rattle.model.specs.Cluster.{ledgerAt, gave, notGiven, atShard, clusterStep, hasGiven}
 use Rattle.model.specs.Model.{Model, play}
-use Rattle.model.proofs.Basics.{eqb-same, eqb-yes, eqb-no, eqb-apart, both, and-intro, not-yes, not-no, not-is, clash, isNumber, passed, number-behind}
-use Rattle.model.proofs.Entries.{whole-known, entry-look}
+use Rattle.model.proofs.Basics.{
+  eqb-same,
+  eqb-yes,
+  eqb-no,
+  eqb-apart,
+  both,
+  and-intro,
+  not-yes,
+  not-no,
+  not-is,
+  clash,
+  isNumber,
+  passed,
+  number-behind,
+  eqb-eq,
+  never-answers,
+  any-at,
+  any-of,
+}
+use Rattle.model.proofs.Entries.{whole-known, entry-look, known-number}
 use Rattle.model.proofs.Invariant.{Voted}
 use Rattle.model.proofs.Steps.{Inv, play-inv, gave-vote}
 use Rattle.model.proofs.Decisions.{voted-same}
@@ -67,6 +91,15 @@ unless-refused cause before done h = ap (λ (b : Bool). cond b done (before, Ref
 pub unless-done : {A : Type 0} (cause : ℕ) (before : A) (done : A × Answer) → cause ≡ 0 → unless cause before done ≡ done
 unless-done cause before done h = ap (λ (b : Bool). cond b done (before, Refused cause)) (eqb-yes h)
 
+-- a call that is refused, where its step never is, is refused with the table's number
+pub unless-number : {A : Type 0} (cause : ℕ) (before : A) (done : A × Answer) (n : ℕ) → done .1 ≢ Refused n
+    → unless cause before done .1 ≡ Refused n → cause ≡ n
+unless-number cause before done n never e = go (eqb cause 0) e
+  where
+    go : (b : Bool) → cond b done (before, Refused cause) .1 ≡ Refused n → cause ≡ n
+    go true e = absurd (never e)
+    go false e = cc
+
 -- two tables one behind the other
 first-of-both : (a b : List (Bool × ℕ)) → all isNumber a ≡ true → firstOf (a ++ b) ≡ cond (eqb (firstOf a) 0) (firstOf b) (firstOf a)
 first-of-both [] b s = refl
@@ -77,21 +110,18 @@ first-of-both (t ∷ a) b s = let r = both (isNumber t) (all isNumber a) s in go
     go true n h = sym (ap (λ (d : Bool). cond d (firstOf b) (t .1)) (not-is {b = eqb (t .1) 0} n))
     go false n h = h
 
--- kind 2 in a cluster, in the paper's order: 3, 4, 5, 6, 16, 11, 7, 12
+-- kind 2 in a cluster, in the paper's order: 3, 4, 5, 6, 16, then what the receiver's ledger says
 unfoldable pub clusterRefusals : Limits → List Ledger → ℕ → ℕ → ℕ → Transaction → List (Bool × ℕ)
 clusterRefusals limits shards p sender verdict t =
     deliverForm limits p p sender verdict t
     ++ (not (gave (ledgerAt limits shards sender) sender verdict t), 16)
-    ∷ (not (any (hasNumber t) (ledgerAt limits shards p .known)), 11)
-    ∷ (any (isOther t) (ledgerAt limits shards p .known), 7)
-    ∷ (otherVerdict (heardFrom sender (entryOf t (ledgerAt limits shards p .known))) verdict, 12)
-    ∷ []
+    ∷ deliverRest limits p (ledgerAt limits shards p) sender verdict t
 
 -- a vote at the cluster is answered by this one table
 pub cluster-deliver : (limits : Limits) (shards : List Ledger) (p sender verdict : ℕ) (t : Transaction)
     → clusterStep limits shards (deliver p sender verdict t)
     ≡ unless (firstOf (clusterRefusals limits shards p sender verdict t)) shards
-    (set shards p (hear p (ledgerAt limits shards p) sender verdict t .0), hear p (ledgerAt limits shards p) sender verdict t .1)
+    (set shards p (delivered p (ledgerAt limits shards p) sender verdict t .0), delivered p (ledgerAt limits shards p) sender verdict t .1)
 unfolding clusterStep atShard shardStep notGiven clusterRefusals deliverRefusals deliverForm
 cluster-deliver limits shards p sender verdict t =
     (λ i. cond (notGiven limits shards p sender verdict t) (shards, Refused 16) (at (first-of-both form rest refl i)))
@@ -102,14 +132,10 @@ cluster-deliver limits shards p sender verdict t =
     form = deliverForm limits p p sender verdict t
 
     rest : List (Bool × ℕ)
-    rest =
-        (not (any (hasNumber t) (ledgerAt limits shards p .known)), 11)
-        ∷ (any (isOther t) (ledgerAt limits shards p .known), 7)
-        ∷ (otherVerdict (heardFrom sender (entryOf t (ledgerAt limits shards p .known))) verdict, 12)
-        ∷ []
+    rest = deliverRest limits p (ledgerAt limits shards p) sender verdict t
 
     heard : Ledger × Answer
-    heard = hear p (ledgerAt limits shards p) sender verdict t
+    heard = delivered p (ledgerAt limits shards p) sender verdict t
 
     -- the receiving shard's answer, and the cluster's, where the table says this
     at : ℕ → List Ledger × Answer
@@ -157,45 +183,75 @@ no-other-verdict limits model w p sender verdict t known given other =
     (w .at p .core .votes (t .number) (entryOf t l) (r .0) sender (h .0)) in
     h .1 (voted-same limits model w sender t (heardFrom sender (entryOf t l)) (verdict + 1) v (gave-vote limits model w sender verdict t given))
 
--- where a shard's table says 12, the vote passed 3 to 6, the transaction is known, and the other verdict was heard
-twelve-says : (limits : Limits) (p : ℕ) (ledger : Ledger) (sender verdict : ℕ) (t : Transaction)
-    → firstOf (deliverRefusals limits p ledger p sender verdict t) ≡ 12
-    → (firstOf (deliverForm limits p p sender verdict t) ≡ 0) × (any (isFor t) (ledger .known) ≡ true)
-    × (otherVerdict (heardFrom sender (entryOf t (ledger .known))) verdict ≡ true)
-unfolding deliverRefusals deliverForm
-twelve-says limits p ledger sender verdict t e =
-    let r = number-behind 12 (deliverForm limits p p sender verdict t) (deliverRest ledger sender verdict t) refl e in
-    let s = number-behind 12 ((not (any (hasNumber t) (ledger .known)), 11) ∷ (any (isOther t) (ledger .known), 7) ∷ [])
-    ((otherVerdict (heardFrom sender (entryOf t (ledger .known))) verdict, 12) ∷ []) refl (r .1) in
-    let g = passed ((not (any (hasNumber t) (ledger .known)), 11) ∷ (any (isOther t) (ledger .known), 7) ∷ []) refl (s .0) in (
-      r .0,
-      whole-known t (ledger .known) (not-no (any (hasNumber t) (ledger .known)) (g .0)) (g .1 .0),
-      last (otherVerdict (heardFrom sender (entryOf t (ledger .known))) verdict) (s .1),
-    )
-  where
-    last : (b : Bool) → _≡_ {A = ℕ} (cond b 12 0) 12 → b ≡ true
-    last true e = refl
-    last false e = absurd (eqb-apart {m = 0} {n = 12} refl e)
+module _ (limits : Limits) (p : ℕ) (ledger : Ledger) (sender verdict : ℕ) (t : Transaction) where
+  -- the two tables of what the ledger says
+  abbrev on-unknown : List (Bool × ℕ)
+  on-unknown = bringRest limits p ledger sender t
 
--- the number with which a vote is refused at a shard is its table's
-deliver-number : (limits : Limits) (p : ℕ) (ledger : Ledger) (sender verdict : ℕ) (t : Transaction) (n : ℕ)
-    → shardStep limits p ledger (deliver p sender verdict t) .1 ≡ Refused n
-    → firstOf (deliverRefusals limits p ledger p sender verdict t) ≡ n
-unfolding shardStep hear
-deliver-number limits p ledger sender verdict t n e =
-    go (eqb (firstOf (deliverRefusals limits p ledger p sender verdict t)) 0) (eqb (heardFrom sender (entryOf t (ledger .known))) 0) e
-  where
-    yes : Ledger × Answer
-    yes = (afterVote p ledger sender verdict t, Heard (outcomeOf (hearing sender verdict (entryOf t (ledger .known)))))
+  abbrev on-known : List (Bool × ℕ)
+  on-known = hearRest ledger sender verdict t
 
-    again : Ledger × Answer
-    again = (ledger, Again (outcomeOf (entryOf t (ledger .known))))
+  -- the number with which a vote is refused at a shard is its table's
+  deliver-number : (n : ℕ) → shardStep limits p ledger (deliver p sender verdict t) .1 ≡ Refused n
+      → firstOf (deliverRefusals limits p ledger p sender verdict t) ≡ n
+  unfolding shardStep hear bring
+  deliver-number n e =
+      unless-number (firstOf (deliverRefusals limits p ledger p sender verdict t)) ledger (delivered p ledger sender verdict t) n
+      (carried (isUnknown t (ledger .known)) (eqb (heardFrom sender (entryOf t (ledger .known))) 0)) e
+    where
+      fresh : Ledger × Answer
+      fresh = (afterVote p ledger sender verdict t, Heard (outcomeOf (hearing sender verdict (entryOf t (ledger .known)))))
 
-    go : (a b : Bool) → cond a (cond b yes again) (ledger, Refused (firstOf (deliverRefusals limits p ledger p sender verdict t))) .1
-        ≡ Refused n → firstOf (deliverRefusals limits p ledger p sender verdict t) ≡ n
-    go true true e = let z : _≡_ {A = ℕ} 0 1 = cc in absurd (omega arith)
-    go true false e = let z : _≡_ {A = ℕ} 0 1 = cc in absurd (omega arith)
-    go false b e = cc
+      again : Ledger × Answer
+      again = (ledger, Again (outcomeOf (entryOf t (ledger .known))))
+
+      carried : (a b : Bool) → cond a (bring p ledger sender verdict t) (cond b fresh again) .1 ≢ Refused n
+      carried true b e = let z : _≡_ {A = ℕ} 0 1 = cc in omega arith
+      carried false true e = let z : _≡_ {A = ℕ} 0 1 = cc in omega arith
+      carried false false e = let z : _≡_ {A = ℕ} 0 1 = cc in omega arith
+
+  -- where a shard's table says 12, the vote passed 3 to 6, the transaction is known, and the other verdict was heard
+  twelve-says : firstOf (deliverRefusals limits p ledger p sender verdict t) ≡ 12
+      → (firstOf (deliverForm limits p p sender verdict t) ≡ 0) × (any (isFor t) (ledger .known) ≡ true)
+      × (otherVerdict (heardFrom sender (entryOf t (ledger .known))) verdict ≡ true)
+  unfolding deliverRefusals deliverForm
+  twelve-says e =
+      let r = number-behind 12 (deliverForm limits p p sender verdict t) (deliverRest limits p ledger sender verdict t) refl e in
+      let s = go (isUnknown t (ledger .known)) refl (r .1) in
+      (r .0, s .0, s .1)
+    where
+      other : Bool
+      other = otherVerdict (heardFrom sender (entryOf t (ledger .known))) verdict
+
+      last : (b : Bool) → _≡_ {A = ℕ} (cond b 12 0) 12 → b ≡ true
+      last true e = refl
+      last false e = absurd (eqb-apart {m = 0} {n = 12} refl e)
+
+      go : (unknown : Bool) → isUnknown t (ledger .known) ≡ unknown → firstOf (cond unknown on-unknown on-known) ≡ 12
+          → (any (isFor t) (ledger .known) ≡ true) × (other ≡ true)
+      go true u e = absurd (never-answers 12 (λ z. omega arith) on-unknown refl e)
+      go false u e =
+          let s = number-behind 12 ((any (isOther t) (ledger .known), 7) ∷ []) ((other, 12) ∷ []) refl e in
+          let g = passed ((any (isOther t) (ledger .known), 7) ∷ []) refl (s .0) in
+          (whole-known t (ledger .known) (not-no (any (hasNumber t) (ledger .known)) u) (g .0), last other (s .1))
+
+  -- where it says 11, the vote passed 3 to 6, the number is unknown, and sender and receiver are one
+  eleven-says : firstOf (deliverRefusals limits p ledger p sender verdict t) ≡ 11
+      → (firstOf (deliverForm limits p p sender verdict t) ≡ 0) × (isUnknown t (ledger .known) ≡ true) × (sender ≡ p)
+  unfolding deliverRefusals deliverForm
+  eleven-says e =
+      let r = number-behind 11 (deliverForm limits p p sender verdict t) (deliverRest limits p ledger sender verdict t) refl e in
+      let s = go (isUnknown t (ledger .known)) refl (r .1) in
+      (r .0, s .0, s .1)
+    where
+      own : (b : Bool) → eqb sender p ≡ b → firstOf ((b, 11) ∷ entryRefusals limits p ledger t) ≡ 11 → sender ≡ p
+      own true y e = eqb-eq sender p y
+      own false y e = absurd (never-answers 11 (λ z. omega arith) (entryRefusals limits p ledger t) refl e)
+
+      go : (unknown : Bool) → isUnknown t (ledger .known) ≡ unknown → firstOf (cond unknown on-unknown on-known) ≡ 11
+          → (isUnknown t (ledger .known) ≡ true) × (sender ≡ p)
+      go true u e = (u, own (eqb sender p) refl e)
+      go false u e = absurd (never-answers 11 (λ z. omega arith) on-known refl e)
 
 -- 12 is never answered in a cluster
 pub never-twelve : (limits : Limits) (calls : List Call) (p sender verdict : ℕ) (t : Transaction)
@@ -216,6 +272,52 @@ never-twelve limits calls p sender verdict t e = go (notGiven limits shards p se
         let given : gave (ledgerAt limits shards sender) sender verdict t ≡ true =
         not-no (gave (ledgerAt limits shards sender) sender verdict t) (not-yes (λ n. clash (and-intro (eqb-yes (r .0)) n) g)) in
         no-other-verdict limits (play limits calls) (play-inv limits calls) p sender verdict t (r .1) given (r .2)
+
+-- ---- Refusal 11 is met at a lone shard only, for its own vote: in a cluster, who has given a vote knows the transaction
+
+-- who has given a vote knows its number
+gave-known : (ledger : Ledger) (sender verdict : ℕ) (t : Transaction) → gave ledger sender verdict t ≡ true → isUnknown t (ledger .known) ≡ false
+unfolding gave
+gave-known ledger sender verdict t e =
+    let r = any-at (hasGiven sender verdict t) (ledger .known) e in
+    let y = both (isFor t (r .0)) (eqb (heardFrom sender (r .0)) (verdict + 1)) (r .2) in
+    ap not (known-number t (ledger .known) (any-of (isFor t) (r .1) (y .0)))
+
+-- no call of a cluster is answered with 11, whatever its shards hold
+pub never-eleven : (limits : Limits) (shards : List Ledger) (call : Call) → clusterStep limits shards call .1 ≢ Refused 11
+unfolding clusterStep atShard shardStep notGiven mintRefusals registerRefusals turnRefusals
+never-eleven limits shards (mint p index owner amount) e =
+    let ledger = ledgerAt limits shards p in
+    let table = mintRefusals limits p ledger p index owner amount in
+    never-answers 11 (λ z. omega arith) table refl
+    (unless-number (firstOf table) ledger (afterMint ledger index owner amount, Minted) 11 (λ y. let z : _≡_ {A = ℕ} 0 1 = cc in omega arith) e)
+never-eleven limits shards (register p t) e =
+    let ledger = ledgerAt limits shards p in
+    let table = registerRefusals limits p ledger p t in
+    let answer = Registered (vote p (ledger .tokens) t) (outcomeOf (newlyKnown p (ledger .tokens) t)) in
+    never-answers 11 (λ z. omega arith) table refl
+    (unless-number (firstOf table) ledger (afterRegister p ledger t, answer) 11 (λ y. let z : _≡_ {A = ℕ} 0 1 = cc in omega arith) e)
+never-eleven limits shards (turn p) e =
+    let ledger = ledgerAt limits shards p in
+    let table = turnRefusals p ledger p in
+    never-answers 11 (λ z. omega arith) table refl
+    (unless-number (firstOf table) ledger (afterTurn ledger, Turned) 11 (λ y. let z : _≡_ {A = ℕ} 0 1 = cc in omega arith) e)
+never-eleven limits shards (deliver p sender verdict t) e = go (notGiven limits shards p sender verdict t) refl e
+  where
+    ledger : Ledger
+    ledger = ledgerAt limits shards p
+
+    done : List Ledger × Answer
+    done = atShard limits shards p (deliver p sender verdict t)
+
+    go : (b : Bool) → notGiven limits shards p sender verdict t ≡ b → cond b (shards, Refused 16) done .1 ≡ Refused 11 → ⊥
+    go true g e = let z : _≡_ {A = ℕ} 16 11 = cc in omega arith
+    go false g e =
+        let r = eleven-says limits p ledger sender verdict t (deliver-number limits p ledger sender verdict t 11 e) in
+        let given : gave (ledgerAt limits shards sender) sender verdict t ≡ true =
+        not-no (gave (ledgerAt limits shards sender) sender verdict t) (not-yes (λ n. clash (and-intro (eqb-yes (r .0)) n) g)) in
+        let own : gave ledger sender verdict t ≡ true = subst (λ (q : ℕ). gave (ledgerAt limits shards q) sender verdict t ≡ true) (r .2) given in
+        clash (r .1) (gave-known ledger sender verdict t own)
 
 -- ---- A record for a shard that does not exist
 
@@ -290,5 +392,5 @@ no-such-shard limits shards (deliver p sender verdict t) h =
     ap (λ (n : ℕ). cond (eqb n 0 && not (gave (ledgerAt limits shards sender) sender verdict t)) (shards, Refused 16)
     (atShard limits shards p (deliver p sender verdict t))) (form-three limits p sender verdict t h)
     ∙ refused-at limits shards p (deliver p sender verdict t) 3
-    (ap (λ (n : ℕ). unless n (ledgerAt limits shards p) (hear p (ledgerAt limits shards p) sender verdict t))
+    (ap (λ (n : ℕ). unless n (ledgerAt limits shards p) (delivered p (ledgerAt limits shards p) sender verdict t))
     (deliver-three limits p (ledgerAt limits shards p) sender verdict t h))

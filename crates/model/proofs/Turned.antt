@@ -312,8 +312,7 @@ module _ (limits : Limits) where
       at-one limits place model w (λ q l. TurnedClear l) p _ (h .form .receiver-fits)
       (register-clear (w .at p) t (number-positive (limits .genesis) t (h .form .fields)) unknown (f p)) (λ q n. f q)
   step-clear place model w f call _ (did-hear {p = p} {sender = q} {verdict = v} {t = t} h g z) =
-      at-one limits place model w (λ q l. TurnedClear l) p _ (h .form .receiver-fits)
-      (vote-clear (w .at p) t q v (whole-known t (ledgerAt limits (model .shards) p .known) (h .number-known) (h .no-other)) (f p)) (λ q n. f q)
+      at-one limits place model w (λ q l. TurnedClear l) p _ (h .passes .form .receiver-fits) (vote-clear (w .at p) t q v (h .is-known) (f p)) (λ q n. f q)
   step-clear place model w f call _ (did-turn {p = p} h) =
       at-one limits place model w (λ q l. TurnedClear l) p _ (h .receiver-fits) (turn-clear (w .at p)) (λ q n. f q)
 
@@ -350,7 +349,7 @@ module _ (limits : Limits) where
   step-turned place model w call _ (did-register {p = p} h) =
       at-one limits place model w (Stays model) p _ (h .form .receiver-fits) (unfold afterRegister in λ y. y) (λ q n y. y)
   step-turned place model w call _ (did-hear {p = p} h g z) =
-      at-one limits place model w (Stays model) p _ (h .form .receiver-fits) (unfold afterVote in λ y. y) (λ q n y. y)
+      at-one limits place model w (Stays model) p _ (h .passes .form .receiver-fits) (unfold afterVote in λ y. y) (λ q n y. y)
   step-turned place model w call _ (did-turn {p = p} h) =
       at-one limits place model w (Stays model) p _ (h .receiver-fits) (unfold afterTurn in λ y. refl) (λ q n y. y)
 

@@ -5,7 +5,7 @@ use mathlib.Core.List.{List, [], _∷_}
 use Rattle.model.specs.declared.Outcome.{Outcome}
 use Rattle.model.specs.declared.Outcome.the-variants.{Wait, Commit, Abort}
 use Rattle.model.specs.declared.Answer.{Answer}
-use Rattle.model.specs.declared.Answer.the-variants.{Refused, Minted, Registered, Heard, Again, Turned}
+use Rattle.model.specs.declared.Answer.the-variants.{Refused, Minted, Registered, Heard, Again, Turned, Brought}
 
 -- the table's number, 0 where the call was carried out
 abbrev pub numberOf : Answer → ℕ
@@ -15,6 +15,7 @@ numberOf (Registered verdict outcome) = 0
 numberOf (Heard outcome) = 0
 numberOf (Again outcome) = 0
 numberOf Turned = 0
+numberOf (Brought verdict outcome) = 0
 
 -- was the call carried out
 abbrev pub carriedOut : Answer → Bool
@@ -24,6 +25,17 @@ carriedOut (Registered verdict outcome) = true
 carriedOut (Heard outcome) = true
 carriedOut (Again outcome) = true
 carriedOut Turned = true
+carriedOut (Brought verdict outcome) = true
+
+-- was a transaction registered, by a registration or by a vote that brought it (document 02, 6)
+abbrev pub registers : Answer → Bool
+registers (Refused number) = false
+registers Minted = false
+registers (Registered verdict outcome) = true
+registers (Heard outcome) = false
+registers (Again outcome) = false
+registers Turned = false
+registers (Brought verdict outcome) = true
 
 -- WAIT, COMMIT, ABORT
 abbrev pub outcomeWord : Outcome → List ℕ
@@ -35,7 +47,8 @@ outcomeWord Abort = 65 ∷ 66 ∷ 79 ∷ 82 ∷ 84 ∷ []
 abbrev pub verdictWord : Bool → List ℕ
 verdictWord verdict = cond verdict (89 ∷ 69 ∷ 83 ∷ []) (78 ∷ 79 ∷ [])
 
--- REFUSED (its number follows); OPENED; YES or NO and then an outcome; HEARD (fresh) or AGAIN (repeat) and then an outcome; TURNED
+-- REFUSED (its number follows); OPENED; YES or NO and then an outcome, for a registration and for a vote that brought its transaction;
+-- HEARD (fresh) or AGAIN (repeat) and then an outcome; TURNED
 abbrev pub answerWords : Answer → List (List ℕ)
 answerWords (Refused number) = (82 ∷ 69 ∷ 70 ∷ 85 ∷ 83 ∷ 69 ∷ 68 ∷ []) ∷ []
 answerWords Minted = (79 ∷ 80 ∷ 69 ∷ 78 ∷ 69 ∷ 68 ∷ []) ∷ []
@@ -43,3 +56,4 @@ answerWords (Registered verdict outcome) = verdictWord verdict ∷ outcomeWord o
 answerWords (Heard outcome) = (72 ∷ 69 ∷ 65 ∷ 82 ∷ 68 ∷ []) ∷ outcomeWord outcome ∷ []
 answerWords (Again outcome) = (65 ∷ 71 ∷ 65 ∷ 73 ∷ 78 ∷ []) ∷ outcomeWord outcome ∷ []
 answerWords Turned = (84 ∷ 85 ∷ 82 ∷ 78 ∷ 69 ∷ 68 ∷ []) ∷ []
+answerWords (Brought verdict outcome) = verdictWord verdict ∷ outcomeWord outcome ∷ []

@@ -1,13 +1,13 @@
 -- Document 01, 'Any list of calls': the reference model (the book), fed with the calls' arguments in order and nothing else.
 use Prim.Native.Nat.{ℕ, suc}
-use mathlib.Core.Bool.{cond}
+use mathlib.Core.Bool.{Bool, cond}
 use mathlib.Core.List.{List, [], _∷_}
 use Rattle.transaction.specs.declared.Input.{Input}
 use Rattle.transaction.specs.declared.Transaction.{Transaction}
 use Rattle.model.specs.declared.Answer.{Answer}
 use Rattle.model.specs.Steps.{Limits, Ledger, availableHere}
 use Rattle.model.specs.Shard.{Call, mint, register, deliver, turn}
-use Rattle.model.specs.Answers.{carriedOut}
+use Rattle.model.specs.Answers.{carriedOut, registers}
 use Rattle.model.specs.Cluster.{emptyShards, ledgerAt, clusterStep}
 
 -- one registration: its place in the list of calls, the shard, the transaction, which of its inputs there were available
@@ -34,9 +34,9 @@ pub record Model : Type 0 where
 abbrev pub emptyModel : Limits → Model
 emptyModel limits = record { shards = emptyShards limits; log = []; minted = [] }
 
--- a call that is carried out is noted, where the model keeps a note of such calls
-abbrev pub noteIf : {A : Type 0} → Answer → A → List A → List A
-noteIf answer note notes = cond (carriedOut answer) (note ∷ notes) notes
+-- a note more, where there is something to note
+abbrev pub noteIf : {A : Type 0} → Bool → A → List A → List A
+noteIf noted note notes = cond noted (note ∷ notes) notes
 
 -- a registration's entry, from the ledgers before it
 abbrev pub entryFor : Limits → ℕ → List Ledger → ℕ → Transaction → Entry
@@ -47,17 +47,18 @@ entryFor limits place shards receiver t = record {
   available = availableHere receiver (ledgerAt limits shards receiver .tokens) t;
 }
 
--- a registration that is carried out is logged
+-- a registration that is carried out is logged, and so is one that a vote brings, at the place of that call
 unfoldable pub logAfter : Limits → ℕ → Model → Call → Answer → List Entry
 logAfter limits place model (mint receiver index owner amount) answer = model .log
-logAfter limits place model (register receiver t) answer = noteIf answer (entryFor limits place (model .shards) receiver t) (model .log)
-logAfter limits place model (deliver receiver sender verdict t) answer = model .log
+logAfter limits place model (register receiver t) answer = noteIf (registers answer) (entryFor limits place (model .shards) receiver t) (model .log)
+logAfter limits place model (deliver receiver sender verdict t) answer =
+    noteIf (registers answer) (entryFor limits place (model .shards) receiver t) (model .log)
 logAfter limits place model (turn receiver) answer = model .log
 
 -- an opening that is carried out is noted
 unfoldable pub mintedAfter : Model → Call → Answer → List Genesis
 mintedAfter model (mint receiver index owner amount) answer =
-    noteIf answer (record { shard = receiver; index = index; owner = owner; amount = amount }) (model .minted)
+    noteIf (carriedOut answer) (record { shard = receiver; index = index; owner = owner; amount = amount }) (model .minted)
 mintedAfter model (register receiver t) answer = model .minted
 mintedAfter model (deliver receiver sender verdict t) answer = model .minted
 mintedAfter model (turn receiver) answer = model .minted

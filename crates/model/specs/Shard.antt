@@ -14,7 +14,7 @@ use Rattle.model.specs.declared.Known.{Known}
 use Rattle.model.specs.declared.Outcome.{Outcome}
 use Rattle.model.specs.declared.Outcome.the-variants.{Wait, Commit, Abort}
 use Rattle.model.specs.declared.Answer.{Answer}
-use Rattle.model.specs.declared.Answer.the-variants.{Refused, Minted, Registered, Heard, Again, Turned}
+use Rattle.model.specs.declared.Answer.the-variants.{Refused, Minted, Registered, Heard, Again, Turned, Brought}
 use Rattle.model.specs.Steps.{
   Limits,
   Ledger,
@@ -46,6 +46,10 @@ pub data Call : Type 0 where
 -- has the known transaction this number
 abbrev pub hasNumber : Transaction → Known → Bool
 hasNumber t k = eqb (k .transaction .number) (t .number)
+
+-- an unknown number: no known transaction has it
+abbrev pub isUnknown : Transaction → List Known → Bool
+isUnknown t known = not (any (hasNumber t) known)
 
 -- is it another transaction of this number
 abbrev pub isOther : Transaction → Known → Bool
@@ -143,19 +147,31 @@ deliverForm limits me receiver sender verdict t =
     ∷ (not (takesPart sender t), 6)
     ∷ []
 
--- the rest: 11, 7, 12
-abbrev pub deliverRest : Ledger → ℕ → ℕ → Transaction → List (Bool × ℕ)
-deliverRest ledger sender verdict t =
-    (not (any (hasNumber t) (ledger .known)), 11)
-    ∷ (any (isOther t) (ledger .known), 7)
+-- the rest on an unknown number (document 02, 6): 11 where sender and receiver are one; else the vote brings its transaction, under 9, 10, 17
+abbrev pub bringRest : Limits → ℕ → Ledger → ℕ → Transaction → List (Bool × ℕ)
+bringRest limits me ledger sender t =
+    (eqb sender me, 11)
+    ∷ entryRefusals limits me ledger t
+
+-- the rest on a known number: 7, 12
+abbrev pub hearRest : Ledger → ℕ → ℕ → Transaction → List (Bool × ℕ)
+hearRest ledger sender verdict t =
+    (any (isOther t) (ledger .known), 7)
     ∷ (otherVerdict (heardFrom sender (entryOf t (ledger .known))) verdict, 12)
     ∷ []
 
--- kind 2 at a lone shard: 3, 4, 5, 6, 11, 7, 12
+-- the rest
+abbrev pub deliverRest : Limits → ℕ → Ledger → ℕ → ℕ → Transaction → List (Bool × ℕ)
+deliverRest limits me ledger sender verdict t =
+    cond (isUnknown t (ledger .known))
+    (bringRest limits me ledger sender t)
+    (hearRest ledger sender verdict t)
+
+-- kind 2 at a lone shard: 3, 4, 5, 6, then 11, 9, 10, 17 or 7, 12
 unfoldable pub deliverRefusals : Limits → ℕ → Ledger → ℕ → ℕ → ℕ → Transaction → List (Bool × ℕ)
 deliverRefusals limits me ledger receiver sender verdict t =
     deliverForm limits me receiver sender verdict t
-    ++ deliverRest ledger sender verdict t
+    ++ deliverRest limits me ledger sender verdict t
 
 -- kind 4 (document 02, 4), the form: 3
 abbrev pub turnForm : ℕ → ℕ → List (Bool × ℕ)
@@ -177,13 +193,27 @@ turnRefusals me ledger receiver =
 abbrev pub unless : {A : Type 0} → ℕ → A → A × Answer → A × Answer
 unless cause before done = cond (eqb cause 0) done (before, Refused cause)
 
--- a vote that passes: fresh, or the same one heard again
+-- a vote that passes on a known number: fresh, or the same one heard again
 unfoldable pub hear : ℕ → Ledger → ℕ → ℕ → Transaction → Ledger × Answer
 hear me ledger sender verdict t =
     let k = entryOf t (ledger .known) in
     cond (eqb (heardFrom sender k) 0)
     (afterVote me ledger sender verdict t, Heard (outcomeOf (hearing sender verdict k)))
     (ledger, Again (outcomeOf k))
+
+-- a vote that passes on an unknown number brings its transaction (document 02, 6): the registration, and then the vote
+unfoldable pub bring : ℕ → Ledger → ℕ → ℕ → Transaction → Ledger × Answer
+bring me ledger sender verdict t =
+    let registered = afterRegister me ledger t in
+    let k = entryOf t (registered .known) in
+    (afterVote me registered sender verdict t, Brought (vote me (ledger .tokens) t) (outcomeOf (hearing sender verdict k)))
+
+-- a vote that passes
+abbrev pub delivered : ℕ → Ledger → ℕ → ℕ → Transaction → Ledger × Answer
+delivered me ledger sender verdict t =
+    cond (isUnknown t (ledger .known))
+    (bring me ledger sender verdict t)
+    (hear me ledger sender verdict t)
 
 -- the whole call
 unfoldable pub shardStep : Limits → ℕ → Ledger → Call → Ledger × Answer
@@ -195,7 +225,7 @@ shardStep limits me ledger (register receiver t) =
     (afterRegister me ledger t, Registered (vote me (ledger .tokens) t) (outcomeOf (newlyKnown me (ledger .tokens) t)))
 shardStep limits me ledger (deliver receiver sender verdict t) =
     unless (firstOf (deliverRefusals limits me ledger receiver sender verdict t)) ledger
-    (hear me ledger sender verdict t)
+    (delivered me ledger sender verdict t)
 shardStep limits me ledger (turn receiver) =
     unless (firstOf (turnRefusals me ledger receiver)) ledger
     (afterTurn ledger, Turned)

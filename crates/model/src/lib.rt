@@ -26,7 +26,8 @@ pub enum Outcome {
 }
 
 // What a call answers: refused with the table's number; a genesis token given (opened); a registration with the
-// own verdict and the outcome here; a fresh vote and a repeated one with the outcome here; a shard turned.
+// own verdict and the outcome here; a fresh vote and a repeated one with the outcome here; a shard turned; a vote that
+// brought its transaction, with the own verdict and the outcome here after both.
 pub enum Answer {
     Refused(u8),
     Minted,
@@ -34,4 +35,5 @@ pub enum Answer {
     Heard(Outcome),
     Again(Outcome),
     Turned,
+    Brought(bool, Outcome),
 }
