@@ -12,6 +12,7 @@ use Rattle.transaction.specs.Tokens.{usedInputs, shardsOf}
 use Rattle.model.specs.declared.Outcome.{Outcome}
 use Rattle.model.specs.declared.Outcome.the-variants.{Wait, Commit}
 use Rattle.model.specs.declared.Answer.{Answer}
+use Rattle.model.specs.declared.Answer.the-variants.{Refused}
 use Rattle.model.specs.Lists.{mapOption}
 use Rattle.model.specs.Steps.{Limits, Ledger}
 use Rattle.model.specs.Shard.{Call}
@@ -19,6 +20,7 @@ use Rattle.model.specs.Cluster.{emptyShards, ledgerAt, clusterStep}
 use Rattle.model.specs.Model.{Model, emptyModel, step, after, answers, play, playAnswers}
 use Rattle.model.specs.Demand.{outcomeIn, heardAllIn, WasAvailable, commits, committed, tokenAt, tokenValue, Demand3}
 use Rattle.model.proofs.Theorem.{demand-3}
+use Rattle.model.proofs.Tables.{never-eleven}
 
 -- the model's step is the cluster's step, with the model's notes
 pub step-cluster : (limits : Limits) (place : ℕ) (model : Model) (call : Call)
@@ -152,3 +154,8 @@ module _ {limits : Limits} (engine : Engine limits) where
     where
       shown : play limits calls .shards ≡ engine .view s
       shown = sym (played x .viewed)
+
+  -- and in every run 11 is never answered
+  pub run-never-eleven : {s : State} {calls : List Call} {replies : List Answer} → Run (engine .first) calls replies s
+      → List·Memᴰ (Refused 11) replies → ⊥
+  run-never-eleven {calls = calls} x m = never-eleven limits calls (subst (λ (l : List Answer). List·Memᴰ (Refused 11) l) (played x .answered) m)

@@ -1,4 +1,4 @@
--- Laws of 17, a registration held off: it changes nothing; once the first transaction is decided here, its outputs hold nobody off; and a
+-- Laws of 17, a registration held off, or a vote that would bring its transaction: it changes nothing; once the first transaction is decided here, its outputs hold nobody off; and a
 -- transaction whose inputs here are all made and free is never held off, and is voted yes.
 use Prim.Native.Nat.{ℕ}
 use native.Mathlib.Omega.{arith}
@@ -16,30 +16,36 @@ use Rattle.model.specs.declared.Known.{Known}
 use Rattle.model.specs.declared.Outcome.{Outcome}
 use Rattle.model.specs.declared.Outcome.the-variants.{Wait, Commit, Abort}
 use Rattle.model.specs.declared.Answer.{Answer}
-use Rattle.model.specs.declared.Answer.the-variants.{Refused, Registered}
+use Rattle.model.specs.declared.Answer.the-variants.{Refused, Registered, Brought}
 use Rattle.model.specs.Steps.{Limits, Ledger, names, inputsHere, available, vote, newlyKnown, outcomeOf, madeHere, afterRegister}
-use Rattle.model.specs.Shard.{Call, register, isUndecided, awaits, heldOff, registerRefusals, shardStep}
-use Rattle.model.specs.Cluster.{ledgerAt, atShard, clusterStep}
+use Rattle.model.specs.Shard.{
+  Call,
+  register,
+  isUndecided,
+  awaits,
+  heldOff,
+  registerRefusals,
+  shardStep,
+  deliver,
+  isUnknown,
+  bringRest,
+  hearRest,
+  deliverForm,
+  deliverRest,
+  deliverRefusals,
+}
+use Rattle.model.specs.Cluster.{ledgerAt, atShard, clusterStep, notGiven}
 use Rattle.model.specs.Model.{Entry, Model, step, play}
 use Rattle.model.specs.Demand.{Value, tokenAt, outcomeAt}
-use Rattle.model.proofs.Basics.{
-  both,
-  not-yes,
-  clash,
-  any-at,
-  any-no,
-  all-at,
-  some≢none,
-  some-inj,
-  orElse,
-  never-answers,
-}
+use Rattle.model.proofs.Basics.{both, not-yes, clash, any-at, any-no, all-at, some≢none, some-inj, orElse, never-answers, number-behind}
 use Rattle.model.proofs.Entries.{look, mem-look}
 use Rattle.model.proofs.Holdings.{available-token, made-named}
 use Rattle.model.proofs.Invariant.{Core, made, gain, byCommit, onCommit, held-made}
 use Rattle.model.proofs.Steps.{play-inv}
 use Rattle.model.proofs.Decisions.{knows, final-at}
 use Rattle.model.proofs.Laws.{leaves, model-unchanged}
+use Rattle.model.proofs.Tables.{unless-number, deliver-number}
+use Rattle.model.proofs.Brought.{brings-first-in}
 
 -- the outcome is wait
 is-wait : (o : Outcome) → isUndecided o ≡ true → o ≡ Wait
@@ -71,10 +77,11 @@ awaited me x known e =
 
 -- ---- 17 no longer fits
 
--- a registration that 17 refuses changes nothing: the shards, the log and the genesis tokens stay as they were
-pub held-off-unchanged : (limits : Limits) (place : ℕ) (model : Model) (p : ℕ) (t : Transaction)
-    → step limits place model (register p t) .1 ≡ Refused 17 → step limits place model (register p t) .0 ≡ model
-held-off-unchanged limits place model p t e = model-unchanged limits place model (register p t) (ap leaves e)
+-- a registration that 17 refuses changes nothing, and neither does a vote that would bring its transaction: the shards, the log and the genesis tokens
+-- stay as they were
+pub held-off-unchanged : (limits : Limits) (place : ℕ) (model : Model) (call : Call)
+    → step limits place model call .1 ≡ Refused 17 → step limits place model call .0 ≡ model
+held-off-unchanged limits place model call e = model-unchanged limits place model call (ap leaves e)
 
 -- once the first transaction is decided at a shard, no input that names it awaits it there, at that time or later
 pub decided-not-awaited : (limits : Limits) (calls more : List Call) (p : ℕ) (first : Transaction) (x : Input)
@@ -137,38 +144,60 @@ free-passes limits calls p t free =
     (held-not-awaited (ok .core) x
     (available-token (ledger .tokens) x (ok .no-twice) (all-at (available (ledger .tokens)) (inputsHere p t) free x m) .is-there)))
 
--- what a registration is answered: its table's number, or the verdict
-module _ (cause : ℕ) (before after : Ledger) (verdict : Bool) (outcome : Outcome) where
-  abbrev answered : Bool → Ledger × Answer
-  answered passes = cond passes (after, Registered verdict outcome) (before, Refused cause)
-
-  refused-cause : (n : ℕ) (b : Bool) → answered b .1 ≡ Refused n → cause ≡ n
-  refused-cause n true e = let y : _≡_ {A = ℕ} 0 1 = cc in omega arith
-  refused-cause n false e = cc
-
-  registered-verdict : (v : Bool) (o : Outcome) (b : Bool) → answered b .1 ≡ Registered v o → verdict ≡ v
-  registered-verdict v o true e = cc
-  registered-verdict v o false e = let y : _≡_ {A = ℕ} 0 1 = cc in absurd (omega arith)
-
--- a transaction whose inputs here are all made and free when it is sent is not refused with 17, and where it is registered, it is voted yes
+-- a transaction whose inputs here are all made and free when it is sent is not refused with 17, and where it is registered, it is voted yes; by a
+-- registration, and by a vote that brings it
 module _ (limits : Limits) (calls : List Call) (p : ℕ) (t : Transaction) (free : Free limits calls p t) where
   abbrev ledger : Ledger
   ledger = ledgerAt limits (play limits calls .shards) p
 
-  abbrev cause : ℕ
-  cause = firstOf (registerRefusals limits p ledger p t)
-
   abbrev outcome : Outcome
   outcome = outcomeOf (newlyKnown p (ledger .tokens) t)
+
+  -- no row of either table says 17
+  passes-17 : not (heldOff p (ledger .known) t) && true ≡ true
+  passes-17 = ap (λ (b : Bool). not b && true) (free-passes limits calls p t free)
 
   pub free-registers : clusterStep limits (play limits calls .shards) (register p t) .1 ≢ Refused 17
   unfolding clusterStep atShard shardStep registerRefusals
   free-registers e =
-      never-answers 17 (λ z. omega arith) (registerRefusals limits p ledger p t)
-      (ap (λ (b : Bool). not b && true) (free-passes limits calls p t free))
-      (refused-cause cause ledger (afterRegister p ledger t) (vote p (ledger .tokens) t) outcome 17 (eqb cause 0) e)
+      let table = registerRefusals limits p ledger p t in
+      never-answers 17 (λ z. omega arith) table passes-17
+      (unless-number (firstOf table) ledger (afterRegister p ledger t, Registered (vote p (ledger .tokens) t) outcome) 17
+      (λ y. let z : _≡_ {A = ℕ} 0 1 = cc in omega arith) e)
 
   pub free-voted : (v : Bool) (o : Outcome) → clusterStep limits (play limits calls .shards) (register p t) .1 ≡ Registered v o → v ≡ true
   unfolding clusterStep atShard shardStep
-  free-voted v o e =
-      sym (registered-verdict cause ledger (afterRegister p ledger t) (vote p (ledger .tokens) t) outcome v o (eqb cause 0) e) ∙ free
+  free-voted v o e = go (eqb cause 0) e
+    where
+      cause : ℕ
+      cause = firstOf (registerRefusals limits p ledger p t)
+
+      go : (b : Bool) → cond {A = Ledger × Answer} b (afterRegister p ledger t, Registered (vote p (ledger .tokens) t) outcome) (ledger, Refused cause) .1
+          ≡ Registered v o → v ≡ true
+      go true e = let z : vote p (ledger .tokens) t ≡ v = cc in sym z ∙ free
+      go false e = let y : _≡_ {A = ℕ} 0 1 = cc in absurd (omega arith)
+
+  module _ (sender verdict : ℕ) where
+    pub free-brings : clusterStep limits (play limits calls .shards) (deliver p sender verdict t) .1 ≢ Refused 17
+    unfolding clusterStep atShard deliverRefusals deliverForm
+    free-brings e = go (notGiven limits (play limits calls .shards) p sender verdict t) e
+      where
+        done : List Ledger × Answer
+        done = atShard limits (play limits calls .shards) p (deliver p sender verdict t)
+
+        rest : (unknown : Bool) → firstOf (cond unknown (bringRest limits p ledger sender t) (hearRest ledger sender verdict t)) ≡ 17 → ⊥
+        rest true e = never-answers 17 (λ z. omega arith) (bringRest limits p ledger sender t) passes-17 e
+        rest false e = never-answers 17 (λ z. omega arith) (hearRest ledger sender verdict t) refl e
+
+        go : (b : Bool) → cond b (play limits calls .shards, Refused 16) done .1 ≡ Refused 17 → ⊥
+        go true e = let z : _≡_ {A = ℕ} 16 17 = cc in omega arith
+        go false e =
+            let form = deliverForm limits p p sender verdict t in
+            let said = number-behind 17 form (deliverRest limits p ledger sender verdict t) refl (deliver-number limits p ledger sender verdict t 17 e) in
+            rest (isUnknown t (ledger .known)) (said .1)
+
+    pub free-brought : (v : Bool) (o : Outcome)
+        → clusterStep limits (play limits calls .shards) (deliver p sender verdict t) .1 ≡ Brought v o → v ≡ true
+    free-brought v o e =
+        let registered = brings-first-in limits calls p sender verdict t v o e in
+        free-voted v outcome (ap (λ (r : List Ledger × Answer). r .1) registered)

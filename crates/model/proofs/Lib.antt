@@ -3,7 +3,7 @@
 -- of calls).
 -- Demand 3: Decisions, Spending and Serial (the serial ledger), Order, and whole in Theorem; Bridge carries it to code.
 -- Further laws: Votes (how many bring a decision), OneNo (the abort that one no brings), Turned (aborts that free tokens), Capacity (the limits),
--- Laws, HeldOff (17), Tables (refusals).
+-- Laws, HeldOff (17), Tables (refusals), Brought (a vote that brings its transaction).
 -- Examples plays cases of the papers.
 pub mod Basics
 pub mod Lookups
@@ -23,8 +23,9 @@ pub mod Bridge
 pub mod Votes
 pub mod Capacity
 pub mod Laws
-pub mod HeldOff
 pub mod OneNo
 pub mod Turned
 pub mod Tables
+pub mod Brought
+pub mod HeldOff
 pub mod Examples

@@ -1,10 +1,10 @@
 -- The tables of refusals: a call from what its table answers, the one table of a vote at a cluster, and 12 and 11, which a cluster never answers.
-use Prim.Native.Nat.{ℕ, _+_}
+use Prim.Native.Nat.{ℕ, suc, _+_}
 use native.Mathlib.Omega.{arith}
 use mathlib.Core.Path.{_≡_, refl, ap, sym, _∙_, subst}
 use mathlib.Core.Logic.{_≢_}
 use mathlib.Core.Bool.{Bool, true, false, cond, _&&_, not}
-use mathlib.Core.List.{List, [], _∷_, _++_}
+use mathlib.Core.List.{List, [], _∷_, _++_, List·Memᴰ, List·Memᴰ·head, List·Memᴰ·tail}
 use lib.Dec.{eqb}
 use lib.ListN.{set}
 use lib.Seq.{set-getD}
@@ -56,7 +56,7 @@ use Rattle.model.specs.Shard.{
   delivered,
 }
 use Rattle.model.specs.Cluster.{ledgerAt, gave, notGiven, atShard, clusterStep, hasGiven}
-use Rattle.model.specs.Model.{Model, play}
+use Rattle.model.specs.Model.{Model, play, emptyModel, step, answers, playAnswers}
 use Rattle.model.proofs.Basics.{
   eqb-same,
   eqb-yes,
@@ -192,7 +192,7 @@ module _ (limits : Limits) (p : ℕ) (ledger : Ledger) (sender verdict : ℕ) (t
   on-known = hearRest ledger sender verdict t
 
   -- the number with which a vote is refused at a shard is its table's
-  deliver-number : (n : ℕ) → shardStep limits p ledger (deliver p sender verdict t) .1 ≡ Refused n
+  pub deliver-number : (n : ℕ) → shardStep limits p ledger (deliver p sender verdict t) .1 ≡ Refused n
       → firstOf (deliverRefusals limits p ledger p sender verdict t) ≡ n
   unfolding shardStep hear bring
   deliver-number n e =
@@ -284,25 +284,25 @@ gave-known ledger sender verdict t e =
     ap not (known-number t (ledger .known) (any-of (isFor t) (r .1) (y .0)))
 
 -- no call of a cluster is answered with 11, whatever its shards hold
-pub never-eleven : (limits : Limits) (shards : List Ledger) (call : Call) → clusterStep limits shards call .1 ≢ Refused 11
+pub no-eleven : (limits : Limits) (shards : List Ledger) (call : Call) → clusterStep limits shards call .1 ≢ Refused 11
 unfolding clusterStep atShard shardStep notGiven mintRefusals registerRefusals turnRefusals
-never-eleven limits shards (mint p index owner amount) e =
+no-eleven limits shards (mint p index owner amount) e =
     let ledger = ledgerAt limits shards p in
     let table = mintRefusals limits p ledger p index owner amount in
     never-answers 11 (λ z. omega arith) table refl
     (unless-number (firstOf table) ledger (afterMint ledger index owner amount, Minted) 11 (λ y. let z : _≡_ {A = ℕ} 0 1 = cc in omega arith) e)
-never-eleven limits shards (register p t) e =
+no-eleven limits shards (register p t) e =
     let ledger = ledgerAt limits shards p in
     let table = registerRefusals limits p ledger p t in
     let answer = Registered (vote p (ledger .tokens) t) (outcomeOf (newlyKnown p (ledger .tokens) t)) in
     never-answers 11 (λ z. omega arith) table refl
     (unless-number (firstOf table) ledger (afterRegister p ledger t, answer) 11 (λ y. let z : _≡_ {A = ℕ} 0 1 = cc in omega arith) e)
-never-eleven limits shards (turn p) e =
+no-eleven limits shards (turn p) e =
     let ledger = ledgerAt limits shards p in
     let table = turnRefusals p ledger p in
     never-answers 11 (λ z. omega arith) table refl
     (unless-number (firstOf table) ledger (afterTurn ledger, Turned) 11 (λ y. let z : _≡_ {A = ℕ} 0 1 = cc in omega arith) e)
-never-eleven limits shards (deliver p sender verdict t) e = go (notGiven limits shards p sender verdict t) refl e
+no-eleven limits shards (deliver p sender verdict t) e = go (notGiven limits shards p sender verdict t) refl e
   where
     ledger : Ledger
     ledger = ledgerAt limits shards p
@@ -318,6 +318,16 @@ never-eleven limits shards (deliver p sender verdict t) e = go (notGiven limits 
         not-no (gave (ledgerAt limits shards sender) sender verdict t) (not-yes (λ n. clash (and-intro (eqb-yes (r .0)) n) g)) in
         let own : gave ledger sender verdict t ≡ true = subst (λ (q : ℕ). gave (ledgerAt limits shards q) sender verdict t ≡ true) (r .2) given in
         clash (r .1) (gave-known ledger sender verdict t own)
+
+-- so that in a cluster 11 is never met, whatever list of calls it is
+pub never-eleven : (limits : Limits) (calls : List Call) → List·Memᴰ (Refused 11) (playAnswers limits calls) → ⊥
+unfolding playAnswers answers step
+never-eleven limits calls = go 1 (emptyModel limits) calls
+  where
+    go : (place : ℕ) (model : Model) (calls : List Call) → List·Memᴰ (Refused 11) (answers limits place model calls) → ⊥
+    go place model [] m = elim m [ ]
+    go place model (call ∷ calls) (List·Memᴰ·head e) = no-eleven limits (model .shards) call (sym e)
+    go place model (call ∷ calls) (List·Memᴰ·tail m) = go (suc place) (step limits place model call .0) calls m
 
 -- ---- A record for a shard that does not exist
 
