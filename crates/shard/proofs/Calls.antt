@@ -1,7 +1,7 @@
 -- Calls: what the model's step is where a call is refused and where it passes, and the promise of the whole call.
 use Prim.Native.Nat.{ℕ, _≤_, _<_}
 use mathlib.Core.Path.{_≡_, refl, sym, ap, _∙_, subst}
-use mathlib.Core.Bool.{Bool}
+use mathlib.Core.Bool.{Bool, true, false, cond}
 use mathlib.Core.List.{List, [], _∷_}
 use native.Mathlib.Omega.{arith}
 use borrow.Author.Tests.{ne-eqb}
@@ -14,7 +14,7 @@ use Rattle.model.specs.declared.Token.{Token}
 use Rattle.model.specs.declared.Known.{Known}
 use Rattle.model.specs.declared.Outcome.{Outcome}
 use Rattle.model.specs.declared.Answer.{Answer}
-use Rattle.model.specs.declared.Answer.the-variants.{Refused, Minted, Registered, Heard, Again, Turned}
+use Rattle.model.specs.declared.Answer.the-variants.{Refused, Minted, Registered, Heard, Again, Turned, Brought}
 use Rattle.model.specs.Lists.{find}
 use Rattle.model.specs.Steps.{
   house,
@@ -49,12 +49,32 @@ use Rattle.model.specs.Shard.{
   shardStep,
   turn,
   turnRefusals,
+  isUnknown,
+  bringRest,
+  hearRest,
+  bring,
+  delivered,
 }
-use Rattle.model.proofs.Basics.{eqb-eq, not-no, passed}
+use Rattle.model.proofs.Basics.{eqb-eq, not-no, passed, eqb-same, not-is}
 use Rattle.model.specs.Fit.{Fit}
 use Rattle.model.proofs.Capacity.{fit-step}
+use Rattle.model.proofs.Entries.{find-last}
+use Rattle.model.proofs.Brought.{brings-then}
 use Rattle.model.proofs.Tables.{unless-refused, unless-done}
-use Rattle.model.proofs.Refusals.{shard-below, mint-passes, RegisterPasses, register-passes, DeliverPasses, deliver-passes}
+use Rattle.model.proofs.Refusals.{
+  shard-below,
+  mint-passes,
+  RegisterPasses,
+  register-passes,
+  DeliverPasses,
+  deliver-passes,
+  BringPasses,
+  bring-passes,
+  form-passes,
+  brought-fresh,
+  brought-known,
+  brought-passes,
+}
 use Rattle.layout.specs.Layout.{tokenSlots, knownSlots, genesisSlots, shardOf, slotKnown}
 use Rattle.layout.proofs.Ledgers.{held-length, known-length}
 use Rattle.holdings.proofs.Tokens.{turn-room, pledges-in-turn}
@@ -63,7 +83,7 @@ use Rattle.shard.specs.View.{number, view, Sound, Steps}
 use Rattle.shard.specs.Parts.{Leaves, Pledges, entryFor, enteredLedger, Entering, Entered, heardLedger, FreshVote, FreshDone, TurnedOver}
 use Rattle.shard.proofs.Ledgers.{leaves-then, holds-leaves}
 use Rattle.shard.proofs.Once.{once-step}
-use Rattle.shard.proofs.Tables.{stands, stands-at, stands-there, verdict-there}
+use Rattle.shard.proofs.Tables.{stands, stands-at, stands-there, verdict-there, Table}
 
 -- what a call leaves
 abbrev stepped : List ℕ → Call → Ledger × Answer
@@ -134,7 +154,7 @@ module _ {ws : List ℕ} (sound : Sound ws) {cause : ℕ} where
   unfolding shardStep
   deliver-refused {receiver} {sender} {verdict} {t} e n =
       stays-put sound (deliver receiver sender verdict t)
-      (rw (← e) (unless-refused cause (view ws) (hear (number ws) (view ws) sender verdict t) n))
+      (rw (← e) (unless-refused cause (view ws) (delivered (number ws) (view ws) sender verdict t) n))
 
   pub turn-refused : {receiver : ℕ} → cause ≡ firstOf (turnRefusals (number ws) (view ws) receiver) → (cause ≡ 0 → ⊥)
       → Steps ws (turn receiver) (Refused cause) ws
@@ -237,38 +257,39 @@ module _ {ws : List ℕ} (sound : Sound ws) (t : Transaction)
         register-step ∙ rw (ev, d) refl in
         goes-on sound (register me t) step (omega (arith, same .knows, known-free)) (leaves-then same (e .leaves) entered-is)
 
--- ---- A vote that passes, on the transaction whose number stands at a place
+-- ---- A vote that passes, on the known transaction whose number stands at a place
 
-module _ {ws : List ℕ} (sound : Sound ws) (sender verdict : ℕ) (t : Transaction)
+module _ {ws : List ℕ} (sound : Sound ws) (sender verdict : ℕ) (t : Transaction) (known : isUnknown t (view ws .known) ≡ false)
     (pass : firstOf (deliverRefusals house (number ws) (view ws) (number ws) sender verdict t) ≡ 0)
     {place : ℕ} (found : place ≡ find (isNumbered (t .number)) (view ws .known)) where
   abbrev here : ℕ
   here = number ws
 
   vote-passes : DeliverPasses house here (view ws) here sender verdict t
-  vote-passes = deliver-passes house here (view ws) here sender verdict t pass
+  vote-passes = deliver-passes house here (view ws) here sender verdict t pass known
 
   vote-below : place < shardOf ws .known
-  vote-below = stands sound t found (vote-passes .number-known) (vote-passes .no-other)
+  vote-below = stands sound t found (vote-passes .is-known)
 
   pub vote-slot : place < knownSlots
   vote-slot = omega (arith, vote-below, sound .known)
 
   place-is : placeOf t (view ws .known) ≡ place
-  place-is = stands-at sound t found (vote-passes .number-known) (vote-passes .no-other)
+  place-is = stands-at sound t found (vote-passes .is-known)
 
   entry-at : slotKnown ws place ≡ entryOf t (view ws .known)
-  entry-at = stands-there sound t found (vote-passes .number-known) (vote-passes .no-other)
+  entry-at = stands-there sound t found (vote-passes .is-known)
 
   hear-step : shardStep house here (view ws) (deliver here sender verdict t) ≡ hear here (view ws) sender verdict t
   unfolding shardStep
   hear-step =
       unless-done (firstOf (deliverRefusals house here (view ws) here sender verdict t)) (view ws)
-      (hear here (view ws) sender verdict t) pass
+      (delivered here (view ws) sender verdict t) pass
+      ∙ ap (λ (b : Bool). cond b (bring here (view ws) sender verdict t) (hear here (view ws) sender verdict t)) known
 
   module _ {heard : ℕ} (eh : heard ≡ getD (slotKnown ws place .heard) sender 0) where
-    heard-is : heard ≡ heardFrom sender (entryOf t (view ws .known))
-    heard-is = verdict-there sound t found (vote-passes .number-known) (vote-passes .no-other) sender eh
+    pub heard-is : heard ≡ heardFrom sender (entryOf t (view ws .known))
+    heard-is = verdict-there sound t found (vote-passes .is-known) sender eh
 
     -- the sender was not heard before
     module _ (z : heard ≡ 0) where
@@ -289,21 +310,21 @@ module _ {ws : List ℕ} (sound : Sound ws) (sender verdict : ℕ) (t : Transact
         room = record { long = sound .long; held = sound .held };
         known = sound .known;
         entry = vote-below;
-        from = shard-below sender (vote-passes .sender-fits);
-        says = vote-passes .verdict-fits;
+        from = shard-below sender (vote-passes .passes .sender-fits);
+        says = vote-passes .passes .verdict-fits;
         fits =
             subst (λ (l : Ledger). length (l .tokens) ≤ tokenSlots) (sym after-is)
             (room-left sound (deliver here sender verdict t) fresh-step);
       }
 
-      pub fresh-carried : {vs : List ℕ} {answer : Answer} → FreshDone place sender verdict ws answer vs
-          → Steps ws (deliver here sender verdict t) answer vs
-      fresh-carried {vs} {answer} d =
-          let a : Heard (outcomeOf (hearing sender verdict (entryOf t (view ws .known)))) ≡ answer =
-          ap (λ (k : Known). Heard (outcomeOf (hearing sender verdict k))) (sym entry-at) ∙ sym (d .answered) in
-          let step = fresh-step ∙ ap (λ (x : Answer). (afterVote here (view ws) sender verdict t, x)) a in
+      pub fresh-carried : {vs : List ℕ} {decided : Outcome} → FreshDone place sender verdict ws decided vs
+          → Steps ws (deliver here sender verdict t) (Heard decided) vs
+      fresh-carried {vs} {decided} d =
+          let o : outcomeOf (hearing sender verdict (entryOf t (view ws .known))) ≡ decided =
+          ap (λ (k : Known). outcomeOf (hearing sender verdict k)) (sym entry-at) ∙ sym (d .decides) in
+          let step = fresh-step ∙ ap (λ (o : Outcome). (afterVote here (view ws) sender verdict t, Heard o)) o in
           let call = deliver here sender verdict t in
-          goes-on sound call (step ∙ ap (λ (l : Ledger). (l, answer)) (sym after-is)) (sound .known) (d .leaves)
+          goes-on sound call (step ∙ ap (λ (l : Ledger). (l, Heard decided)) (sym after-is)) (sound .known) (d .leaves)
 
     -- the same vote was heard before
     pub again-carried : {decided : Outcome} → (heard ≡ 0 → ⊥) → decided ≡ outcomeOf (slotKnown ws place)
@@ -312,6 +333,97 @@ module _ {ws : List ℕ} (sound : Sound ws) (sender verdict : ℕ) (t : Transact
     again-carried n ed =
         let z = ne-eqb (heardFrom sender (entryOf t (view ws .known))) 0 (λ q. n (heard-is ∙ q)) in
         stays-put sound (deliver here sender verdict t) (hear-step ∙ rw (z, ed, entry-at) refl)
+
+-- ---- A vote that passes on an unknown number: the registration, and then the vote on the transaction that it has entered
+
+module _ {ws : List ℕ} (sound : Sound ws) (sender verdict : ℕ) (t : Transaction) (unknown : isUnknown t (view ws .known) ≡ true)
+    (pass : firstOf (deliverRefusals house (number ws) (view ws) (number ws) sender verdict t) ≡ 0) where
+  abbrev mine : ℕ
+  mine = number ws
+
+  abbrev vote-of : Call
+  vote-of = deliver mine sender verdict t
+
+  abbrev registered : Ledger
+  registered = afterRegister mine (view ws) t
+
+  brought : BringPasses house mine (view ws) mine sender verdict t
+  brought = bring-passes house mine (view ws) mine sender verdict t pass unknown
+
+  -- the pledges, and the transaction entered
+  pub bring-enters : {vs : List ℕ} {own : Bool} → Pledges t ws own vs → Entering own t vs
+  bring-enters p = entering sound t (brought .registers) p
+
+  module _ {vs us : List ℕ} {own : Bool} {first : Outcome} (p : Pledges t ws own vs) (e : Entered own t vs first us) where
+    before : Steps ws (register mine t) (Registered own first) us
+    before = register-carried sound t (brought .registers) p e
+
+    left-is : view us ≡ registered
+    left-is = before .ledger ∙ ap (λ (x : Ledger × Answer). x .0) (register-step sound t (brought .registers))
+
+    known-then : isUnknown t (view us .known) ≡ false
+    known-then = ap (λ (l : Ledger). isUnknown t (l .known)) left-is ∙ brought-known brought
+
+    passes-then : firstOf (deliverRefusals house (number us) (view us) (number us) sender verdict t) ≡ 0
+    passes-then =
+        rw (left-is, before .numbered)
+        (brought-passes brought (form-passes house mine (view ws) mine sender verdict t pass))
+
+    -- it stands behind those that were known
+    module _ {place : ℕ} (count : place ≡ shardOf ws .known) where
+      place-then : place ≡ find (isNumbered (t .number)) (view us .known)
+      unfolding afterRegister newlyKnown
+      place-then =
+          let k = newlyKnown mine (view ws .tokens) t in
+          count ∙ sym (known-length ws (sound .known))
+          ∙ sym (find-last (isNumbered (t .number)) (view ws .known) k (not-is unknown) (eqb-same (t .number)))
+          ∙ ap (λ (l : Ledger). find (isNumbered (t .number)) (l .known)) (sym left-is)
+
+      unheard-then : getD (slotKnown us place .heard) sender 0 ≡ 0
+      unheard-then =
+          heard-is (before .sound) sender verdict t known-then passes-then place-then refl
+          ∙ ap (λ (l : Ledger). heardFrom sender (entryOf t (l .known))) left-is ∙ brought-fresh brought
+
+      pub bring-ready : FreshVote place sender verdict us
+      bring-ready = fresh-ready (before .sound) sender verdict t known-then passes-then place-then refl unheard-then
+
+      module _ {xs : List ℕ} {decided : Outcome} (d : FreshDone place sender verdict us decided xs) where
+        after : Steps us (deliver (number us) sender verdict t) (Heard decided) xs
+        after = fresh-carried (before .sound) sender verdict t known-then passes-then place-then refl unheard-then d
+
+        -- both steps are the model's
+        bring-step : shardStep house mine (view ws) vote-of ≡ bring mine (view ws) sender verdict t
+        unfolding shardStep
+        bring-step =
+            unless-done (firstOf (deliverRefusals house mine (view ws) mine sender verdict t)) (view ws)
+            (delivered mine (view ws) sender verdict t) pass
+            ∙ ap (λ (b : Bool). cond b (bring mine (view ws) sender verdict t) (hear mine (view ws) sender verdict t)) unknown
+
+        abbrev voted : Bool
+        voted = vote mine (view ws .tokens) t
+
+        abbrev outcome : Outcome
+        outcome = outcomeOf (hearing sender verdict (entryOf t (registered .known)))
+
+        answer-is : shardStep house mine (view ws) vote-of .1 ≡ Brought voted outcome
+        unfolding bring
+        answer-is = ap (λ (x : Ledger × Answer). x .1) bring-step
+
+        second : shardStep house mine registered vote-of ≡ (shardStep house mine (view ws) vote-of .0, Heard outcome)
+        second = brings-then house mine (view ws) mine sender verdict t voted outcome answer-is
+
+        pub bring-carried : Steps ws vote-of (Brought own decided) xs
+        bring-carried =
+            let own-is : own ≡ voted = p .1 in
+            let heard : Heard decided ≡ Heard outcome =
+            after .answered ∙ rw (left-is, before .numbered) (ap (λ (x : Ledger × Answer). x .1) second) in
+            let decided-is : decided ≡ outcome = cc in
+            record {
+              answered = rw (own-is, decided-is) (sym answer-is);
+              ledger = after .ledger ∙ rw (left-is, before .numbered) (ap (λ (x : Ledger × Answer). x .0) second);
+              numbered = after .numbered ∙ before .numbered;
+              sound = after .sound;
+            }
 
 -- ---- A call that passes is addressed to this shard
 
@@ -338,7 +450,7 @@ module _ {ws : List ℕ} (sound : Sound ws) (receiver sender verdict : ℕ) (t :
   unfolding deliverRefusals
   form-refused n =
       let first = deliverForm house (number ws) receiver sender verdict t in
-      let rest = deliverRest (view ws) sender verdict t in
+      let rest = deliverRest house (number ws) (view ws) sender verdict t in
       deliver-refused sound (own-form ∙ sym (first-stands first rest (λ z. n (own-form ∙ z)))) n
 
   addressed : cause ≡ 0 → receiver ≡ number ws
@@ -355,17 +467,38 @@ module _ {ws : List ℕ} (sound : Sound ws) (receiver sender verdict : ℕ) (t :
       → Steps ws (deliver receiver sender verdict t) answer vs
   form-back z {answer} {vs} h = subst (λ (p : ℕ). Steps ws (deliver p sender verdict t) answer vs) (sym (addressed z)) h
 
-module _ {ws : List ℕ} (sound : Sound ws) (sender verdict : ℕ) (t : Transaction) {cause : ℕ}
-    (form : firstOf (deliverForm house (number ws) (number ws) sender verdict t) ≡ 0)
-    (found : cause ≡ firstOf (deliverRest (view ws) sender verdict t)) where
-  whole-cause : cause ≡ firstOf (deliverRefusals house (number ws) (view ws) (number ws) sender verdict t)
-  unfolding deliverRefusals deliverForm
-  whole-cause =
-      let first = deliverForm house (number ws) (number ws) sender verdict t in
-      found ∙ sym (first-behind first (deliverRest (view ws) sender verdict t) refl form)
+module _ {ws : List ℕ} (sound : Sound ws) (sender verdict : ℕ) (t : Transaction)
+    (form : firstOf (deliverForm house (number ws) (number ws) sender verdict t) ≡ 0) where
+  abbrev on-unknown : Table
+  on-unknown = bringRest house (number ws) (view ws) sender t
 
-  pub rest-refused : (cause ≡ 0 → ⊥) → Steps ws (deliver (number ws) sender verdict t) (Refused cause) ws
-  rest-refused n = deliver-refused sound whole-cause n
+  abbrev on-known : Table
+  on-known = hearRest (view ws) sender verdict t
 
-  pub rest-passes : cause ≡ 0 → firstOf (deliverRefusals house (number ws) (view ws) (number ws) sender verdict t) ≡ 0
-  rest-passes z = sym whole-cause ∙ z
+  -- what the ledger says, by whether the number is known
+  module _ {unknown : Bool} (u : isUnknown t (view ws .known) ≡ unknown) {cause : ℕ} (found : cause ≡ firstOf (cond unknown on-unknown on-known)) where
+    whole-cause : cause ≡ firstOf (deliverRefusals house (number ws) (view ws) (number ws) sender verdict t)
+    unfolding deliverRefusals deliverForm
+    whole-cause =
+        found ∙ ap (λ (b : Bool). firstOf (cond b on-unknown on-known)) (sym u)
+        ∙ sym (first-behind (deliverForm house (number ws) (number ws) sender verdict t) (deliverRest house (number ws) (view ws) sender verdict t) refl form)
+
+    rest-refused : (cause ≡ 0 → ⊥) → Steps ws (deliver (number ws) sender verdict t) (Refused cause) ws
+    rest-refused n = deliver-refused sound whole-cause n
+
+    rest-passes : cause ≡ 0 → firstOf (deliverRefusals house (number ws) (view ws) (number ws) sender verdict t) ≡ 0
+    rest-passes z = sym whole-cause ∙ z
+
+  module _ (unknown : isUnknown t (view ws .known) ≡ true) {cause : ℕ} (found : cause ≡ firstOf on-unknown) where
+    pub bring-refused : (cause ≡ 0 → ⊥) → Steps ws (deliver (number ws) sender verdict t) (Refused cause) ws
+    bring-refused n = rest-refused unknown found n
+
+    pub bring-unrefused : cause ≡ 0 → firstOf (deliverRefusals house (number ws) (view ws) (number ws) sender verdict t) ≡ 0
+    bring-unrefused z = rest-passes unknown found z
+
+  module _ (known : isUnknown t (view ws .known) ≡ false) {cause : ℕ} (found : cause ≡ firstOf on-known) where
+    pub hear-refused : (cause ≡ 0 → ⊥) → Steps ws (deliver (number ws) sender verdict t) (Refused cause) ws
+    hear-refused n = rest-refused known found n
+
+    pub hear-unrefused : cause ≡ 0 → firstOf (deliverRefusals house (number ws) (view ws) (number ws) sender verdict t) ≡ 0
+    hear-unrefused z = rest-passes known found z

@@ -13,7 +13,6 @@ use Rattle.transaction.specs.declared.Transaction.{Transaction}
 use Rattle.model.specs.declared.Token.{Token}
 use Rattle.model.specs.declared.Known.{Known}
 use Rattle.model.specs.declared.Outcome.{Outcome}
-use Rattle.model.specs.declared.Answer.the-variants.{Heard}
 use Rattle.model.specs.Steps.{
   house,
   emptyLedger,
@@ -221,9 +220,9 @@ module _ {place sender verdict : ℕ} {ws : List ℕ} (pre : FreshVote place sen
 
   pub fresh-done : {us : List ℕ} {decided : Outcome}
       → (decided ≡ outcomeOf (slotKnown vs place)) × Settles (outcomeOf (slotKnown vs place)) place vs us
-      → FreshDone place sender verdict ws (Heard decided) us
+      → FreshDone place sender verdict ws decided us
   fresh-done {us} d = record {
-    answered = ap Heard (d .0 ∙ ap outcomeOf heard-there);
+    decides = d .0 ∙ ap outcomeOf heard-there;
     leaves = decided-leaves ws vs _ _ place (heardIn place sender verdict ws) hears heard-there us (d .1);
   }
 

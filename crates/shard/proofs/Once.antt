@@ -15,7 +15,18 @@ use Rattle.model.specs.declared.Answer.{Answer}
 use Rattle.model.specs.Steps.{Limits, Ledger, nothingKnown, newlyKnown, isFor, placeOf, entryOf, hearing, afterMint, afterRegister, afterVote, afterTurn}
 use Rattle.model.specs.Shard.{Call, hasNumber, isOther, shardStep}
 use Rattle.model.proofs.Entries.{whole-known}
-use Rattle.model.proofs.Effects.{ShardEffect, shard-refused, shard-minted, shard-registered, shard-heard, shard-again, shard-effect, shard-turned}
+use Rattle.model.proofs.Refusals.{RegisterPasses, brought-registers}
+use Rattle.model.proofs.Effects.{
+  ShardEffect,
+  shard-refused,
+  shard-minted,
+  shard-registered,
+  shard-heard,
+  shard-again,
+  shard-effect,
+  shard-turned,
+  shard-brought,
+}
 use Rattle.registry.specs.Numbers.{numberAt, OneEach}
 use Rattle.registry.proofs.Finds.{any-here}
 
@@ -99,18 +110,31 @@ unknown-number t known o f = go (any (hasNumber t) known) refl
     go true e = absurd (true≢false (sym (whole-known t known e o) ∙ f))
     go false e = refl
 
+-- a fresh vote
+once-heard : (me : ℕ) (ledger : Ledger) → OneEach (ledger .known) → (sender verdict : ℕ) (t : Transaction)
+    → OneEach (afterVote me ledger sender verdict t .known)
+unfolding afterVote entryOf
+once-heard me ledger one sender verdict t =
+    once-changed (ledger .known) one (placeOf t (ledger .known)) (hearing sender verdict (entryOf t (ledger .known))) refl
+
+-- a registration
+once-registered : (limits : Limits) (me : ℕ) (ledger : Ledger) → OneEach (ledger .known) → {receiver : ℕ} {t : Transaction}
+    → RegisterPasses limits me ledger receiver t → OneEach (afterRegister me ledger t .known)
+unfolding afterRegister newlyKnown
+once-registered limits me ledger one {t = t} p =
+    once-more (ledger .known) one (newlyKnown me (ledger .tokens) t) (unknown-number t (ledger .known) (p .no-other) (p .unknown))
+
 pub once-step : (limits : Limits) (me : ℕ) (ledger : Ledger) → OneEach (ledger .known) → (call : Call)
     → OneEach (shardStep limits me ledger call .0 .known)
-unfolding afterMint afterRegister afterVote afterTurn newlyKnown entryOf
+unfolding afterMint afterTurn
 once-step limits me ledger one call = go (shard-effect limits me ledger call)
   where
     go : {call : Call} {r : Ledger × Answer} → ShardEffect limits me ledger call r → OneEach (r .0 .known)
     go (shard-refused n) = one
     go (shard-minted p) = one
-    go (shard-registered {receiver} {t} p) =
-        let new = unknown-number t (ledger .known) (p .no-other) (p .unknown) in
-        once-more (ledger .known) one (newlyKnown me (ledger .tokens) t) new
-    go (shard-heard {receiver} {sender} {verdict} {t} p f z) =
-        once-changed (ledger .known) one (placeOf t (ledger .known)) (hearing sender verdict (entryOf t (ledger .known))) refl
+    go (shard-registered p) = once-registered limits me ledger one p
+    go (shard-heard {receiver} {sender} {verdict} {t} p f z) = once-heard me ledger one sender verdict t
     go (shard-again p n) = one
     go (shard-turned p) = one
+    go (shard-brought {receiver} {sender} {verdict} {t} p f) =
+        once-heard me (afterRegister me ledger t) (once-registered limits me ledger one (brought-registers p)) sender verdict t

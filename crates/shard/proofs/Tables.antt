@@ -4,7 +4,7 @@ use mathlib.Core.Path.{_≡_, refl, sym, ap, _∙_}
 use mathlib.Core.Bool.{Bool, true, false, not}
 use mathlib.Core.List.{List, [], _∷_, _++_}
 use native.Mathlib.Omega.{arith}
-use borrow.Author.Tests.{eq-eqb, ne-eqb, le-ltb, leb-true, leb-false, not-false}
+use borrow.Author.Tests.{eq-eqb, ne-eqb, le-ltb, leb-true, leb-false}
 use lib.Dec.{eqb, leb, ltb}
 use lib.ListN.{length, getD}
 use Rattle.transaction.specs.declared.Transaction.{Transaction}
@@ -13,8 +13,9 @@ use Rattle.transaction.proofs.Tables.{numbered, table-stands, table-behind}
 use Rattle.model.specs.declared.Known.{Known}
 use Rattle.model.specs.Lists.{find}
 use Rattle.model.specs.Steps.{house, isFor, placeOf, entryOf, nothingKnown, heardFrom, outputsHere}
-use Rattle.model.specs.Shard.{hasNumber, isOther, otherVerdict, tooFull, reserved}
+use Rattle.model.specs.Shard.{hasNumber, isOther, otherVerdict, tooFull, reserved, isUnknown}
 use Rattle.model.proofs.Capacity.{find-below}
+use Rattle.model.proofs.Entries.{known-number}
 use Rattle.layout.specs.Layout.{tokenSlots, knownSlots, shardOf, slotKnown}
 use Rattle.layout.proofs.Ledgers.{held-length, known-length, known-entry}
 use Rattle.registry.specs.Numbers.{isNumbered}
@@ -50,6 +51,10 @@ pub past-not : {told test : Bool} {number found : ℕ} {rest : Table} → told �
     → Says ((not test, number) ∷ rest) found
 past-not e n s = past (ap not e) n s
 
+-- a table that was asked as a whole
+pub says : {table : Table} {number : ℕ} → number ≡ firstOf table → Says table number
+says e = record { so = e }
+
 -- ---- A table behind another: the first one's number stands, or the second one answers
 
 module _ (first rest : Table) {cause : ℕ} (e : cause ≡ firstOf first) where
@@ -67,6 +72,15 @@ module _ (receiver me : ℕ) (rest : Table) where
 
   pub own-shard : {number : ℕ} → receiver ≡ me → number ≡ firstOf rest → Says ((not (eqb receiver me), 3) ∷ rest) number
   own-shard e s = past {test = not (eqb receiver me)} refl (ap not (eq-eqb receiver me e)) (record { so = s })
+
+-- ---- 11 where sender and receiver are one
+
+module _ {sender me own : ℕ} (em : me ≡ own) (rest : Table) where
+  pub own-vote : sender ≡ me → Says ((eqb sender own, 11) ∷ rest) 11
+  own-vote e = here {test = eqb sender own} refl (eq-eqb sender own (e ∙ em))
+
+  pub others-vote : {number : ℕ} → (sender ≡ me → ⊥) → Says rest number → Says ((eqb sender own, 11) ∷ rest) number
+  others-vote n s = past {test = eqb sender own} refl (ne-eqb sender own (λ z. n (z ∙ sym em))) s
 
 -- ---- The tests that go by how many transactions are known: 13 and 9
 
@@ -111,11 +125,11 @@ module _ {ws : List ℕ} (sound : Sound ws) (t : Transaction) {place count : ℕ
     pub known-passes : {number found : ℕ} {rest : Table} → Says rest found → Says ((any (isFor t) (view ws .known), number) ∷ rest) found
     known-passes s = past {told = false} not-known refl s
 
-  -- 11, either way
-  pub unknown-is : leb count place ≡ not (any (hasNumber t) known)
+  -- whether it is, either way
+  pub unknown-is : leb count place ≡ isUnknown t known
   unknown-is = go (leb count place) refl
     where
-      go : (b : Bool) → leb count place ≡ b → leb count place ≡ not (any (hasNumber t) known)
+      go : (b : Bool) → leb count place ≡ b → leb count place ≡ isUnknown t known
       go true e = e ∙ ap not (sym (no-number (leb-true count place e)))
       go false e =
           let within : place < length known = omega (arith, leb-false count place e, length-is) in
@@ -172,22 +186,22 @@ module _ {ws : List ℕ} (sound : Sound ws) (t : Transaction) {me held more : �
       → ltb tokenSlots (held + waiting + more) ≡ tooFull house (number ws) (view ws) t
   full-is ew = rw (held-is, more-is, ew, em) refl
 
--- ---- 12: where 11 and 7 do not fit, the transaction stands at the place
+-- ---- 12: where the transaction is known, it stands at the place
 
 module _ {ws : List ℕ} (sound : Sound ws) (t : Transaction) {place : ℕ}
     (found : place ≡ find (isNumbered (t .number)) (view ws .known))
-    (numbered : any (hasNumber t) (view ws .known) ≡ true) (own : any (isOther t) (view ws .known) ≡ false) where
+    (there : any (isFor t) (view ws .known) ≡ true) where
   abbrev among : List Known
   among = view ws .known
 
   pub stands : place < shardOf ws .known
-  stands = omega (arith, found, known-length ws (sound .known), find-below (isNumbered (t .number)) among numbered)
+  stands = omega (arith, found, known-length ws (sound .known), find-below (isNumbered (t .number)) among (known-number t among there))
 
   pub stands-slot : place < knownSlots
   stands-slot = omega (arith, stands, sound .known)
 
   same : isFor t (slotKnown ws place) ≡ true
-  same = not-false _ (other-is sound t found refl stands refl ∙ own)
+  same = for-is sound t found refl stands refl ∙ there
 
   pub stands-at : placeOf t among ≡ place
   stands-at = place-is sound t found refl stands refl same

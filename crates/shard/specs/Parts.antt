@@ -8,8 +8,6 @@ use Rattle.transaction.specs.declared.Transaction.{Transaction}
 use Rattle.model.specs.declared.Token.{Token}
 use Rattle.model.specs.declared.Known.{Known}
 use Rattle.model.specs.declared.Outcome.{Outcome}
-use Rattle.model.specs.declared.Answer.{Answer}
-use Rattle.model.specs.declared.Answer.the-variants.{Heard}
 use Rattle.model.specs.Steps.{Ledger, holding, availableHere, pledges, vote, knownWith, hearing, outcomeOf, afterMint, concluded, isAbortedFor, afterTurn}
 use Rattle.layout.specs.Layout.{shardWords, tokenSlots, knownSlots, Shard, shardOf, withKnown, withTransactions, slotKnown, Becomes}
 use Rattle.holdings.specs.Held.{Room, Changes}
@@ -85,6 +83,6 @@ pub record FreshVote (place sender verdict : ℕ) (ws : List ℕ) : Type 0 where
   pub fits : length (heardLedger place sender verdict ws .tokens) ≤ tokenSlots
 
 -- it is carried out
-pub record FreshDone (place sender verdict : ℕ) (ws : List ℕ) (answer : Answer) (vs : List ℕ) : Type 0 where
-  pub answered : answer ≡ Heard (outcomeOf (heardIn place sender verdict ws))
+pub record FreshDone (place sender verdict : ℕ) (ws : List ℕ) (decided : Outcome) (vs : List ℕ) : Type 0 where
+  pub decides : decided ≡ outcomeOf (heardIn place sender verdict ws)
   pub leaves : Leaves ws (heardLedger place sender verdict ws) (shardOf ws .known) vs

@@ -2,10 +2,13 @@
 // The interface: `new`, `mint_token`, `register_transaction`, `hear_vote`, `turn_shard`, `has_given_vote`, and all of `queries`.
 // Internal, and public only because the crate `cluster` calls them: `hear_formed` and `refusals::deliver_form`.
 ghost use mathlib.Core.Path.{_≡_};
+ghost use mathlib.Core.Bool.{true, false};
 ghost use Rattle.transaction.specs.Lists.{firstOf};
+ghost use Rattle.model.specs.Lists.{find};
 ghost use Rattle.model.specs.Steps.{house};
-ghost use Rattle.model.specs.Shard.{mint, register, deliver, turn, deliverForm};
+ghost use Rattle.model.specs.Shard.{mint, register, deliver, turn, isUnknown, deliverForm};
 ghost use Rattle.model.specs.Cluster.{gave};
+ghost use Rattle.registry.specs.Numbers.{isNumbered};
 ghost use Rattle.shard.specs.View.{number, view, Sound, Fresh, Steps};
 use layout::Words;
 use layout::counts::own_number;
@@ -51,7 +54,7 @@ pub fn register_transaction(s: &mut Words, receiver: u8, t: Transaction) -> Answ
     steps::carry_registration(s, t)
 }
 
-// A vote of another shard, or of its own: fresh or repeated.
+// A vote of another shard, or of its own: fresh or repeated; on an unknown number it brings its transaction.
 pub fn hear_vote(s: &mut Words, receiver: u8, sender: u8, verdict: u8, t: Transaction) -> Answer
     requires { ⌜ Sound (now s) ⌝ }
     ensures { λ r. ⌜ Steps (now (s .entry)) (deliver receiver sender verdict t) r (now (s .exit)) ⌝ }
@@ -69,7 +72,32 @@ pub fn hear_formed(s: &mut Words, sender: u8, verdict: u8, t: Transaction) -> An
     ensures { λ r. ⌜ Steps (now (s .entry)) (deliver (number (now (s .entry))) sender verdict t) r (now (s .exit)) ⌝ }
 {
     let place = place_of_number(s, t.number);
-    let cause = refusals::deliver_rest(s, place, sender, verdict, t);
+    if rows::is_unknown(s, place, t) {
+        return bring(s, sender, verdict, t);
+    }
+    hear(s, place, sender, verdict, t)
+}
+
+// One on an unknown number.
+fn bring(s: &mut Words, sender: u8, verdict: u8, t: Transaction) -> Answer
+    requires { ⌜ Sound (now s) × ((firstOf (deliverForm house (number (now s)) (number (now s)) sender verdict t) ≡ 0)
+        × (isUnknown t (view (now s) .known) ≡ true)) ⌝ }
+    ensures { λ r. ⌜ Steps (now (s .entry)) (deliver (number (now (s .entry))) sender verdict t) r (now (s .exit)) ⌝ }
+{
+    let cause = refusals::bring_rest(s, sender, t);
+    if cause != 0 {
+        return Answer::Refused(cause);
+    }
+    steps::carry_brought(s, sender, verdict, t)
+}
+
+// One on a known number, which stands at the place.
+fn hear(s: &mut Words, place: usize, sender: u8, verdict: u8, t: Transaction) -> Answer
+    requires { ⌜ Sound (now s) × ((firstOf (deliverForm house (number (now s)) (number (now s)) sender verdict t) ≡ 0)
+        × ((place ≡ find (isNumbered (t .number)) (view (now s) .known)) × (isUnknown t (view (now s) .known) ≡ false))) ⌝ }
+    ensures { λ r. ⌜ Steps (now (s .entry)) (deliver (number (now (s .entry))) sender verdict t) r (now (s .exit)) ⌝ }
+{
+    let cause = refusals::hear_rest(s, place, sender, verdict, t);
     if cause != 0 {
         return Answer::Refused(cause);
     }

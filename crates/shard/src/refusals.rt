@@ -2,11 +2,12 @@
 // parts: what the record says by itself (its form), then what the ledger says (the rest). Each test of a rest is a function of `rows`.
 ghost use mathlib.Core.Path.{_≡_};
 ghost use Prim.Native.Nat.{_<_};
+ghost use mathlib.Core.Bool.{false};
 ghost use Rattle.transaction.specs.Lists.{firstOf};
 ghost use Rattle.model.specs.Lists.{find};
 ghost use Rattle.model.specs.Steps.{house};
-ghost use Rattle.model.specs.Shard.{mintForm, mintRest, mintRefusals, registerForm, registerRest, registerRefusals, deliverForm, deliverRest};
-ghost use Rattle.model.specs.Shard.{turnForm, turnRest, turnRefusals};
+ghost use Rattle.model.specs.Shard.{mintForm, mintRest, mintRefusals, registerForm, entryRefusals, registerRest, registerRefusals};
+ghost use Rattle.model.specs.Shard.{isUnknown, deliverForm, bringRest, hearRest, turnForm, turnRest, turnRefusals};
 ghost use Rattle.layout.specs.Layout.{shardOf};
 ghost use Rattle.registry.specs.Numbers.{isNumbered};
 ghost use Rattle.shard.specs.View.{number, view, Sound};
@@ -16,7 +17,6 @@ use crate::rows::is_full;
 use crate::rows::is_held_off;
 use crate::rows::is_other;
 use crate::rows::is_too_full;
-use crate::rows::is_unknown;
 use crate::rows::knows_any;
 use crate::rows::was_given;
 use layout::Words;
@@ -94,14 +94,11 @@ fn number_cause(s: &Words, place: usize, t: Transaction) -> u8
     7
 }
 
-// 7 to 10 and 17, from the place of the transaction's number.
-fn register_rest(s: &Words, place: usize, t: Transaction) -> u8
-    requires { ⌜ Sound (now s) × (place ≡ find (isNumbered (t .number)) (view (now s) .known)) ⌝ }
-    ensures { λ r. ⌜ r ≡ firstOf (registerRest house (number (now (s .entry))) (view (now (s .entry))) t) ⌝ }
+// 9, 10 and 17: whether a transaction that is not known can be entered now, by a registration or by a vote.
+fn entry_refusal(s: &Words, t: Transaction) -> u8
+    requires { ⌜ Sound (now s) ⌝ }
+    ensures { λ r. ⌜ r ≡ firstOf (entryRefusals house (number (now (s .entry))) (view (now (s .entry))) t) ⌝ }
 {
-    if place < known_count(s) {
-        return number_cause(s, place, t);
-    }
     if is_full(s) {
         return 9;
     }
@@ -112,6 +109,17 @@ fn register_rest(s: &Words, place: usize, t: Transaction) -> u8
         return 17;
     }
     0
+}
+
+// 7 to 10 and 17, from the place of the transaction's number.
+fn register_rest(s: &Words, place: usize, t: Transaction) -> u8
+    requires { ⌜ Sound (now s) × (place ≡ find (isNumbered (t .number)) (view (now s) .known)) ⌝ }
+    ensures { λ r. ⌜ r ≡ firstOf (registerRest house (number (now (s .entry))) (view (now (s .entry))) t) ⌝ }
+{
+    if place < known_count(s) {
+        return number_cause(s, place, t);
+    }
+    entry_refusal(s, t)
 }
 
 pub(crate) fn register_refusal(s: &Words, receiver: u8, t: Transaction) -> u8
@@ -146,14 +154,23 @@ pub fn deliver_form(me: u8, receiver: u8, sender: u8, verdict: u8, t: Transactio
     0
 }
 
-// 11, 7 and 12, from the place of the transaction's number.
-pub(crate) fn deliver_rest(s: &Words, place: usize, sender: u8, verdict: u8, t: Transaction) -> u8
-    requires { ⌜ Sound (now s) × (place ≡ find (isNumbered (t .number)) (view (now s) .known)) ⌝ }
-    ensures { λ r. ⌜ r ≡ firstOf (deliverRest (view (now (s .entry))) sender verdict t) ⌝ }
+// 11, or 9, 10 and 17: a vote on an unknown number.
+pub(crate) fn bring_rest(s: &Words, sender: u8, t: Transaction) -> u8
+    requires { ⌜ Sound (now s) ⌝ }
+    ensures { λ r. ⌜ r ≡ firstOf (bringRest house (number (now (s .entry))) (view (now (s .entry))) sender t) ⌝ }
 {
-    if is_unknown(s, place, t) {
+    if sender == own_number(s) {
         return 11;
     }
+    entry_refusal(s, t)
+}
+
+// 7 and 12: a vote on a known number, which stands at the place.
+pub(crate) fn hear_rest(s: &Words, place: usize, sender: u8, verdict: u8, t: Transaction) -> u8
+    requires { ⌜ Sound (now s) × ((place ≡ find (isNumbered (t .number)) (view (now s) .known))
+        × (isUnknown t (view (now s) .known) ≡ false)) ⌝ }
+    ensures { λ r. ⌜ r ≡ firstOf (hearRest (view (now (s .entry))) sender verdict t) ⌝ }
+{
     if is_other(s, place, t) {
         return 7;
     }

@@ -6,8 +6,8 @@ ghost use lib.Dec.{eqb, leb};
 ghost use lib.ListN.{length, getD};
 ghost use Rattle.transaction.specs.Lists.{any};
 ghost use Rattle.model.specs.Lists.{find};
-ghost use Rattle.model.specs.Steps.{house, entryOf, heardFrom};
-ghost use Rattle.model.specs.Shard.{hasNumber, isOther, otherVerdict, tooFull, heldOff};
+ghost use Rattle.model.specs.Steps.{house, isFor, entryOf, heardFrom};
+ghost use Rattle.model.specs.Shard.{isUnknown, isOther, otherVerdict, tooFull, heldOff};
 ghost use Rattle.registry.specs.Numbers.{isNumbered};
 ghost use Rattle.shard.specs.View.{number, view, Sound};
 use layout::GENESIS_SLOTS;
@@ -45,10 +45,10 @@ pub(crate) fn was_given(s: &Words, index: u8) -> bool
     false
 }
 
-// 11: the number is not known here.
+// The number is not known here: 11 for the shard's own vote, and another shard's brings its transaction.
 pub(crate) fn is_unknown(s: &Words, place: usize, t: Transaction) -> bool
     requires { ⌜ Sound (now s) × (place ≡ find (isNumbered (t .number)) (view (now s) .known)) ⌝ }
-    ensures { λ r. ⌜ r ≡ not (any (hasNumber t) (view (now (s .entry)) .known)) ⌝ }
+    ensures { λ r. ⌜ r ≡ isUnknown t (view (now (s .entry)) .known) ⌝ }
 {
     known_count(s) <= place
 }
@@ -104,7 +104,7 @@ fn is_other_verdict(heard: u8, verdict: u8) -> bool
     (heard != 0) & ((heard as u16) != noted)
 }
 
-// 12: the other verdict is heard from this sender. Asked where 11 and 7 do not fit, so that the transaction stands at the place.
+// 12: the other verdict is heard from this sender. Asked where the number is known and 7 does not fit, so that the transaction stands at the place.
 pub(crate) fn has_other_verdict(
     s: &Words,
     place: usize,
@@ -113,7 +113,7 @@ pub(crate) fn has_other_verdict(
     t: Transaction,
 ) -> bool
     requires { ⌜ Sound (now s) × ((place ≡ find (isNumbered (t .number)) (view (now s) .known))
-        × ((any (hasNumber t) (view (now s) .known) ≡ true) × (any (isOther t) (view (now s) .known) ≡ false))) ⌝ }
+        × (any (isFor t) (view (now s) .known) ≡ true)) ⌝ }
     ensures { λ r. ⌜ r ≡ otherVerdict (heardFrom sender (entryOf t (view (now (s .entry)) .known))) verdict ⌝ }
 {
     let heard = heard_at(s, place, sender);

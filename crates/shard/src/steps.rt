@@ -1,12 +1,13 @@
 // The steps of a call that passes: document 01's, in document 000's order.
 ghost use mathlib.Core.Path.{_≡_};
 ghost use Prim.Native.Nat.{_<_, _≤_};
+ghost use mathlib.Core.Bool.{true, false};
 ghost use lib.ListN.{length};
 ghost use lib.Dec.{eqb};
 ghost use Rattle.transaction.specs.Lists.{firstOf};
 ghost use Rattle.model.specs.Lists.{find};
 ghost use Rattle.model.specs.Steps.{house, noted, knownWith, outcomeOf};
-ghost use Rattle.model.specs.Shard.{registerRefusals, deliverRefusals, register, deliver};
+ghost use Rattle.model.specs.Shard.{registerRefusals, isUnknown, deliverRefusals, register, deliver};
 ghost use Rattle.layout.specs.Layout.{shardWords, tokenSlots, knownSlots, genesisSlots, shardOf, slotKnown};
 ghost use Rattle.holdings.specs.Held.{inputsOf, Settling, Settles, Room};
 ghost use Rattle.registry.specs.Numbers.{isNumbered};
@@ -138,17 +139,16 @@ pub(crate) fn carry_registration(s: &mut Words, t: Transaction) -> Answer
 }
 
 // A fresh vote on the known transaction in a slot: it is noted, and what it decides is done.
-fn fresh_vote(s: &mut Words, place: usize, sender: u8, verdict: u8) -> Answer
+fn fresh_vote(s: &mut Words, place: usize, sender: u8, verdict: u8) -> Outcome
     requires { ⌜ FreshVote place sender verdict (now s) ⌝ }
     ensures { λ r. ⌜ FreshDone place sender verdict (now (s .entry)) r (now (s .exit)) ⌝ }
 {
     let at = sender as usize;
     put_heard(s, place, at, verdict + 1);
-    let decided = decide_at(s, place);
-    Answer::Heard(decided)
+    decide_at(s, place)
 }
 
-// A vote that passes, on the transaction whose number stands at a place.
+// A vote that passes, on the known transaction whose number stands at a place.
 pub(crate) fn carry_vote(
     s: &mut Words,
     place: usize,
@@ -157,12 +157,27 @@ pub(crate) fn carry_vote(
     t: Transaction,
 ) -> Answer
     requires { ⌜ Sound (now s) × ((place ≡ find (isNumbered (t .number)) (view (now s) .known))
-        × (firstOf (deliverRefusals house (number (now s)) (view (now s)) (number (now s)) sender verdict t) ≡ 0)) ⌝ }
+        × ((isUnknown t (view (now s) .known) ≡ false)
+        × (firstOf (deliverRefusals house (number (now s)) (view (now s)) (number (now s)) sender verdict t) ≡ 0))) ⌝ }
     ensures { λ r. ⌜ Steps (now (s .entry)) (deliver (number (now (s .entry))) sender verdict t) r (now (s .exit)) ⌝ }
 {
     if heard_at(s, place, sender) == 0 {
-        return fresh_vote(s, place, sender, verdict);
+        let decided = fresh_vote(s, place, sender, verdict);
+        return Answer::Heard(decided);
     }
     let decided = outcome_at(s, place);
     Answer::Again(decided)
+}
+
+// A vote that passes on an unknown number brings its transaction (document 02, 6): the registration, and then the vote.
+pub(crate) fn carry_brought(s: &mut Words, sender: u8, verdict: u8, t: Transaction) -> Answer
+    requires { ⌜ Sound (now s) × ((isUnknown t (view (now s) .known) ≡ true)
+        × (firstOf (deliverRefusals house (number (now s)) (view (now s)) (number (now s)) sender verdict t) ≡ 0)) ⌝ }
+    ensures { λ r. ⌜ Steps (now (s .entry)) (deliver (number (now (s .entry))) sender verdict t) r (now (s .exit)) ⌝ }
+{
+    let place = known_count(s);
+    let own = pledge_here(s, t);
+    enter(s, own, t);
+    let decided = fresh_vote(s, place, sender, verdict);
+    Answer::Brought(own, decided)
 }

@@ -4,7 +4,7 @@ use Rattle.transaction.specs.Lists.{firstOf}
 use Rattle.model.specs.Steps.{house}
 use Rattle.model.specs.Shard.{registerRest}
 use Rattle.shard.specs.View.{number, view}
-use Rattle.shard.proofs.Tables.{Table, Says, none, here, past, other-passes, known-passes}
+use Rattle.shard.proofs.Tables.{Table, Says, says, other-passes, known-passes}
 use denote.Ref.{now}
 use borrow.Author.Needs.{needs}
 use Rattle.shard.proofs.refusals.register_rest.Statement.{statement}
@@ -26,26 +26,11 @@ number-cause-requires c κs = search needs
 returns : tie.Need-returns
 returns c = c .number-cause .ensures
 
-is-full-requires : tie.Need-is-full-requires
-is-full-requires c κs = search needs
+entry-refusal-requires : tie.Need-entry-refusal-requires
+entry-refusal-requires c κs = search needs
 
 returns-2 : tie.Need-returns-2
-returns-2 c = answer (search) (search (none, here, past, other-passes, known-passes))
-
-is-too-full-requires : tie.Need-is-too-full-requires
-is-too-full-requires c κs = search needs
-
-returns-3 : tie.Need-returns-3
-returns-3 c = answer (search) (search (none, here, past, other-passes, known-passes))
-
-is-held-off-requires : tie.Need-is-held-off-requires
-is-held-off-requires c κs = search needs
-
-returns-4 : tie.Need-returns-4
-returns-4 c = answer (search) (search (none, here, past, other-passes, known-passes))
-
-returns-5 : tie.Need-returns-5
-returns-5 c = answer (search) (search (none, here, past, other-passes, known-passes) depth 8)
+returns-2 c = answer (search) (search (says, other-passes, known-passes))
 
 pub register-rest-spec : {M : Type 1} → statement M
 register-rest-spec =
@@ -54,10 +39,5 @@ register-rest-spec =
     known-count-requires
     number-cause-requires
     returns
-    is-full-requires
-    returns-2
-    is-too-full-requires
-    returns-3
-    is-held-off-requires
-    returns-4
-    returns-5)
+    entry-refusal-requires
+    returns-2)
