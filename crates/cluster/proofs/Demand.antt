@@ -1,17 +1,18 @@
 -- DEMAND 3 ABOUT THE CODE. For every list of openings, registrations, vote deliveries and turns with any arguments, refused ones included, and the
 -- answers and clusters that the contracts of `new`, `mint_token`, `register_transaction`, `deliver_vote` and `turn_shard` fix, call after call: the
--- record `RunDemand` holds (crates/model/proofs/Bridge.antt), which has each clause of demand 3 as a field.
+-- record `RunDemand` holds (crates/model/proofs/Bridge.antt), which has each clause of demand 3 as a field; and no answer is 11.
 --
 -- A contract is read off the function itself: `Asked` is what its `requires` asks of the arguments, `Learnt` what its `ensures` tells of the
 -- arguments, the result and the lent cluster afterwards, as the checker generates both from src/lib.rt. There is no second copy of a contract here, so
 -- that a contract that said less would break this proof.
 use Prim.Native.Nat.{ℕ}
-use mathlib.Core.List.{List}
+use mathlib.Core.List.{List, List·Memᴰ}
 use contract.Lifetimes.{Lfts}
 use Rattle.model.specs.declared.Answer.{Answer}
+use Rattle.model.specs.declared.Answer.the-variants.{Refused}
 use Rattle.model.specs.Steps.{house}
 use Rattle.model.specs.Shard.{Call, mint, register, deliver, turn}
-use Rattle.model.proofs.Bridge.{Engine, Run, RunDemand, run-demand-3}
+use Rattle.model.proofs.Bridge.{Engine, Run, RunDemand, run-demand-3, run-never-eleven}
 use Rattle.cluster.specs.View.{view, Sound, Fresh, Steps}
 use Rattle.cluster.proofs.References.{Place, refers}
 use Rattle.cluster.proofs.new.Reads as new
@@ -88,3 +89,8 @@ code c₀ starts = record {
 pub demand-3 : (c₀ : Cluster) (starts : Starts c₀) {c : Cluster} {calls : List Call} {replies : List Answer}
     → Run (code c₀ starts) c₀ calls replies c → RunDemand (code c₀ starts) calls replies c
 demand-3 c₀ starts run = run-demand-3 (code c₀ starts) run
+
+-- THEOREM: in every such run 11 is never answered (document 02, 6)
+pub never-eleven : (c₀ : Cluster) (starts : Starts c₀) {c : Cluster} {calls : List Call} {replies : List Answer}
+    → Run (code c₀ starts) c₀ calls replies c → List·Memᴰ (Refused 11) replies → ⊥
+never-eleven c₀ starts run = run-never-eleven (code c₀ starts) run

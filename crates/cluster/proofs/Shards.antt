@@ -15,7 +15,7 @@ use Rattle.transaction.proofs.Tables.{first-stands}
 use Rattle.model.specs.declared.Answer.{Answer}
 use Rattle.model.specs.declared.Answer.the-variants.{Refused}
 use Rattle.model.specs.Steps.{Ledger, house, emptyLedger}
-use Rattle.model.specs.Shard.{Call, mint, register, deliver, deliverForm, deliverRest, deliverRefusals, hear, shardStep, turn}
+use Rattle.model.specs.Shard.{Call, mint, register, deliver, deliverForm, deliverRest, deliverRefusals, shardStep, turn, delivered}
 use Rattle.model.specs.Cluster.{ledgerAt, gave, notGiven, atShard, clusterStep}
 use Rattle.model.proofs.Basics.{passed}
 use Rattle.model.proofs.Tables.{unless-refused, receiverOf, no-such-shard}
@@ -133,12 +133,12 @@ module _ (receiver sender verdict : ℕ) (t : Transaction) where
 
     whole : firstOf (deliverRefusals house receiver ledger receiver sender verdict t) ≡ cause
     unfolding deliverRefusals
-    whole = first-stands form (deliverRest ledger sender verdict t) (λ z. n (e ∙ z)) ∙ sym e
+    whole = first-stands form (deliverRest house receiver ledger sender verdict t) (λ z. n (e ∙ z)) ∙ sym e
 
     form-step : clusterStep house shards (deliver receiver sender verdict t) ≡ (shards, Refused cause)
     unfolding clusterStep notGiven atShard shardStep
     form-step =
-        let r = unless-refused cause ledger (hear receiver ledger sender verdict t) n in
+        let r = unless-refused cause ledger (delivered receiver ledger sender verdict t) n in
         let same = set-getD shards receiver (emptyLedger house) in
         rw (← e, ne-eqb cause 0 n, whole, r) (ap (λ (l : List Ledger). (l, Refused cause)) same)
 

@@ -4,7 +4,7 @@ use mathlib.Core.Bool.{Bool, cond}
 use Rattle.model.specs.declared.Outcome.{Outcome}
 use Rattle.model.specs.declared.Outcome.the-variants.{Wait, Commit, Abort}
 use Rattle.model.specs.declared.Answer.{Answer}
-use Rattle.model.specs.declared.Answer.the-variants.{Refused, Minted, Registered, Heard, Again, Turned}
+use Rattle.model.specs.declared.Answer.the-variants.{Refused, Minted, Registered, Heard, Again, Turned, Brought}
 
 -- 1 for yes, 0 for no
 abbrev pub yes : Bool → ℕ
@@ -16,12 +16,17 @@ outcomeCode Wait = 0
 outcomeCode Commit = 1
 outcomeCode Abort = 2
 
+-- the shard's own verdict and what is decided here so far
+abbrev pub votedCode : Bool → Outcome → ℕ
+votedCode verdict outcome = 10 * yes verdict + outcomeCode outcome
+
 -- A refusal's own number (all of them are below 100); a genesis token given (an opening); a registration with
--- the shard's own verdict; a fresh vote; a repeat; a turn.
+-- the shard's own verdict; a fresh vote; a repeat; a turn; a vote that brought its transaction, with the shard's own verdict.
 unfoldable pub answerCode : Answer → ℕ
 answerCode (Refused number) = number
 answerCode Minted = 100
-answerCode (Registered verdict outcome) = 200 + 10 * yes verdict + outcomeCode outcome
+answerCode (Registered verdict outcome) = 200 + votedCode verdict outcome
 answerCode (Heard outcome) = 300 + outcomeCode outcome
 answerCode (Again outcome) = 400 + outcomeCode outcome
 answerCode Turned = 500
+answerCode (Brought verdict outcome) = 600 + votedCode verdict outcome

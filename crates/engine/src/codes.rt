@@ -1,7 +1,7 @@
 // An answer as one number.
 ghost use mathlib.Core.Path.{_≡_};
-ghost use Prim.Native.Nat.{_+_, _*_, _≤_};
-ghost use Rattle.engine.specs.Codes.{yes, outcomeCode, answerCode};
+ghost use Prim.Native.Nat.{_≤_};
+ghost use Rattle.engine.specs.Codes.{yes, outcomeCode, votedCode, answerCode};
 use crate::words::wide;
 use model::Answer;
 use model::Outcome;
@@ -23,11 +23,11 @@ pub(crate) fn outcome_code(o: Outcome) -> u32
     }
 }
 
-fn registered_code(verdict: bool, o: Outcome) -> u32
-    ensures { λ r. ⌜ r ≡ 200 + 10 * yes verdict + outcomeCode o ⌝ }
+fn voted_code(verdict: bool, o: Outcome) -> u32
+    ensures { λ r. ⌜ (r ≡ votedCode verdict o) × (r ≤ 12) ⌝ }
 {
     let n = outcome_code(o);
-    if verdict { 210 + n } else { 200 + n }
+    if verdict { 10 + n } else { n }
 }
 
 pub(crate) fn answer_code(answer: Answer) -> u32
@@ -36,9 +36,10 @@ pub(crate) fn answer_code(answer: Answer) -> u32
     match answer {
         Answer::Refused(number) => wide(number),
         Answer::Minted => 100,
-        Answer::Registered(verdict, o) => registered_code(verdict, o),
+        Answer::Registered(verdict, o) => 200 + voted_code(verdict, o),
         Answer::Heard(o) => 300 + outcome_code(o),
         Answer::Again(o) => 400 + outcome_code(o),
         Answer::Turned => 500,
+        Answer::Brought(verdict, o) => 600 + voted_code(verdict, o),
     }
 }

@@ -5,7 +5,7 @@ use mathlib.Core.Bool.{Bool, false, cond}
 use mathlib.Core.List.{List, [], _∷_, _++_}
 use lib.Dec.{leb, ltb}
 use Rattle.model.specs.declared.Answer.{Answer}
-use Rattle.model.specs.declared.Answer.the-variants.{Refused, Minted, Registered, Heard, Again, Turned}
+use Rattle.model.specs.declared.Answer.the-variants.{Refused, Minted, Registered, Heard, Again, Turned, Brought}
 use Rattle.model.specs.Answers.{answerWords}
 
 -- a number in decimal without leading zeros; `enough` bounds the count of digits, and a number has no more digits than
@@ -30,6 +30,7 @@ wordsOf (Registered verdict outcome) = answerWords (Registered verdict outcome)
 wordsOf (Heard outcome) = answerWords (Heard outcome)
 wordsOf (Again outcome) = answerWords (Again outcome)
 wordsOf Turned = answerWords Turned
+wordsOf (Brought verdict outcome) = answerWords (Brought verdict outcome)
 
 -- no shard is shown for refusals 1 to 5
 abbrev pub unplaced : Answer → Bool
@@ -39,6 +40,7 @@ unplaced (Registered verdict outcome) = false
 unplaced (Heard outcome) = false
 unplaced (Again outcome) = false
 unplaced Turned = false
+unplaced (Brought verdict outcome) = false
 
 -- the shard, or "-"
 abbrev pub placeWord : Bool → ℕ → List ℕ

@@ -73,6 +73,7 @@ fn is_unplaced(answer: Answer) -> bool
         Answer::Heard(_) => false,
         Answer::Again(_) => false,
         Answer::Turned => false,
+        Answer::Brought(_, _) => false,
     }
 }
 

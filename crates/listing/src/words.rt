@@ -1,7 +1,7 @@
 // Words stored into lent bytes from a place on, one behind the other. Each answers the place behind what it stored.
 // Internal: a caller sees to the room.
 ghost use mathlib.Core.Path.{_≡_};
-ghost use mathlib.Core.List.{_∷_};
+ghost use mathlib.Core.List.{[], _∷_};
 ghost use Prim.Native.Nat.{_+_, _≤_};
 ghost use lib.ListN.{length};
 ghost use Rattle.model.specs.Answers.{outcomeWord, verdictWord};
@@ -91,6 +91,15 @@ pub(crate) fn put_verdict(line: &mut [u8], at: usize, verdict: bool) -> usize
     put_word(line, at, b"NO")
 }
 
+// The own verdict and an outcome: the words of a registration, and of a vote that brought its transaction.
+fn put_voted(line: &mut [u8], at: usize, verdict: bool, outcome: Outcome) -> usize
+    requires { ⌜ at + 11 ≤ length (now line) ⌝ }
+    ensures { λ r. ⌜ Puts (now (line .entry)) at (spaced (verdictWord verdict ∷ outcomeWord outcome ∷ [])) 11 (now (line .exit)) r ⌝ }
+{
+    let e = put_verdict(line, at, verdict);
+    put_outcome(line, e, outcome)
+}
+
 // The words of an answer, each with a space in front.
 pub(crate) fn put_answer(line: &mut [u8], at: usize, answer: Answer) -> usize
     requires { ⌜ at + 29 ≤ length (now line) ⌝ }
@@ -102,10 +111,7 @@ pub(crate) fn put_answer(line: &mut [u8], at: usize, answer: Answer) -> usize
             put_small(line, e, number)
         }
         Answer::Minted => put_word(line, at, b"OPENED"),
-        Answer::Registered(verdict, outcome) => {
-            let e = put_verdict(line, at, verdict);
-            put_outcome(line, e, outcome)
-        }
+        Answer::Registered(verdict, outcome) => put_voted(line, at, verdict, outcome),
         Answer::Heard(outcome) => {
             let e = put_word(line, at, b"HEARD");
             put_outcome(line, e, outcome)
@@ -115,5 +121,6 @@ pub(crate) fn put_answer(line: &mut [u8], at: usize, answer: Answer) -> usize
             put_outcome(line, e, outcome)
         }
         Answer::Turned => put_word(line, at, b"TURNED"),
+        Answer::Brought(verdict, outcome) => put_voted(line, at, verdict, outcome),
     }
 }

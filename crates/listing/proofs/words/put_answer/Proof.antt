@@ -28,11 +28,8 @@ put-word-requires-2 c κs = search needs
 enum-known-answer-2 : tie.Need-enum-known-answer-2
 enum-known-answer-2 c = search needs
 
-put-verdict-requires : tie.Need-put-verdict-requires
-put-verdict-requires c κs = search needs
-
-put-outcome-requires : tie.Need-put-outcome-requires
-put-outcome-requires c κs = search needs
+put-voted-requires : tie.Need-put-voted-requires
+put-voted-requires c κs = search needs
 
 enum-known-answer-3 : tie.Need-enum-known-answer-3
 enum-known-answer-3 c = search needs
@@ -43,8 +40,8 @@ slice-aggregate-put-word-3 c = search needs
 put-word-requires-3 : tie.Need-put-word-requires-3
 put-word-requires-3 c κs = search needs
 
-put-outcome-requires-2 : tie.Need-put-outcome-requires-2
-put-outcome-requires-2 c κs = search needs
+put-outcome-requires : tie.Need-put-outcome-requires
+put-outcome-requires c κs = search needs
 
 enum-known-answer-4 : tie.Need-enum-known-answer-4
 enum-known-answer-4 c = search needs
@@ -55,8 +52,8 @@ slice-aggregate-put-word-4 c = search needs
 put-word-requires-4 : tie.Need-put-word-requires-4
 put-word-requires-4 c κs = search needs
 
-put-outcome-requires-3 : tie.Need-put-outcome-requires-3
-put-outcome-requires-3 c κs = search needs
+put-outcome-requires-2 : tie.Need-put-outcome-requires-2
+put-outcome-requires-2 c κs = search needs
 
 enum-told-2 : tie.Need-enum-told-2
 enum-told-2 c = search needs
@@ -66,6 +63,12 @@ slice-aggregate-put-word-5 c = search needs
 
 put-word-requires-5 : tie.Need-put-word-requires-5
 put-word-requires-5 c κs = search needs
+
+enum-known-answer-5 : tie.Need-enum-known-answer-5
+enum-known-answer-5 c = search needs
+
+put-voted-requires-2 : tie.Need-put-voted-requires-2
+put-voted-requires-2 c κs = search needs
 
 same-length : tie.Need-same-length
 same-length c = search needs
@@ -91,33 +94,31 @@ same-length-3 c = search needs
 
 returns-3 : tie.Need-returns-3
 returns-3 c =
-    let outcome : tie.After-put-outcome = search in
-    let verdict : tie.After-put-verdict = search in
+    let voted : tie.After-put-voted = search in
     let answered : tie.After-answer2 = search in
-    rw (answered .answer2 .given .1)
-    (two _ _ 13 (omega arith) (verdict .put-verdict .ensures) (outcome .put-outcome .ensures))
+    rw (answered .answer2 .given .1) (wider 13 (voted .put-voted .ensures) (omega arith))
 
 same-length-4 : tie.Need-same-length-4
 same-length-4 c = search needs
 
 returns-4 : tie.Need-returns-4
 returns-4 c =
-    let outcome : tie.After-put-outcome2 = search in
+    let outcome : tie.After-put-outcome = search in
     let word : tie.After-put-word3 = search in
     let answered : tie.After-answer3 = search in
     rw (answered .answer3 .given .1)
-    (two _ _ 13 (omega arith) (word .put-word3 .ensures) (outcome .put-outcome2 .ensures))
+    (two _ _ 13 (omega arith) (word .put-word3 .ensures) (outcome .put-outcome .ensures))
 
 same-length-5 : tie.Need-same-length-5
 same-length-5 c = search needs
 
 returns-5 : tie.Need-returns-5
 returns-5 c =
-    let outcome : tie.After-put-outcome3 = search in
+    let outcome : tie.After-put-outcome2 = search in
     let word : tie.After-put-word4 = search in
     let answered : tie.After-answer4 = search in
     rw (answered .answer4 .given .1)
-    (two _ _ 13 (omega arith) (word .put-word4 .ensures) (outcome .put-outcome3 .ensures))
+    (two _ _ 13 (omega arith) (word .put-word4 .ensures) (outcome .put-outcome2 .ensures))
 
 same-length-6 : tie.Need-same-length-6
 same-length-6 c = search needs
@@ -127,6 +128,15 @@ returns-6 c =
     let word : tie.After-put-word5 = search in
     let told : tie.After-enum-told2 = search in
     rw (told .enum-told2 .given .1) (wider 13 (word .put-word5 .ensures) (omega arith))
+
+same-length-7 : tie.Need-same-length-7
+same-length-7 c = search needs
+
+returns-7 : tie.Need-returns-7
+returns-7 c =
+    let voted : tie.After-put-voted2 = search in
+    let answered : tie.After-answer5 = search in
+    rw (answered .answer5 .given .1) (wider 13 (voted .put-voted2 .ensures) (omega arith))
 
 pub put-answer-spec : {M : Type 1} → statement M
 put-answer-spec =
@@ -140,19 +150,20 @@ put-answer-spec =
     slice-aggregate-put-word-2
     put-word-requires-2
     enum-known-answer-2
-    put-verdict-requires
-    put-outcome-requires
+    put-voted-requires
     enum-known-answer-3
     slice-aggregate-put-word-3
     put-word-requires-3
-    put-outcome-requires-2
+    put-outcome-requires
     enum-known-answer-4
     slice-aggregate-put-word-4
     put-word-requires-4
-    put-outcome-requires-3
+    put-outcome-requires-2
     enum-told-2
     slice-aggregate-put-word-5
     put-word-requires-5
+    enum-known-answer-5
+    put-voted-requires-2
     same-length
     returns
     same-length-2
@@ -164,4 +175,6 @@ put-answer-spec =
     same-length-5
     returns-5
     same-length-6
-    returns-6)
+    returns-6
+    same-length-7
+    returns-7)
