@@ -6,21 +6,29 @@
 -- As in crates/cluster/proofs/Demand.antt a contract is read off the function itself (`Asked`, `Learnt`), so that one
 -- that said less would break this proof.
 use Prim.Native.Nat.{ℕ}
-use mathlib.Core.Path.{_≡_, refl, subst}
+use mathlib.Core.Path.{_≡_, refl, sym, ap, _∙_, subst}
 use mathlib.Core.Logic.{_≢_}
-use mathlib.Core.List.{List, [], _∷_}
+use mathlib.Core.Bool.{Bool, true, false, cond}
+use mathlib.Core.List.{List, [], _∷_, List·Memᴰ, List·Memᴰ·head, List·Memᴰ·tail}
+use native.Mathlib.Omega.{arith}
+use lib.Dec.{eqb}
 use contract.Lifetimes.{Lfts}
 use Rattle.transaction.specs.declared.Transaction.{Transaction}
 use Rattle.reader.specs.declared.Answer as reader
 use Rattle.reader.specs.declared.Answer.the-variants as reader-answer
-use Rattle.reader.specs.Reading.{readingOf}
+use Rattle.transaction.specs.Lists.{firstOf}
+use Rattle.transaction.specs.Checks.{houseGenesis, registerChecks, voteChecks, mintChecks, turnChecks}
+use Rattle.reader.specs.Layout.{byteAt, wordAt, transactionAt}
+use Rattle.reader.specs.Reading.{kindOf, headChecks, bodyChecks, readCause, recordAt, readingOf}
 use Rattle.model.specs.declared.Answer.{Answer}
-use Rattle.model.specs.declared.Answer.the-variants.{Refused}
+use Rattle.model.specs.declared.Answer.the-variants.{Refused, Minted, Registered, Heard, Again, Turned, Brought}
 use Rattle.model.specs.declared.Outcome.the-variants.{Wait}
 use Rattle.model.specs.Steps.{Ledger, house}
 use Rattle.model.specs.Shard.{Call}
 use Rattle.model.specs.Cluster.{ledgerAt, clusterStep}
 use Rattle.model.specs.Demand.{outcomeIn}
+use Rattle.model.proofs.Basics.{number-behind, never-answers}
+use Rattle.model.proofs.Tables.{never-eleven}
 use Rattle.model.proofs.Bridge as bridge
 use Rattle.model.proofs.Bridge.{reference, RunDemand, run-demand-3}
 use Rattle.cluster.specs.View.{view, Sound, Fresh}
@@ -186,3 +194,75 @@ planner-demand-3 {c = c} {asks = asks} starts run =
       finality = λ further p t h. let g = follows (f .sound) further in demand .finality _ (g .replies) _ (g .run) p t h;
       sound = f .sound;
     }
+
+-- ---- 11 is never returned (document 02, 6)
+
+-- no record is refused with it
+read-eleven : (l : List ℕ) → readCause l ≡ 11 → ⊥
+unfolding readCause
+read-eleven l e =
+    go (eqb (kindOf l) 1) (eqb (kindOf l) 2) (eqb (kindOf l) 3) (number-behind 11 (headChecks l) (bodyChecks l) refl e .1)
+  where
+    register : List (Bool × ℕ)
+    register = registerChecks houseGenesis (byteAt l 1) (transactionAt l 2)
+
+    vote : List (Bool × ℕ)
+    vote = voteChecks houseGenesis (byteAt l 1) (byteAt l 2) (byteAt l 3) (transactionAt l 4)
+
+    mint : List (Bool × ℕ)
+    mint = mintChecks houseGenesis (byteAt l 1) (byteAt l 2) (wordAt l 3) (wordAt l 7)
+
+    turn : List (Bool × ℕ)
+    turn = turnChecks (byteAt l 1)
+
+    go : (a b c : Bool) → firstOf (cond a register (cond b vote (cond c mint turn))) ≡ 11 → ⊥
+    go true b c e = never-answers 11 (λ z. omega arith) register refl e
+    go false true c e = never-answers 11 (λ z. omega arith) vote refl e
+    go false false true e = never-answers 11 (λ z. omega arith) mint refl e
+    go false false false e = never-answers 11 (λ z. omega arith) turn refl e
+
+-- it is the code of the refusal alone
+code-eleven : (answer : Answer) → answerCode answer ≡ 11 → Refused 11 ≡ answer
+unfolding answerCode
+code-eleven (Refused number) e = ap Refused (sym e)
+code-eleven Minted e = absurd (omega arith)
+code-eleven (Registered verdict outcome) e = absurd (omega arith)
+code-eleven (Heard outcome) e = absurd (omega arith)
+code-eleven (Again outcome) e = absurd (omega arith)
+code-eleven Turned e = absurd (omega arith)
+code-eleven (Brought verdict outcome) e = absurd (omega arith)
+
+-- no function asks for it
+meant-eleven : (ask : Ask) → means ask ≡ refusal 11 → ⊥
+unfolding means recordMeans readingOf
+meant-eleven (mints p i o a) e = let z : _≡_ {A = ℕ} 0 1 = cc in omega arith
+meant-eleven (registers p w) e = let z : _≡_ {A = ℕ} 0 1 = cc in omega arith
+meant-eleven (delivers p q v w) e = let z : _≡_ {A = ℕ} 0 1 = cc in omega arith
+meant-eleven (turns p) e = let z : _≡_ {A = ℕ} 0 1 = cc in omega arith
+meant-eleven (applies l) e = go (eqb (readCause l) 0) e
+  where
+    go : (b : Bool) → recordMeans (cond b (reader-answer.Read (recordAt l)) (reader-answer.Refused (readCause l))) (readingOf l .transaction)
+        ≡ refusal 11 → ⊥
+    go true e = let z : _≡_ {A = ℕ} 0 1 = cc in omega arith
+    go false e = read-eleven l cc
+
+-- so that a number returned is it only where an answer is
+told-eleven : (asks : List Ask) (answers : List Answer) → List·Memᴰ 11 (codesOf (meantBy asks) answers) → List·Memᴰ (Refused 11) answers
+told-eleven [] answers m = elim m [ ]
+told-eleven (ask ∷ asks) answers m = go (means ask) refl answers (told-eleven asks) m
+  where
+    go : (meant : Meant) → means ask ≡ meant → (answers : List Answer)
+        → ((l : List Answer) → List·Memᴰ 11 (codesOf (meantBy asks) l) → List·Memᴰ (Refused 11) l) → List·Memᴰ 11 (codesOf (meant ∷ meantBy asks) answers)
+        → List·Memᴰ (Refused 11) answers
+    go (refusal number) z answers rest (List·Memᴰ·head e) = absurd (meant-eleven ask (z ∙ ap refusal (sym e)))
+    go (refusal number) z answers rest (List·Memᴰ·tail m) = rest answers m
+    go (asked call) z [] rest m = elim m [ ]
+    go (asked call) z (answer ∷ answers) rest (List·Memᴰ·head e) = List·Memᴰ·head (code-eleven answer (sym e))
+    go (asked call) z (answer ∷ answers) rest (List·Memᴰ·tail m) = List·Memᴰ·tail (rest answers m)
+
+-- THEOREM: no number that these functions return, in any such run, is 11
+pub planner-never-eleven : {c₀ c : Cluster} {asks : List Ask} {codes : List ℕ} → Starts c₀ → Run c₀ asks codes c → List·Memᴰ 11 codes → ⊥
+planner-never-eleven {asks = asks} starts run m =
+    let p = planner-demand-3 starts run in
+    let among : List·Memᴰ (Refused 11) (p .replies) = told-eleven asks (p .replies) (subst (λ (l : List ℕ). List·Memᴰ 11 l) (p .told) m) in
+    never-eleven house (callsOf (meantBy asks)) (subst (λ (l : List Answer). List·Memᴰ (Refused 11) l) (p .demand .answered) among)
