@@ -1,6 +1,5 @@
 // Words stored into lent bytes from a place on, one behind the other. Each answers the place behind what it stored.
 // Internal: a caller sees to the room.
-ghost use mathlib.Core.Path.{_≡_};
 ghost use mathlib.Core.List.{[], _∷_};
 ghost use Prim.Native.Nat.{_+_, _≤_};
 ghost use lib.ListN.{length};

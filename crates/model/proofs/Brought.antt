@@ -1,6 +1,6 @@
 -- A vote that brings its transaction (document 02, 6): it is entered under the checks of a registration's entry; it is the registration and the vote, one
 -- call behind the other; what it is answered, and how many votes bring the decision then.
-use Prim.Native.Nat.{ℕ, _+_, _<_, _≤_}
+use Prim.Native.Nat.{ℕ, _+_, _<_}
 use native.Mathlib.Omega.{arith}
 use mathlib.Core.Path.{_≡_, refl, ap, sym, _∙_, subst}
 use mathlib.Core.Logic.{_≢_}
@@ -13,7 +13,6 @@ use Rattle.transaction.specs.declared.Transaction.{Transaction}
 use Rattle.transaction.specs.Lists.{firstOf}
 use Rattle.transaction.specs.Tokens.{shardsOf, takesPart}
 use Rattle.transaction.proofs.Tables.{first-behind}
-use Rattle.model.specs.declared.Token.{Token}
 use Rattle.model.specs.declared.Known.{Known}
 use Rattle.model.specs.declared.Outcome.{Outcome}
 use Rattle.model.specs.declared.Outcome.the-variants.{Abort}
@@ -41,19 +40,10 @@ use Rattle.model.specs.Shard.{
 use Rattle.model.specs.Cluster.{ledgerAt, gave, notGiven, atShard, clusterStep}
 use Rattle.model.specs.Model.{play}
 use Rattle.model.proofs.Basics.{eqb-yes, eqb-no, set-elim}
-use Rattle.model.proofs.Entries.{registered-entry, registered-unheard}
+use Rattle.model.proofs.Entries.{registered-entry}
 use Rattle.model.proofs.Outcomes.{one≢two, outcome-no, no-abort, abort-stays}
-use Rattle.model.proofs.Refusals.{
-  shard-below,
-  part-in,
-  BringPasses,
-  brought-registers,
-  brought-fresh,
-  brought-hears,
-  brought-known,
-  brought-passes,
-}
-use Rattle.model.proofs.Effects.{ShardEffect, shard-refused, shard-minted, shard-registered, shard-heard, shard-again, shard-turned, shard-brought, shard-effect}
+use Rattle.model.proofs.Refusals.{shard-below, part-in, BringPasses, brought-registers, brought-fresh, brought-known, brought-passes}
+use Rattle.model.proofs.Effects.{ShardEffect, shard-refused, shard-heard, shard-again, shard-brought, shard-effect}
 use Rattle.model.proofs.Steps.{play-inv}
 use Rattle.model.proofs.Votes.{shardCount, Fresh, Brings, own-no, own-yes, votes-bring}
 use Rattle.model.proofs.Tables.{unless-done}
@@ -177,7 +167,8 @@ module _ (limits : Limits) (me : ℕ) (ledger : Ledger) (receiver sender verdict
   pub brought-by-no : verdict ≡ 0 → o ≡ Abort
   unfolding newlyKnown
   brought-by-no n =
-      let said : heardFrom sender (hearing sender verdict entered) ≡ 1 = getD-set-same (entered .heard) sender (verdict + 1) 0 below ∙ ap (λ (v : ℕ). v + 1) n in
+      let noted : heardFrom sender (hearing sender verdict entered) ≡ verdict + 1 = getD-set-same (entered .heard) sender (verdict + 1) 0 below in
+      let said = noted ∙ ap (λ (v : ℕ). v + 1) n in
       sym (bringing .decided) ∙ no-abort (hearing sender verdict entered) (record { sender = sender; takes-part = sender-part; said = said })
 
   -- YES WAIT and YES COMMIT: two that are yes do not

@@ -60,7 +60,7 @@ use Rattle.model.specs.Fit.{isSet, counted, Fit}
 use Rattle.model.specs.Cluster.{ledgerAt}
 use Rattle.model.specs.Model.{Model, play}
 use Rattle.model.proofs.Basics.{eqb-apart, find-at, getD-same}
-use Rattle.model.proofs.Entries.{same-eq, whole-known}
+use Rattle.model.proofs.Entries.{same-eq}
 use Rattle.model.proofs.Outcomes.{outcome-yes, CaseOutcome, case-wait, case-commit, case-abort, case-outcome, abort-stays}
 use Rattle.model.proofs.Refusals.{part-in, MintPasses, RegisterPasses, DeliverPasses, brought-registers, brought-hears, brought-fresh}
 use Rattle.model.proofs.Effects.{

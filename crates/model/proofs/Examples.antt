@@ -55,7 +55,7 @@ use Rattle.model.specs.Shard.{
   bring,
 }
 use Rattle.model.specs.Cluster.{ledgerAt, gave, notGiven, atShard, clusterStep}
-use Rattle.model.specs.Model.{logAfter, mintedAfter, step, after, answers, play, playAnswers}
+use Rattle.model.specs.Model.{logAfter, mintedAfter, step, after, answers, play, playAnswers, Entry}
 use Rattle.model.specs.Demand.{
   outcomeIn,
   heardAllIn,
@@ -103,6 +103,10 @@ serialValue calls id = andThen (λ ledger. ledger id) (serialRun (genesisLedger 
 -- a held token
 token : ℕ → ℕ → ℕ → ℕ → ℕ → Token
 token creator index owner amount pledge = record { creator = creator; index = index; owner = owner; amount = amount; pledge = pledge }
+
+-- an entry of the log
+entry : ℕ → ℕ → Transaction → List Input → Entry
+entry place shard t inputs = record { place = place; shard = shard; transaction = t; available = inputs }
 
 -- document 01's swap 5: both tokens change hands
 both : Transaction
@@ -350,6 +354,7 @@ pub record Examples : Type 0 where
       ≡ Minted ∷ Minted ∷ Registered true Wait ∷ Brought true Commit ∷ Again Commit ∷ Heard Commit ∷ Refused 8 ∷ []
   brings-held : tokensAfter brought 1 ≡ token 5 0 10 3 0 ∷ []
   -- it is logged at the place of the vote's call, and last registration counts it: of two that commit, the one brought last is the newest
+  brings-logged : play house brought .log ≡ entry 4 1 both (input 1 0 0 20 2 ∷ []) ∷ entry 3 0 both (input 0 0 0 10 3 ∷ []) ∷ []
   brings-place : lastPlace (play house brought .log) both ≡ 4
   brings-order : serialOrder (play house (
       mint 0 0 10 3
@@ -391,12 +396,12 @@ pub record Examples : Type 0 where
 
 -- each of them by computation
 pub examples : Examples
-unfolding input output make tokensAfter token both known-at-both votes alone alone-second wrong half other5 near5 pass torn
-    torn-apart onward crossed onward-to brought three known-at-three early small takesPart sameToken sameInput sameOutput sameTransaction indexFits valueFits inputFits outputFits
-    countsFit fieldsFit sameName namedTwice balanced mintFits inputsHere available availableHere pledges vote newlyKnown
-    decide outputsHere madeHere commit freeing afterMint afterRegister afterVote afterTurn placeOf entryOf reservedBy reserved heldOff
-    mintRefusals registerRefusals deliverForm deliverRefusals turnRefusals hear bring shardStep gave notGiven atShard clusterStep logAfter
-    mintedAfter step after answers play playAnswers outcomeIn heardAllIn committed serialFrom serialValue genesisLedger takeInputs addOutputs spend serialRun
+unfolding input output make tokensAfter token entry both known-at-both votes alone alone-second wrong half other5 near5 pass torn torn-apart onward
+    crossed onward-to brought three known-at-three early small takesPart sameToken sameInput sameOutput sameTransaction indexFits valueFits inputFits
+    outputFits countsFit fieldsFit sameName namedTwice balanced mintFits inputsHere available availableHere pledges vote newlyKnown decide outputsHere
+    madeHere commit freeing afterMint afterRegister afterVote afterTurn placeOf entryOf reservedBy reserved heldOff mintRefusals registerRefusals
+    deliverForm deliverRefusals turnRefusals hear bring shardStep gave notGiven atShard clusterStep logAfter mintedAfter step after answers play
+    playAnswers outcomeIn heardAllIn committed serialFrom serialValue genesisLedger takeInputs addOutputs spend serialRun
 examples = record {
   seven-answers = refl;
   seven-0 = refl;
@@ -451,6 +456,7 @@ examples = record {
   lone-turn = refl;
   brings = refl;
   brings-held = refl;
+  brings-logged = refl;
   brings-place = refl;
   brings-order = refl;
   brings-waits = refl;

@@ -1,5 +1,5 @@
--- Laws of 17, a registration held off, or a vote that would bring its transaction: it changes nothing; once the first transaction is decided here, its outputs hold nobody off; and a
--- transaction whose inputs here are all made and free is never held off, and is voted yes.
+-- Laws of 17, a registration held off, or a vote that would bring its transaction: it changes nothing; once the first transaction is decided
+-- here, its outputs hold nobody off; and a transaction whose inputs here are all made and free is never held off, and is voted yes.
 use Prim.Native.Nat.{ℕ}
 use native.Mathlib.Omega.{arith}
 use mathlib.Core.Path.{_≡_, refl, ap, sym, _∙_}
@@ -10,7 +10,7 @@ use mathlib.Core.Option.{Option, none, some}
 use mathlib.Core.List.{List, _++_, List·Memᴰ}
 use Rattle.transaction.specs.declared.Input.{Input}
 use Rattle.transaction.specs.declared.Transaction.{Transaction}
-use Rattle.transaction.specs.Lists.{any, all, firstOf}
+use Rattle.transaction.specs.Lists.{any, firstOf}
 use Rattle.model.specs.declared.Token.{Token}
 use Rattle.model.specs.declared.Known.{Known}
 use Rattle.model.specs.declared.Outcome.{Outcome}

@@ -18,7 +18,7 @@ use Rattle.model.specs.declared.Answer.the-variants.{Refused, Minted, Re
 use Rattle.model.specs.Steps.{Limits, Ledger, emptyLedger, inputsHere}
 use Rattle.model.specs.Shard.{Call, mint, register, deliver, shardStep, turn}
 use Rattle.model.specs.Cluster.{ledgerAt, notGiven, atShard, clusterStep}
-use Rattle.model.specs.Model.{Entry, Model, emptyModel, entryFor, step, after, answers, play}
+use Rattle.model.specs.Model.{Entry, Model, entryFor, step, after, answers, play}
 use Rattle.model.specs.Demand.{committed, outcomeAt}
 use Rattle.model.proofs.Basics.{eqb-eq, clash}
 use Rattle.model.proofs.Lookups.{alone-repeats}
@@ -31,7 +31,6 @@ use Rattle.model.proofs.Effects.{
   shard-heard,
   shard-again,
   shard-effect,
-  Effect,
   did-refuse,
   did-mint,
   did-register,

@@ -81,7 +81,6 @@ use Rattle.model.proofs.Entries.{
   append-put,
   set-put,
   number-unknown,
-  whole-known,
   entry-look,
   mem-look,
 }

@@ -47,12 +47,15 @@ entryFor limits place shards receiver t = record {
   available = availableHere receiver (ledgerAt limits shards receiver .tokens) t;
 }
 
+-- the log with the entry of a call that has registered this transaction here
+abbrev pub logged : Limits → ℕ → Model → ℕ → Transaction → Answer → List Entry
+logged limits place model receiver t answer = noteIf (registers answer) (entryFor limits place (model .shards) receiver t) (model .log)
+
 -- a registration that is carried out is logged, and so is one that a vote brings, at the place of that call
 unfoldable pub logAfter : Limits → ℕ → Model → Call → Answer → List Entry
 logAfter limits place model (mint receiver index owner amount) answer = model .log
-logAfter limits place model (register receiver t) answer = noteIf (registers answer) (entryFor limits place (model .shards) receiver t) (model .log)
-logAfter limits place model (deliver receiver sender verdict t) answer =
-    noteIf (registers answer) (entryFor limits place (model .shards) receiver t) (model .log)
+logAfter limits place model (register receiver t) answer = logged limits place model receiver t answer
+logAfter limits place model (deliver receiver sender verdict t) answer = logged limits place model receiver t answer
 logAfter limits place model (turn receiver) answer = model .log
 
 -- an opening that is carried out is noted

@@ -149,9 +149,7 @@ deliverForm limits me receiver sender verdict t =
 
 -- the rest on an unknown number (document 02, 6): 11 where sender and receiver are one; else the vote brings its transaction, under 9, 10, 17
 abbrev pub bringRest : Limits → ℕ → Ledger → ℕ → Transaction → List (Bool × ℕ)
-bringRest limits me ledger sender t =
-    (eqb sender me, 11)
-    ∷ entryRefusals limits me ledger t
+bringRest limits me ledger sender t = (eqb sender me, 11) ∷ entryRefusals limits me ledger t
 
 -- the rest on a known number: 7, 12
 abbrev pub hearRest : Ledger → ℕ → ℕ → Transaction → List (Bool × ℕ)
@@ -160,7 +158,7 @@ hearRest ledger sender verdict t =
     ∷ (otherVerdict (heardFrom sender (entryOf t (ledger .known))) verdict, 12)
     ∷ []
 
--- the rest
+-- the rest, by whether the number is known
 abbrev pub deliverRest : Limits → ℕ → Ledger → ℕ → ℕ → Transaction → List (Bool × ℕ)
 deliverRest limits me ledger sender verdict t =
     cond (isUnknown t (ledger .known))

@@ -9,7 +9,7 @@ use Rattle.model.specs.declared.Token.{Token}
 use Rattle.model.specs.declared.Known.{Known}
 use Rattle.model.specs.declared.Outcome.{Outcome}
 use Rattle.model.specs.Steps.{Ledger, holding, availableHere, pledges, vote, knownWith, hearing, outcomeOf, afterMint, concluded, isAbortedFor, afterTurn}
-use Rattle.layout.specs.Layout.{shardWords, tokenSlots, knownSlots, Shard, shardOf, withKnown, withTransactions, slotKnown, Becomes}
+use Rattle.layout.specs.Layout.{shardWords, tokenSlots, knownSlots, shardOf, withKnown, withTransactions, slotKnown, Becomes}
 use Rattle.holdings.specs.Held.{Room, Changes}
 use Rattle.shard.specs.View.{number, view}
 
