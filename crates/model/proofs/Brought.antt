@@ -38,13 +38,12 @@ use Rattle.model.specs.Shard.{
   shardStep,
 }
 use Rattle.model.specs.Cluster.{ledgerAt, gave, notGiven, atShard, clusterStep}
-use Rattle.model.specs.Model.{play}
+use Rattle.model.specs.Model.{Model, logged, logAfter, step}
 use Rattle.model.proofs.Basics.{eqb-yes, eqb-no, set-elim}
 use Rattle.model.proofs.Entries.{registered-entry}
 use Rattle.model.proofs.Outcomes.{one≢two, outcome-no, no-abort, abort-stays}
 use Rattle.model.proofs.Refusals.{shard-below, part-in, BringPasses, brought-registers, brought-fresh, brought-known, brought-passes}
 use Rattle.model.proofs.Effects.{ShardEffect, shard-refused, shard-heard, shard-again, shard-brought, shard-effect}
-use Rattle.model.proofs.Steps.{play-inv}
 use Rattle.model.proofs.Votes.{shardCount, Fresh, Brings, own-no, own-yes, votes-bring}
 use Rattle.model.proofs.Tables.{unless-done}
 
@@ -200,22 +199,19 @@ module _ (limits : Limits) (me : ℕ) (ledger : Ledger) (receiver sender verdict
 
 -- ---- In a cluster
 
-module _ (limits : Limits) (calls : List Call) (p sender verdict : ℕ) (t : Transaction) (own : Bool) (o : Outcome)
-    (e : clusterStep limits (play limits calls .shards) (deliver p sender verdict t) .1 ≡ Brought own o) where
-  -- the shards before the vote, the receiver's ledger, and the vote
-  abbrev shards : List Ledger
-  shards = play limits calls .shards
-
+module _ (limits : Limits) (shards : List Ledger) (p sender verdict : ℕ) (t : Transaction) (own : Bool) (o : Outcome)
+    (e : clusterStep limits shards (deliver p sender verdict t) .1 ≡ Brought own o) where
+  -- the receiver's ledger before the vote, and the vote
   abbrev ledger : Ledger
   ledger = ledgerAt limits shards p
 
   abbrev vote-in : Call
   vote-in = deliver p sender verdict t
 
-  -- it is not refused with 16, and so answered by its receiver
-  at-receiver : (notGiven limits shards p sender verdict t ≡ false) × (shardStep limits p ledger vote-in .1 ≡ Brought own o)
+  -- it is not refused with 16, and so answered by its receiver, of which all that was said holds
+  pub brought-at : (notGiven limits shards p sender verdict t ≡ false) × (shardStep limits p ledger vote-in .1 ≡ Brought own o)
   unfolding clusterStep atShard
-  at-receiver = go (notGiven limits shards p sender verdict t) refl e
+  brought-at = go (notGiven limits shards p sender verdict t) refl e
     where
       done : List Ledger × Answer
       done = atShard limits shards p vote-in
@@ -232,24 +228,33 @@ module _ (limits : Limits) (calls : List Call) (p sender verdict : ℕ) (t : Tra
   pub brings-first-in : clusterStep limits shards (register p t) ≡ (between, Registered own (outcomeOf (newlyKnown p (ledger .tokens) t)))
   unfolding clusterStep atShard
   brings-first-in =
-      let first = brings-first limits p ledger p sender verdict t own o (at-receiver .1) in
+      let first = brings-first limits p ledger p sender verdict t own o (brought-at .1) in
       λ i. (set shards p (first i .0), first i .1)
 
   -- then the vote
-  pub brings-then-in : clusterStep limits between vote-in ≡ (clusterStep limits shards vote-in .0, Heard o)
+  pub brings-then-in : length shards ≡ 8 → clusterStep limits between vote-in ≡ (clusterStep limits shards vote-in .0, Heard o)
   unfolding clusterStep atShard notGiven
-  brings-then-in =
-      let b = bringing limits p ledger p sender verdict t own o (at-receiver .1) in
-      let second = brings-then limits p ledger p sender verdict t own o (at-receiver .1) in
-      let below : p < length shards = let n = play-inv limits calls .eight in let s = shard-below p (b .passes .passes .form .receiver-fits) in omega arith in
+  brings-then-in eight =
+      let b = bringing limits p ledger p sender verdict t own o (brought-at .1) in
+      let second = brings-then limits p ledger p sender verdict t own o (brought-at .1) in
+      let below : p < length shards = let s = shard-below p (b .passes .passes .form .receiver-fits) in omega arith in
       let here : ledgerAt limits between p ≡ afterRegister p ledger t = getD-set-same shards p (afterRegister p ledger t) (emptyLedger limits) below in
       let others : ledgerAt limits between sender ≡ ledgerAt limits shards sender =
       getD-set-other shards p sender (afterRegister p ledger t) (emptyLedger limits) (b .passes .from-other) in
       let form = eqb (firstOf (deliverForm limits p p sender verdict t)) 0 in
-      let given : notGiven limits between p sender verdict t ≡ false = ap (λ (l : Ledger). form && not (gave l sender verdict t)) others ∙ at-receiver .0 in
+      let given : notGiven limits between p sender verdict t ≡ false = ap (λ (l : Ledger). form && not (gave l sender verdict t)) others ∙ brought-at .0 in
       let after : Ledger = shardStep limits p ledger vote-in .0 in
       ap (λ (b : Bool). cond b (between, Refused 16) (atShard limits between p vote-in)) given
       ∙ ap (λ (l : Ledger). (set between p (shardStep limits p l vote-in .0), shardStep limits p l vote-in .1)) here
       ∙ (λ i. (set between p (second i .0), second i .1))
       ∙ (λ i. (set-set shards p (afterRegister p ledger t) after i, Heard o))
-      ∙ (λ i. (cond (sym (at-receiver .0) i) (shards, Refused 16) (atShard limits shards p vote-in) .0, Heard o))
+      ∙ (λ i. (cond (sym (brought-at .0) i) (shards, Refused 16) (atShard limits shards p vote-in) .0, Heard o))
+
+-- the log is the one that the registration would have left at the place of the vote's call
+pub brings-log : (limits : Limits) (place : ℕ) (model : Model) (p sender verdict : ℕ) (t : Transaction) (own : Bool) (o : Outcome)
+    → step limits place model (deliver p sender verdict t) .1 ≡ Brought own o
+    → step limits place model (deliver p sender verdict t) .0 .log ≡ step limits place model (register p t) .0 .log
+unfolding step logAfter
+brings-log limits place model p sender verdict t own o e =
+    let first = brings-first-in limits (model .shards) p sender verdict t own o e in
+    ap (logged limits place model p t) e ∙ sym (ap (λ (done : List Ledger × Answer). logged limits place model p t (done .1)) first)

@@ -199,5 +199,5 @@ module _ (limits : Limits) (calls : List Call) (p : ℕ) (t : Transaction) (free
     pub free-brought : (v : Bool) (o : Outcome)
         → clusterStep limits (play limits calls .shards) (deliver p sender verdict t) .1 ≡ Brought v o → v ≡ true
     free-brought v o e =
-        let registered = brings-first-in limits calls p sender verdict t v o e in
+        let registered = brings-first-in limits (play limits calls .shards) p sender verdict t v o e in
         free-voted v outcome (ap (λ (r : List Ledger × Answer). r .1) registered)
