@@ -32,15 +32,15 @@ static const char *const CAUSES[] = {
     "receiver or sender not among the swap's pantries",
     "number known here for a different swap",
     "kind 1: this swap known here",
-    "kind 1: 32 swaps known",
-    "kind 1: tokens would pass 128",
+    "kind 1 or 2: 32 swaps known",
+    "kind 1 or 2: tokens would pass 128",
     "kind 2: number unknown here",
     "kind 2: other verdict heard from this sender",
     "kind 3: a swap is known here",
     "kind 3: this opening position was given",
     "writer: lent bytes fewer than the record",
     "round, kind 2: sender has not given this vote on this swap",
-    "kind 1: takes what an undecided swap is to make here",
+    "kind 1 or 2: takes what an undecided swap is to make here",
     "",
     "kind 4: this pantry is turned already",
 };
@@ -71,10 +71,11 @@ static uint8_t *read_all(FILE *file, const char *name, size_t *length)
     return bytes;
 }
 
-/* The first word of the answer to a registration or a vote. */
+/* The first word of the answer to a registration or a vote. A swap that a vote has brought reads
+ * like one that was registered. */
 static const char *first_word(uint32_t answer)
 {
-    if (PLANKEEPER_IS_REGISTERED(answer))
+    if (PLANKEEPER_IS_REGISTERED(answer) || PLANKEEPER_IS_BROUGHT(answer))
         return PLANKEEPER_VERDICT(answer) == PLANKEEPER_YES ? "YES" : "NO";
     return PLANKEEPER_IS_HEARD(answer) ? "HEARD" : "AGAIN";
 }

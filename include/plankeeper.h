@@ -4,11 +4,12 @@
  * registers it, pledges the tokens it finds available, votes yes or no, hears the votes of the
  * other shards, and decides alone: abort as soon as it has heard one no, its own included, and
  * commit once it has heard all votes and each is yes. No two shards of a cluster decide one
- * transaction differently, and none changes its decision, in whatever order the calls come. What
- * an aborted transaction has pledged at a shard stays pledged, unless the shard is turned: then it
- * comes free. Each shard is turned by a call, when the caller likes. The functions are in the
- * static library libengine.a; what each returns, and what it leaves in memory, is proved for
- * everything that it may be handed.
+ * transaction differently, and none changes its decision, in whatever order the calls come. A
+ * vote brings its transaction to a shard that does not know it, so that it need not be registered
+ * everywhere by a call. What an aborted transaction has pledged at a shard stays pledged, unless
+ * the shard is turned: then it comes free. Each shard is turned by a call, when the caller likes.
+ * The functions are in the static library libengine.a; what each returns, and what it leaves in
+ * memory, is proved for everything that it may be handed.
  *
  * Owner 10 moves a token of amount 3 from shard 0 to shard 1, in transaction 5:
  *
@@ -194,21 +195,27 @@ enum plankeeper_outcome {
 };
 
 /* The causes of refusal. A call is refused with the first that fits, in this order: 1 to 6; then
- * a registration 7, 8, 9, 10, 17; a vote 16 (in a cluster only), 11, 7, 12; a mint 13, 14; a turn
- * 19. A writer looks for 3, 4, 5, 15. No bytes at all are 2. A refused call changes nothing.
+ * a registration 7, 8, 9, 10, 17; a vote 16 (in a cluster only), and then, on a number that the
+ * receiver knows, 7, 12, on one that it does not know 9, 10, 17, or 11 at a lone shard for its own
+ * vote; a mint 13, 14; a turn 19. A writer looks for 3, 4, 5, 15. No bytes at all are 2. A refused
+ * call changes nothing.
+ *
+ * A vote on a number that the receiver does not know brings its transaction, which is registered
+ * there first. 9, 10 and 17 are about that, as they are about a registration: then the vote is not
+ * heard either, and may be sent again. (After 9 it is in vain: no transaction is forgotten.)
  *
  * 17 holds a transaction off: it takes a token, whoever is named as its owner and whatever its
  * amount, that another transaction is to make at this shard, which knows that one and has not
  * decided it. Send it again once the other is decided there (plankeeper_outcome_of tells): after a
- * commit the token is there, after an abort it never comes and the vote is no. An abort comes with
- * the first no; so an aborted transaction holds nobody off, and what it was to make takes no room
- * (10), whatever votes on it are missing.
+ * commit the token is there, after an abort it never comes and the shard votes no. An abort comes
+ * with the first no; so an aborted transaction holds nobody off, and what it was to make takes no
+ * room (10), whatever votes on it are missing.
  * Two transactions that each take what the other is to make may wait for each other for good.
  *
  * Who gives it: r plankeeper_read; w the writers (plankeeper_write_...), of records that have the
  * field; m mint, g register, v votes (plankeeper_deliver, plankeeper_shard_hear), t turn, in a
  * cluster and at a lone shard. plankeeper_apply gives those of r and of the call that the record
- * is. At a lone shard 3 is also the answer to a call for another shard. 12 is given by
+ * is. At a lone shard 3 is also the answer to a call for another shard. 11 and 12 are given by
  * plankeeper_shard_hear alone, and 16 by plankeeper_deliver and plankeeper_apply alone.
  *
  *    No.  Given by     Cause, in document 01's words
@@ -220,15 +227,15 @@ enum plankeeper_outcome {
  *      6        g v    receiver or sender not among the swap's pantries
  *      7        g v    number known here for a different swap
  *      8        g      kind 1: this swap known here
- *      9        g      kind 1: 32 swaps known
- *     10        g      kind 1: tokens would pass 128
+ *      9        g v    kind 1 or 2: 32 swaps known
+ *     10        g v    kind 1 or 2: tokens would pass 128
  *     11          v    kind 2: number unknown here
  *     12          v    kind 2: other verdict heard from this sender
  *     13      m        kind 3: a swap is known here
  *     14      m        kind 3: this opening position was given
  *     15    w          writer: lent bytes fewer than the record
  *     16          v    round, kind 2: sender has not given this vote on this swap
- *     17        g      kind 1: takes what an undecided swap is to make here
+ *     17        g v    kind 1 or 2: takes what an undecided swap is to make here
  *     19            t  kind 4: this pantry is turned already
  */
 enum plankeeper_refusal {
@@ -255,10 +262,12 @@ enum plankeeper_refusal {
 /* The answers to calls that are carried out; a call that is refused is answered with the
  * refusal's number. Registered: the shard's own verdict, and then the outcome there. Heard: a
  * vote heard for the first time, also one that comes after an abort: it is noted, and the
- * transaction stays aborted. Again: a vote that was heard before, and nothing is changed.
- * (NO_WAIT, NO_COMMIT and YES_ABORT have numbers and are never given: a shard that votes no aborts
- * at once, and one that votes yes has then heard no other vote. NO_WAIT was given as long as a no
- * waited for the other votes.) */
+ * transaction stays aborted. Again: a vote that was heard before, and nothing is changed. Brought:
+ * a vote on a number that the shard did not know, whose transaction is registered first, and then
+ * the vote is heard; the shard's own verdict, and the outcome there after both.
+ * (Never given, although they have numbers: NO_WAIT and NO_COMMIT, registered or brought, for a
+ * shard that votes no aborts at once; and YES_ABORT of a registration, for a shard that votes yes
+ * has then heard no other vote. NO_WAIT was given as long as a no waited for the other votes.) */
 enum plankeeper_answer {
     PLANKEEPER_OPENED = 100, /* the genesis token is given */
     PLANKEEPER_NO_WAIT = 200,
@@ -273,7 +282,13 @@ enum plankeeper_answer {
     PLANKEEPER_AGAIN_WAIT = 400,
     PLANKEEPER_AGAIN_COMMIT = 401,
     PLANKEEPER_AGAIN_ABORT = 402,
-    PLANKEEPER_TURNED = 500 /* the shard is turned */
+    PLANKEEPER_TURNED = 500, /* the shard is turned */
+    PLANKEEPER_BROUGHT_NO_WAIT = 600,
+    PLANKEEPER_BROUGHT_NO_COMMIT = 601,
+    PLANKEEPER_BROUGHT_NO_ABORT = 602,
+    PLANKEEPER_BROUGHT_YES_WAIT = 610,
+    PLANKEEPER_BROUGHT_YES_COMMIT = 611,
+    PLANKEEPER_BROUGHT_YES_ABORT = 612
 };
 
 /* What an answer says. */
@@ -281,9 +296,11 @@ enum plankeeper_answer {
 #define PLANKEEPER_IS_REGISTERED(answer) ((answer) / 100u == 2u)
 #define PLANKEEPER_IS_HEARD(answer) ((answer) / 100u == 3u)
 #define PLANKEEPER_IS_AGAIN(answer) ((answer) / 100u == 4u)
+#define PLANKEEPER_IS_BROUGHT(answer) ((answer) / 100u == 6u)
 
-/* The verdict (PLANKEEPER_NO or PLANKEEPER_YES) in the answer to a registration, and the outcome
- * (PLANKEEPER_WAIT, _COMMIT or _ABORT) in that to a registration or a vote. */
+/* The shard's own verdict (PLANKEEPER_NO or PLANKEEPER_YES) in the answer to a registration or to
+ * a vote that has brought its transaction, and the outcome (PLANKEEPER_WAIT, _COMMIT or _ABORT) in
+ * that to a registration or to any vote. */
 #define PLANKEEPER_VERDICT(answer) ((answer) / 10u % 10u)
 #define PLANKEEPER_OUTCOME(answer) ((answer) % 10u)
 
@@ -319,8 +336,10 @@ uint32_t plankeeper_register(plankeeper *cluster, uint32_t receiver,
 
 /* Delivers the sending shard's vote on the transaction, PLANKEEPER_YES or PLANKEEPER_NO, to the
  * receiving shard. The first no aborts the transaction there; where all are yes, the last of them
- * commits it. A vote that the sender has not given is refused. Returns one of
- * PLANKEEPER_HEARD_... and PLANKEEPER_AGAIN_..., or a refusal. */
+ * commits it. A vote that the sender has not given is refused. One on a number that the receiver
+ * does not know brings the transaction: it is registered there, as plankeeper_register does it,
+ * and then the vote is heard; if it cannot be registered (9, 10, 17), nothing is changed. Returns
+ * one of PLANKEEPER_HEARD_..., PLANKEEPER_AGAIN_... and PLANKEEPER_BROUGHT_..., or a refusal. */
 uint32_t plankeeper_deliver(plankeeper *cluster, uint32_t receiver, uint32_t sender,
                             uint32_t verdict,
                             const uint32_t transaction[PLANKEEPER_TRANSACTION_WORDS]);
@@ -384,8 +403,8 @@ uint32_t plankeeper_shard_register(plankeeper_shard *shard, uint32_t receiver,
                                    const uint32_t transaction[PLANKEEPER_TRANSACTION_WORDS]);
 
 /* As plankeeper_deliver, but nobody looks whether the sender has given this vote; the other
- * verdict from the same sender is refused (12). The receiver is this shard's number, else it is
- * refused (3). */
+ * verdict from the same sender is refused (12), and so is the shard's own vote on a number that it
+ * does not know (11). The receiver is this shard's number, else it is refused (3). */
 uint32_t plankeeper_shard_hear(plankeeper_shard *shard, uint32_t receiver, uint32_t sender,
                                uint32_t verdict,
                                const uint32_t transaction[PLANKEEPER_TRANSACTION_WORDS]);

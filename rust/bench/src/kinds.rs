@@ -24,12 +24,13 @@ use reference::{Answer, Cluster, Done, LIMITS, Record};
 use crate::ledgers::{Week, code, folded};
 
 /// Kinds of calls, in the order of the table.
-pub const KINDS: [&str; 9] = [
+pub const KINDS: [&str; 10] = [
     "mint",
     "mint refused",
     "register done",
     "register refused",
     "vote fresh",
+    "vote bringing",
     "vote again",
     "vote refused",
     "turn",
@@ -159,10 +160,11 @@ fn kind(record: &Record, answer: Answer) -> usize {
         (Record::Mint { .. }, Err(_)) => 1,
         (Record::Register { .. }, Ok(_)) => 2,
         (Record::Register { .. }, Err(_)) => 3,
-        (Record::Vote { .. }, Ok(Done::Again(_))) => 5,
+        (Record::Vote { .. }, Ok(Done::Brought { .. })) => 5,
+        (Record::Vote { .. }, Ok(Done::Again(_))) => 6,
         (Record::Vote { .. }, Ok(_)) => 4,
-        (Record::Vote { .. }, Err(_)) => 6,
-        (Record::Turn { .. }, Ok(_)) => 7,
-        (Record::Turn { .. }, Err(_)) => 8,
+        (Record::Vote { .. }, Err(_)) => 7,
+        (Record::Turn { .. }, Ok(_)) => 8,
+        (Record::Turn { .. }, Err(_)) => 9,
     }
 }

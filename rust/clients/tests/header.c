@@ -345,6 +345,33 @@ static void play_turned(void)
     EQUAL(plankeeper_total(cluster), 2);
 }
 
+/* ---- Votes that bring their transactions */
+
+/* Each transaction is registered at one shard, and votes bring it to the others. Shard 2 has no
+ * token, and votes no on the second. */
+static void play_brought(void)
+{
+    plankeeper *cluster = fresh_cluster();
+    transaction two, three;
+    move(two, 1, 0, 0, 1);
+    move(three, 2, 0, 1, 1);
+    take(three, 2, 0, 9, 1);
+    give(three, 3, 9, 1);
+    EQUAL(plankeeper_mint(cluster, 0, 0, 9, 1), PLANKEEPER_OPENED);
+    EQUAL(plankeeper_mint(cluster, 0, 1, 9, 1), PLANKEEPER_OPENED);
+    EQUAL(plankeeper_register(cluster, 0, two), PLANKEEPER_YES_WAIT);
+    EQUAL(plankeeper_deliver(cluster, 1, 0, YES, two), PLANKEEPER_BROUGHT_YES_COMMIT);
+    EQUAL(plankeeper_deliver(cluster, 1, 0, YES, two), PLANKEEPER_AGAIN_COMMIT);
+    EQUAL(plankeeper_register(cluster, 1, two), PLANKEEPER_REFUSED_KNOWN_ALREADY);
+    EQUAL(plankeeper_deliver(cluster, 0, 1, YES, two), PLANKEEPER_HEARD_COMMIT);
+    EQUAL(plankeeper_register(cluster, 0, three), PLANKEEPER_YES_WAIT);
+    EQUAL(plankeeper_deliver(cluster, 1, 0, YES, three), PLANKEEPER_BROUGHT_YES_WAIT);
+    EQUAL(plankeeper_deliver(cluster, 2, 1, YES, three), PLANKEEPER_BROUGHT_NO_ABORT);
+    EQUAL(plankeeper_deliver(cluster, 3, 2, NO, three), PLANKEEPER_BROUGHT_YES_ABORT);
+    EQUAL(plankeeper_outcome_of(cluster, 3, 2), PLANKEEPER_ABORT);
+    EQUAL(plankeeper_total_at(cluster, 1), 1);
+}
+
 /* ---- Refusals: each by its name, and nothing is changed */
 
 static void refused(uint32_t answer, uint32_t expected, int line)
@@ -399,34 +426,48 @@ static void refuse_when_full(void)
     REFUSES(plankeeper_mint(cluster, 0, 0, 9, 1), INDEX_GIVEN);
     move(t, 1, 0, 0, 0);
     REFUSES(plankeeper_register(cluster, 0, t), TOKENS_FULL);
+    move(t, 1, 2, 0, 0);
+    EQUAL(plankeeper_register(cluster, 2, t), PLANKEEPER_NO_ABORT);
+    memcpy(cluster_copy, cluster_words, sizeof cluster_words);
+    REFUSES(plankeeper_deliver(cluster, 0, 2, NO, t), TOKENS_FULL);
     for (i = 1; i <= PLANKEEPER_MAX_KNOWN; i++) {
         move(t, i, 0, 0, 1);
         EQUAL(plankeeper_register(cluster, 0, t), PLANKEEPER_NO_ABORT);
     }
     EQUAL(plankeeper_known_count(cluster, 0), PLANKEEPER_MAX_KNOWN);
-    memcpy(cluster_copy, cluster_words, sizeof cluster_words);
-    REFUSES(plankeeper_deliver(cluster, 1, 0, NO, t), NUMBER_UNKNOWN);
     move(t, 33, 0, 0, 1);
+    EQUAL(plankeeper_register(cluster, 1, t), PLANKEEPER_YES_WAIT);
+    memcpy(cluster_copy, cluster_words, sizeof cluster_words);
     REFUSES(plankeeper_register(cluster, 0, t), TRANSACTIONS_FULL);
+    REFUSES(plankeeper_deliver(cluster, 0, 1, YES, t), TRANSACTIONS_FULL);
 }
 
 /* One that takes what another is to make at a shard, until that has decided the other. */
 static void refuse_close_behind(void)
 {
     plankeeper *cluster = fresh_cluster();
-    transaction first, second;
+    transaction first, second, third;
     move(first, 1, 0, 0, 1);
+    give(first, 1, 9, 1);
+    take(first, 0, 1, 9, 1);
     move(second, 2, 1, 0, 1);
     second[PLANKEEPER_INPUT_CREATOR(0)] = 1;
+    move(third, 3, 1, 1, 2);
+    third[PLANKEEPER_INPUT_CREATOR(0)] = 1;
     EQUAL(plankeeper_mint(cluster, 0, 0, 9, 1), PLANKEEPER_OPENED);
+    EQUAL(plankeeper_mint(cluster, 0, 1, 9, 1), PLANKEEPER_OPENED);
     EQUAL(plankeeper_register(cluster, 0, first), PLANKEEPER_YES_WAIT);
     EQUAL(plankeeper_register(cluster, 1, first), PLANKEEPER_YES_WAIT);
+    EQUAL(plankeeper_register(cluster, 2, third), PLANKEEPER_YES_WAIT);
     memcpy(cluster_copy, cluster_words, sizeof cluster_words);
     REFUSES(plankeeper_register(cluster, 1, second), HELD_OFF);
+    REFUSES(plankeeper_deliver(cluster, 1, 2, YES, third), HELD_OFF);
     EQUAL(plankeeper_outcome_of(cluster, 1, 1), PLANKEEPER_WAIT);
     EQUAL(plankeeper_outcome_of(cluster, 1, 2), PLANKEEPER_UNKNOWN);
+    EQUAL(plankeeper_outcome_of(cluster, 1, 3), PLANKEEPER_UNKNOWN);
     EQUAL(plankeeper_deliver(cluster, 1, 0, YES, first), PLANKEEPER_HEARD_COMMIT);
     EQUAL(plankeeper_register(cluster, 1, second), PLANKEEPER_YES_COMMIT);
+    EQUAL(plankeeper_deliver(cluster, 1, 2, YES, third), PLANKEEPER_BROUGHT_YES_COMMIT);
 }
 
 /* By its fields and by its bytes; 3 goes before 19. */
@@ -477,7 +518,7 @@ static void play_shard(void)
     EQUAL(plankeeper_shard_mint(shard, 0, 0, 20, 2), PLANKEEPER_REFUSED_OUT_OF_RANGE);
     EQUAL(plankeeper_shard_mint(shard, 1, 0, 20, 2), PLANKEEPER_OPENED);
     EQUAL(plankeeper_shard_mint(shard, 1, 0, 20, 2), PLANKEEPER_REFUSED_INDEX_GIVEN);
-    EQUAL(plankeeper_shard_hear(shard, 1, 0, YES, t), PLANKEEPER_REFUSED_NUMBER_UNKNOWN);
+    EQUAL(plankeeper_shard_hear(shard, 1, 1, YES, t), PLANKEEPER_REFUSED_NUMBER_UNKNOWN);
     EQUAL(plankeeper_shard_register(shard, 1, t), PLANKEEPER_YES_WAIT);
     EQUAL(plankeeper_shard_register(shard, 1, t), PLANKEEPER_REFUSED_KNOWN_ALREADY);
     EQUAL(plankeeper_shard_outcome_of(shard, 5), PLANKEEPER_WAIT);
@@ -492,6 +533,11 @@ static void play_shard(void)
     EQUAL(plankeeper_shard_turn(shard, 1), PLANKEEPER_TURNED);
     EQUAL(plankeeper_shard_turn(shard, 1), PLANKEEPER_REFUSED_TURNED_ALREADY);
     EQUAL(plankeeper_shard_is_turned(shard), 1);
+    check_shard(shard, t);
+    /* The vote of shard 0 brings it to another one that is like it. */
+    shard = fresh_shard(1);
+    EQUAL(plankeeper_shard_mint(shard, 1, 0, 20, 2), PLANKEEPER_OPENED);
+    EQUAL(plankeeper_shard_hear(shard, 1, 0, YES, t), PLANKEEPER_BROUGHT_YES_COMMIT);
     check_shard(shard, t);
     EQUAL(plankeeper_shard_words(), PLANKEEPER_SHARD_WORDS);
     EQUAL(FUNCTIONS.words(), PLANKEEPER_WORDS);
@@ -629,7 +675,7 @@ static void refuse_to_write(void)
 
 /* ---- Answers taken apart */
 
-enum { REFUSED, OPENED, REGISTERED, HEARD, AGAIN, TURNED };
+enum { REFUSED, OPENED, REGISTERED, HEARD, AGAIN, TURNED, BROUGHT };
 
 static void check_kind(uint32_t answer, int kind)
 {
@@ -637,28 +683,31 @@ static void check_kind(uint32_t answer, int kind)
     EQUAL(PLANKEEPER_IS_REGISTERED(answer), kind == REGISTERED);
     EQUAL(PLANKEEPER_IS_HEARD(answer), kind == HEARD);
     EQUAL(PLANKEEPER_IS_AGAIN(answer), kind == AGAIN);
+    EQUAL(PLANKEEPER_IS_BROUGHT(answer), kind == BROUGHT);
 }
 
 static void take_answers_apart(void)
 {
-    static const uint32_t NAMED[4][3] = {
+    static const uint32_t NAMED[6][3] = {
         {PLANKEEPER_NO_WAIT, PLANKEEPER_NO_COMMIT, PLANKEEPER_NO_ABORT},
         {PLANKEEPER_YES_WAIT, PLANKEEPER_YES_COMMIT, PLANKEEPER_YES_ABORT},
+        {PLANKEEPER_BROUGHT_NO_WAIT, PLANKEEPER_BROUGHT_NO_COMMIT, PLANKEEPER_BROUGHT_NO_ABORT},
+        {PLANKEEPER_BROUGHT_YES_WAIT, PLANKEEPER_BROUGHT_YES_COMMIT, PLANKEEPER_BROUGHT_YES_ABORT},
         {PLANKEEPER_HEARD_WAIT, PLANKEEPER_HEARD_COMMIT, PLANKEEPER_HEARD_ABORT},
         {PLANKEEPER_AGAIN_WAIT, PLANKEEPER_AGAIN_COMMIT, PLANKEEPER_AGAIN_ABORT},
     };
-    static const int KINDS[4] = {REGISTERED, REGISTERED, HEARD, AGAIN};
+    static const int KINDS[6] = {REGISTERED, REGISTERED, BROUGHT, BROUGHT, HEARD, AGAIN};
     uint32_t number, row, outcome;
     for (number = 1; number <= PLANKEEPER_REFUSED_TURNED_ALREADY; number++)
         check_kind(number, REFUSED);
     check_kind(PLANKEEPER_OPENED, OPENED);
     check_kind(PLANKEEPER_TURNED, TURNED);
-    for (row = 0; row < 4; row++)
+    for (row = 0; row < 6; row++)
         for (outcome = PLANKEEPER_WAIT; outcome <= PLANKEEPER_ABORT; outcome++) {
             check_kind(NAMED[row][outcome], KINDS[row]);
             EQUAL(PLANKEEPER_OUTCOME(NAMED[row][outcome]), outcome);
-            if (row < 2)
-                EQUAL(PLANKEEPER_VERDICT(NAMED[row][outcome]), row);
+            if (row < 4)
+                EQUAL(PLANKEEPER_VERDICT(NAMED[row][outcome]), row % 2);
         }
 }
 
@@ -667,6 +716,7 @@ int main(void)
     play_example();
     play_others();
     play_turned();
+    play_brought();
     refuse_in_the_example();
     refuse_when_full();
     refuse_close_behind();

@@ -49,11 +49,12 @@ fn declares_what_the_library_defines() {
     assert_eq!(declared, defined);
 }
 
-/// The answers' numbers by the definition, and their names by the listing's
-/// words.
+/// The answers' numbers by the definition, and their names by their labels.
 fn answers() -> impl Iterator<Item = (String, u64)> {
-    DONE.iter()
-        .map(|reply| (reply.words.replace(' ', "_"), reply.code.into()))
+    DONE.iter().map(|reply| {
+        let name = reply.label.to_uppercase().replace(' ', "_");
+        (name, reply.code.into())
+    })
 }
 
 /// The refusals' numbers and names.

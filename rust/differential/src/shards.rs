@@ -28,6 +28,7 @@ pub fn full_shard_week(rng: &mut Rng) -> (u8, Vec<Record>) {
         here: rng.pick(&[3, 5, 7]),
         damage: None,
         yes: 14,
+        brought: rng.pick(&[0, 4]),
         turns: Turns::random(rng, calls),
     };
     shard_week_of(rng, style)

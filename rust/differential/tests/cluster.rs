@@ -4,8 +4,8 @@ use differential::{Player, Rng, SEED};
 use engine::{answer_code, cluster};
 use reference::decode;
 use weeks::{
-    CLUSTER_EVENTS, EARLY_ABORTS, Giver, SHARD_EVENTS, TURNS, cluster_week, count_weeks, given_by,
-    never_given_by,
+    BROUGHT, BROUGHT_LATER, CLUSTER_EVENTS, EARLY_ABORTS, Giver, SHARD_EVENTS, TURNS, cluster_week,
+    count_weeks, given_by, never_given_by,
 };
 
 const WEEKS: u64 = 83_000;
@@ -31,9 +31,12 @@ fn random_weeks_of_a_cluster() {
     let title = format!("a cluster, {calls} calls in {WEEKS} weeks");
     tally.report(&title, &given_by(&[Giver::Cluster]), LEAST);
     // What is held off is sent again and again, and one no often lets another
-    // through. Shards that are turned meet others that are not.
+    // through. Shards that are turned meet others that are not, and votes that
+    // bring a transaction come from those that a vote has brought it to.
     let often = [
         "REFUSED 17",
+        "brought by the vote of one that was brought",
+        "committed, brought to two of its shards or more",
         "not too full, another aborted early",
         "not held off, another aborted early",
         "committed, turned at some of its shards",
@@ -43,6 +46,8 @@ fn random_weeks_of_a_cluster() {
     tally.check(&title, &SHARD_EVENTS, LEAST);
     tally.check(&title, &EARLY_ABORTS, LEAST);
     tally.check(&title, &TURNS, 10 * LEAST);
+    tally.check(&title, &BROUGHT, 10 * LEAST);
+    tally.check(&title, &BROUGHT_LATER, LEAST);
     tally.check(&title, &CLUSTER_EVENTS, LEAST);
     tally.check_never(&title, &never_given_by(&[Giver::Cluster]));
 }

@@ -13,7 +13,7 @@ use weeks::{Giver, Playable, Tally, cluster_week, count_weeks, given_by, label, 
 /// damaged call before each true one.
 const BYTE_WEEKS: u64 = 4_300;
 const CLUSTER_WEEKS: u64 = 4_200;
-const SHARD_WEEKS: u64 = 4_200;
+const SHARD_WEEKS: u64 = 6_200;
 /// As many damaged calls have to be made in each way.
 const CALLS: usize = 1_000_000;
 /// How often each answer has to be met, and a damaged call that is carried out.

@@ -8,7 +8,8 @@ use differential::{ClusterPlayer, Player};
 use plankeeper::Cluster;
 use reference::Record;
 use weeks::{
-    Clauses, Scenario, Tally, View, carried_out, changes_nothing, label, scenarios, share_out,
+    Clauses, Giver, Scenario, Tally, View, carried_out, changes_nothing, label, never_given_by,
+    scenarios, share_out,
 };
 
 /// Printed beside a failing call: there, an order counts as a week.
@@ -113,7 +114,8 @@ fn every_order_of_every_scenario() {
     }
     let title = format!("all scenarios, {orders} orders");
     all.report(&title, &carried_out(), 1000);
-    let refused = [7, 11, 16, 17, 19].map(|number| format!("REFUSED {number}"));
+    let refused = [7, 8, 16, 17, 19].map(|number| format!("REFUSED {number}"));
     all.check(&title, &refused, 1000);
-    assert_eq!(orders, 640_846, "orders");
+    all.check_never(&title, &never_given_by(&[Giver::Cluster]));
+    assert_eq!(orders, 691_966, "orders");
 }

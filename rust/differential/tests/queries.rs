@@ -9,9 +9,9 @@ use weeks::{
     ClusterStyle, Tally, Turns, cluster_week, cluster_week_of, count_weeks, receiver, shard_week,
 };
 
-const WEEKS: u64 = 1_900;
+const WEEKS: u64 = 2_200;
 /// From this week on, shards run full.
-const FULL: u64 = 1_600;
+const FULL: u64 = 1_900;
 /// How often each kind of state has to be met by a query.
 const LEAST: u64 = 3_000;
 
@@ -126,6 +126,7 @@ fn full_cluster_week(rng: &mut Rng) -> Vec<Record> {
         amounts: 60,
         new: 20,
         due: 50,
+        left_out: rng.pick(&[0, 8]),
         damage: None,
         turns: Turns::random(rng, calls),
     };

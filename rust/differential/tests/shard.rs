@@ -3,11 +3,11 @@
 use differential::{Player, Rng, SEED, Shards, full_shard_week, shards};
 use reference::Record;
 use weeks::{
-    EARLY_ABORTS, Giver, Playable, SHARD_EVENTS, TURNS, Tally, count_weeks, given_by,
-    never_given_by, shard_week,
+    BROUGHT, BROUGHT_LATER, EARLY_ABORTS, Giver, Playable, SHARD_EVENTS, TURNS, Tally, count_weeks,
+    given_by, never_given_by, shard_week,
 };
 
-const WEEKS: u64 = 42_000;
+const WEEKS: u64 = 61_000;
 const CALLS: usize = 10_000_000;
 const FULL_WEEKS: u64 = 4_000;
 /// Weeks in which the shard runs full are numbered from here.
@@ -45,6 +45,8 @@ fn random_weeks_of_a_shard() {
     tally.check(&title, &SHARD_EVENTS, LEAST);
     tally.check(&title, &EARLY_ABORTS, LEAST);
     tally.check(&title, &TURNS, LEAST);
+    tally.check(&title, &BROUGHT, LEAST);
+    tally.check(&title, &BROUGHT_LATER, LEAST / 10);
     tally.check_never(&title, &never_given_by(&[Giver::Shard]));
 }
 
@@ -64,6 +66,8 @@ fn weeks_of_a_full_shard() {
         "32 transactions known",
         "freed space used again",
         "not too full, another aborted early",
+        "vote refused with 9",
+        "vote refused with 10",
     ];
     let title = format!("a full shard, {calls} calls in {FULL_WEEKS} weeks");
     tally.report(&title, &labels, LEAST);

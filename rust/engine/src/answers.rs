@@ -17,6 +17,13 @@ pub fn answer(answer: Result<plankeeper::Answer, plankeeper::Refusal>) -> Answer
         Ok(plankeeper::Answer::Heard(decided)) => Ok(Done::Heard(outcome(decided))),
         Ok(plankeeper::Answer::Again(decided)) => Ok(Done::Again(outcome(decided))),
         Ok(plankeeper::Answer::Turned) => Ok(Done::Turned),
+        Ok(plankeeper::Answer::Brought {
+            verdict: said,
+            outcome: decided,
+        }) => Ok(Done::Brought {
+            verdict: verdict(said),
+            outcome: outcome(decided),
+        }),
     }
 }
 
@@ -55,11 +62,15 @@ pub fn answer_code(answer: Answer) -> u32 {
     match answer {
         Err(refusal) => refusal.number().into(),
         Ok(Done::Minted) => 100,
-        Ok(Done::Registered { verdict, outcome }) => {
-            200 + 10 * u32::from(verdict == Verdict::Yes) + outcome_code(outcome)
-        }
+        Ok(Done::Registered { verdict, outcome }) => 200 + entered_code(verdict, outcome),
         Ok(Done::Heard(outcome)) => 300 + outcome_code(outcome),
         Ok(Done::Again(outcome)) => 400 + outcome_code(outcome),
         Ok(Done::Turned) => 500,
+        Ok(Done::Brought { verdict, outcome }) => 600 + entered_code(verdict, outcome),
     }
+}
+
+/// What the code of an answer tells of a transaction that the shard knows now.
+fn entered_code(verdict: Verdict, outcome: Outcome) -> u32 {
+    10 * u32::from(verdict == Verdict::Yes) + outcome_code(outcome)
 }

@@ -30,7 +30,8 @@ pub enum Outcome {
 }
 
 /// What came of a call that was carried out. Shown as text it is the listing's
-/// words.
+/// words, which tell no difference between a transaction that was registered by
+/// its own call and one that a vote has brought.
 ///
 /// ```
 /// use plankeeper::{Answer, Outcome, Verdict};
@@ -38,6 +39,7 @@ pub enum Outcome {
 /// let (verdict, outcome) = (Verdict::Yes, Outcome::Wait);
 /// assert_eq!(Answer::Registered { verdict, outcome }.to_string(), "YES WAIT");
 /// assert_eq!(Answer::Heard(Outcome::Commit).to_string(), "HEARD COMMIT");
+/// assert_eq!(Answer::Brought { verdict, outcome }.to_string(), "YES WAIT");
 /// ```
 #[derive(Clone, Copy, Debug, PartialEq, Eq, Hash)]
 pub enum Answer {
@@ -60,6 +62,15 @@ pub enum Answer {
     /// The shard is turned now: what aborted transactions had pledged there is
     /// free, and each later abort frees what is pledged to its transaction.
     Turned,
+    /// The vote was on a number that the shard did not know, and has brought
+    /// its transaction: the shard has registered it and then heard the vote.
+    Brought {
+        /// The shard's own vote.
+        verdict: Verdict,
+        /// What the shard has decided with both votes: abort where one of them
+        /// is no, and commit where both are yes and there is no third shard.
+        outcome: Outcome,
+    },
 }
 
 impl Outcome {
@@ -90,11 +101,19 @@ pub fn answer_code(answer: &Result<Answer, Refusal>) -> u32 {
     match *answer {
         Err(refusal) => refusal.number().into(),
         Ok(Answer::Minted) => 100,
-        Ok(Answer::Registered { verdict, outcome }) => 200 + 10 * verdict as u32 + outcome as u32,
+        Ok(Answer::Registered { verdict, outcome }) => 200 + entered_code(verdict, outcome),
         Ok(Answer::Heard(outcome)) => 300 + outcome as u32,
         Ok(Answer::Again(outcome)) => 400 + outcome as u32,
         Ok(Answer::Turned) => 500,
+        Ok(Answer::Brought { verdict, outcome }) => 600 + entered_code(verdict, outcome),
     }
+}
+
+/// What the number of an answer tells of a transaction that the shard knows
+/// now.
+#[inline]
+fn entered_code(verdict: Verdict, outcome: Outcome) -> u32 {
+    10 * verdict as u32 + outcome as u32
 }
 
 /// The answer that the number stands for; nothing if it stands for none.
@@ -105,6 +124,10 @@ pub fn answer_from_code(code: u32) -> Option<Result<Answer, Refusal>> {
         let outcome = outcome(first)?;
         Some(Answer::Registered { verdict, outcome })
     };
+    let brought = |verdict, first| {
+        let outcome = outcome(first)?;
+        Some(Answer::Brought { verdict, outcome })
+    };
     let answer = match code {
         100 => Some(Answer::Minted),
         200..=202 => registered(Verdict::No, 200),
@@ -112,6 +135,8 @@ pub fn answer_from_code(code: u32) -> Option<Result<Answer, Refusal>> {
         300..=302 => outcome(300).map(Answer::Heard),
         400..=402 => outcome(400).map(Answer::Again),
         500 => Some(Answer::Turned),
+        600..=602 => brought(Verdict::No, 600),
+        610..=612 => brought(Verdict::Yes, 610),
         _ => {
             let number = u8::try_from(code).ok()?;
             return Refusal::from_number(number).map(Err);
@@ -149,7 +174,9 @@ impl Display for Answer {
     fn fmt(&self, f: &mut Formatter<'_>) -> fmt::Result {
         match self {
             Answer::Minted => f.write_str("OPENED"),
-            Answer::Registered { verdict, outcome } => write!(f, "{verdict} {outcome}"),
+            Answer::Registered { verdict, outcome } | Answer::Brought { verdict, outcome } => {
+                write!(f, "{verdict} {outcome}")
+            }
             Answer::Heard(outcome) => write!(f, "HEARD {outcome}"),
             Answer::Again(outcome) => write!(f, "AGAIN {outcome}"),
             Answer::Turned => f.write_str("TURNED"),

@@ -90,6 +90,37 @@ impl<M: Memory> Ledger<M> {
     /// delivery). A cluster refuses a vote that its sender has not given; a
     /// lone shard hears any.
     ///
+    /// To a shard that does not know the number the vote brings its transaction
+    /// (document 02, 6): the shard registers it, as
+    /// [`register`](Self::register) would, and then hears the vote. Where there
+    /// is no room for it (9, 10), or where it comes too close behind another
+    /// (17), the vote is refused, and nothing has changed; it may be handed in
+    /// again later.
+    ///
+    /// ```
+    /// use plankeeper::{Answer, Cluster, Input, Outcome, Output, Refusal, TokenId};
+    /// use plankeeper::{Transaction, Verdict};
+    ///
+    /// let token = TokenId { shard: 0, creator: 0, index: 0 };
+    /// let transaction = Transaction::new(5)
+    ///     .input(Input { token, owner: 10, amount: 3 })
+    ///     .output(Output { shard: 1, owner: 10, amount: 3 });
+    ///
+    /// // Nobody asks shard 1 to register it; shard 0's vote brings it there.
+    /// let mut cluster = Cluster::new();
+    /// cluster.mint(0, 0, 10, 3)?;
+    /// cluster.register(0, &transaction)?;
+    /// let (verdict, outcome) = (Verdict::Yes, Outcome::Commit);
+    /// let brought = cluster.deliver(1, 0, Verdict::Yes, &transaction)?;
+    /// assert_eq!(brought, Answer::Brought { verdict, outcome });
+    /// assert_eq!(cluster.register(1, &transaction), Err(Refusal::KnownAlready));
+    ///
+    /// // Shard 1 has voted, and its vote decides at shard 0, too.
+    /// cluster.deliver(0, 1, Verdict::Yes, &transaction)?;
+    /// assert_eq!((cluster.total_at(0), cluster.total_at(1)), (0, 3));
+    /// # Ok::<(), Refusal>(())
+    /// ```
+    ///
     /// One no is enough for an abort, while a commit needs every yes:
     ///
     /// ```

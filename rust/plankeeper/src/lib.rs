@@ -70,6 +70,10 @@
 //! # Ok::<(), plankeeper::Refusal>(())
 //! ```
 //!
+//! A shard that nobody has asked to register a transaction comes to know it by
+//! the first vote on it that is delivered there: see
+//! [`deliver`](Ledger::deliver).
+//!
 //! Calls may also come as bytes: [`Record`] writes them, [`read`] and
 //! [`records`] read them, [`Cluster::apply`] reads one and makes its call. The
 //! example `planner` plays a file of records and shows what each shard holds.

@@ -38,11 +38,13 @@ pub enum Refusal {
     NumberTaken = 7,
     /// 8, register: this transaction is known here already.
     KnownAlready = 8,
-    /// 9, register: 32 transactions are known here.
+    /// 9, register, or a vote that would bring its transaction: 32 transactions
+    /// are known here.
     TransactionsFull = 9,
-    /// 10, register: more than 128 tokens might have to be held here.
+    /// 10, likewise: more than 128 tokens might have to be held here.
     TokensFull = 10,
-    /// 11, vote: the number is not known here.
+    /// 11, vote at a lone shard: its own, on a number that is not known here.
+    /// Another shard's vote brings the transaction.
     NumberUnknown = 11,
     /// 12, vote: the other verdict was heard from this sender.
     OtherVerdict = 12,
@@ -55,9 +57,9 @@ pub enum Refusal {
     /// 16, vote in a cluster: the sender has not given this vote on this
     /// transaction.
     VoteNotGiven = 16,
-    /// 17, register: a transaction known here and not decided yet is to make
-    /// one of the inputs here. Hand it in again once that one is decided here,
-    /// which the first no on it is enough for.
+    /// 17, register, or a vote that would bring its transaction: one known here
+    /// and not decided yet is to make one of the inputs here. Hand it in again
+    /// once that one is decided here, which the first no on it is enough for.
     HeldOff = 17,
     /// 19, turn: this shard is turned already.
     TurnedAlready = 19,
@@ -124,15 +126,15 @@ impl Display for Refusal {
             Refusal::NotTakingPart => "receiver or sender not among the swap's pantries",
             Refusal::NumberTaken => "number known here for a different swap",
             Refusal::KnownAlready => "kind 1: this swap known here",
-            Refusal::TransactionsFull => "kind 1: 32 swaps known",
-            Refusal::TokensFull => "kind 1: tokens would pass 128",
+            Refusal::TransactionsFull => "kind 1 or 2: 32 swaps known",
+            Refusal::TokensFull => "kind 1 or 2: tokens would pass 128",
             Refusal::NumberUnknown => "kind 2: number unknown here",
             Refusal::OtherVerdict => "kind 2: other verdict heard from this sender",
             Refusal::MintTooLate => "kind 3: a swap is known here",
             Refusal::IndexGiven => "kind 3: this opening position was given",
             Refusal::BufferTooShort => "writer: lent bytes fewer than the record",
             Refusal::VoteNotGiven => "round, kind 2: sender has not given this vote on this swap",
-            Refusal::HeldOff => "kind 1: takes what an undecided swap is to make here",
+            Refusal::HeldOff => "kind 1 or 2: takes what an undecided swap is to make here",
             Refusal::TurnedAlready => "kind 4: this pantry is turned already",
         })
     }

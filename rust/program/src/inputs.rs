@@ -122,6 +122,7 @@ fn unturned_style(rng: &mut Rng, short: bool) -> ClusterStyle {
             amounts: rng.pick(&[3, 40, 1_000_000]),
             new: 20,
             due: 50,
+            left_out: rng.pick(&[0, 8]),
             damage,
             turns,
         };
@@ -135,6 +136,7 @@ fn unturned_style(rng: &mut Rng, short: bool) -> ClusterStyle {
             amounts: 60,
             new: 40,
             due: 30,
+            left_out: rng.pick(&[0, 3, 8]),
             damage,
             turns,
         };
@@ -146,6 +148,7 @@ fn unturned_style(rng: &mut Rng, short: bool) -> ClusterStyle {
         amounts: rng.pick(&[3, 40, 40, 9_000, 1_000_000]),
         new: rng.pick(&[10, 14, 20]),
         due: rng.pick(&[40, 55]),
+        left_out: rng.pick(&[0, 0, 3, 8]),
         damage,
         turns,
     }

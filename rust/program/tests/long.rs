@@ -20,6 +20,7 @@ fn long_week(number: u64) -> (Vec<u8>, Vec<usize>) {
         amounts: 9_000,
         new: 10,
         due: 50,
+        left_out: rng.pick(&[0, 3, 8]),
         damage: Some(50),
         turns: Turns::random(rng, calls),
     };

@@ -4,7 +4,7 @@ use std::time::Instant;
 
 use program::{CHUNKS, DAMAGES, assert_same, count_listing, input, list, listing_labels};
 use reference::listing;
-use weeks::{Giver, Tally, given_by, never_given_by, share_out};
+use weeks::{Giver, Tally, share_out, shown_for};
 
 /// Each input gets a fresh process.
 const INPUTS: u64 = 100_000;
@@ -35,8 +35,9 @@ fn random_and_damaged_inputs() {
     }
     let seconds = start.elapsed().as_secs_f64();
     let title = format!("{INPUTS} inputs in {seconds:.0} s");
-    joined.all.report(&title, &expected(), 1);
-    joined.all.check_never(&title, &never_given_by(&GIVERS));
+    let [shown, never] = shown_for(&GIVERS);
+    joined.all.report(&title, &expected(&shown), 1);
+    joined.all.check_never(&title, &never);
     let kinds = (0..=255).map(|kind| format!("kind {kind}"));
     joined.kinds.check(&title, &Vec::from_iter(kinds), 1);
 }
@@ -58,10 +59,10 @@ fn check(case: u64, counts: &mut Counts) {
     }
 }
 
-/// What has to be met.
-fn expected() -> Vec<String> {
-    let words = given_by(&GIVERS).into_iter().chain(DAMAGES);
+/// What has to be met, beside these words.
+fn expected(words: &[&str]) -> Vec<String> {
+    let words = words.iter().chain(&DAMAGES);
     let chunks = CHUNKS.map(|chunk| format!("writes of {chunk}"));
-    let named = words.map(String::from).chain(chunks);
+    let named = words.map(|&word| word.into()).chain(chunks);
     named.chain(listing_labels()).collect()
 }

@@ -65,7 +65,8 @@ impl Cluster {
     }
 
     /// Hands one shard's vote to another (document 01: vote delivery). A vote
-    /// that its sender has not given is refused before the receiver looks.
+    /// that its sender has not given is refused before the receiver looks; so
+    /// no shard's own vote comes to it on a number that it does not know.
     pub fn deliver(
         &mut self,
         receiver: u8,

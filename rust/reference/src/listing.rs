@@ -133,14 +133,17 @@ fn words(done: Done) -> &'static str {
     use Verdict::{No, Yes};
     match done {
         Done::Minted => "OPENED",
-        Done::Registered { verdict, outcome } => match (verdict, outcome) {
-            (Yes, Wait) => "YES WAIT",
-            (Yes, Commit) => "YES COMMIT",
-            (Yes, Abort) => "YES ABORT",
-            (No, Wait) => "NO WAIT",
-            (No, Commit) => "NO COMMIT",
-            (No, Abort) => "NO ABORT",
-        },
+        // A transaction that a vote brings reads like one that was registered.
+        Done::Registered { verdict, outcome } | Done::Brought { verdict, outcome } => {
+            match (verdict, outcome) {
+                (Yes, Wait) => "YES WAIT",
+                (Yes, Commit) => "YES COMMIT",
+                (Yes, Abort) => "YES ABORT",
+                (No, Wait) => "NO WAIT",
+                (No, Commit) => "NO COMMIT",
+                (No, Abort) => "NO ABORT",
+            }
+        }
         Done::Heard(Wait) => "HEARD WAIT",
         Done::Heard(Commit) => "HEARD COMMIT",
         Done::Heard(Abort) => "HEARD ABORT",

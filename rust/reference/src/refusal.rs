@@ -1,5 +1,6 @@
 /// Why a record or call was refused; the numbers are document 01's causes of
-/// refusal, and document 02's from 17 on.
+/// refusal, and document 02's from 17 on. A transaction is entered by a
+/// registration, or by a vote that brings it (document 02, slip 6).
 #[derive(Clone, Copy, Debug, PartialEq, Eq)]
 #[repr(u8)]
 pub enum Refusal {
@@ -20,11 +21,11 @@ pub enum Refusal {
     NumberTaken = 7,
     /// Register: this transaction is known here.
     KnownAlready = 8,
-    /// Register: as many transactions are known as may be.
+    /// Entering: as many transactions are known as may be.
     TransactionsFull = 9,
-    /// Register: more tokens might be held than may be.
+    /// Entering: more tokens might be held than may be.
     TokensFull = 10,
-    /// Vote: the number is not known here.
+    /// Vote, at a lone shard: its own vote on a number that is not known here.
     NumberUnknown = 11,
     /// Vote: the other verdict was heard from this sender.
     OtherVerdict = 12,
@@ -37,7 +38,7 @@ pub enum Refusal {
     /// Vote, in the cluster: the sender has not given this vote on this
     /// transaction.
     VoteNotGiven = 16,
-    /// Register: an undecided transaction known here is to make an input here.
+    /// Entering: an undecided transaction known here is to make an input here.
     HeldOff = 17,
     /// Turn: this shard is turned already.
     TurnedAlready = 19,

@@ -47,6 +47,14 @@ pub enum Done {
     Again(Outcome),
     /// An abort ends its pledges here from now on (document 02, slip 4).
     Turned,
+    /// A vote on a number that was not known here has brought its transaction:
+    /// that is known now, and the vote is noted (document 02, slip 6).
+    Brought {
+        /// This shard's own vote.
+        verdict: Verdict,
+        /// The outcome here after both.
+        outcome: Outcome,
+    },
 }
 
 /// The answer to a call.
@@ -165,7 +173,8 @@ impl Shard {
         &self.given
     }
 
-    /// The transactions known, in order of registration.
+    /// The transactions known, in order of registration, by a call or by a
+    /// vote.
     pub fn known(&self) -> &[Known] {
         &self.known
     }
@@ -246,29 +255,12 @@ impl Shard {
             let same = self.known[place].transaction == *transaction;
             return Err(if same { KnownAlready } else { NumberTaken });
         }
-        if self.known.len() >= self.limits.transactions {
-            return Err(TransactionsFull);
-        }
-        let new = outputs_at(self.number, transaction).count();
-        if self.tokens.len() + self.reserved() + new > self.limits.tokens {
-            return Err(TokensFull);
-        }
-        if self.holds_off(transaction) {
-            return Err(HeldOff);
-        }
-
-        let verdict = self.pledge(transaction);
-        let mut heard = [None; SHARDS];
-        heard[usize::from(self.number)] = Some(verdict);
-        self.known.push(Known {
-            transaction: *transaction,
-            heard,
-        });
-        let outcome = self.decide(self.known.len() - 1);
+        let (verdict, outcome) = self.enter(transaction)?;
         Ok(Done::Registered { verdict, outcome })
     }
 
-    /// Notes another shard's vote (document 01: vote).
+    /// Notes another shard's vote (document 01: vote). One on a number that is
+    /// not known here brings its transaction (document 02, slip 6).
     pub fn hear(
         &mut self,
         receiver: u8,
@@ -323,27 +315,80 @@ impl Shard {
         Ok(verdict)
     }
 
-    /// Notes a vote that passed [`Self::check_vote`].
+    /// Notes a vote that passed [`Self::check_vote`]. On a number that is not
+    /// known here another shard's vote brings its transaction; the shard's own
+    /// has nothing to bring, for it comes with the registration.
     pub(crate) fn note(
         &mut self,
         sender: u8,
         verdict: Verdict,
         transaction: &Transaction,
     ) -> Answer {
-        let place = self.find(transaction.number).ok_or(NumberUnknown)?;
-        let known = &mut self.known[place];
+        let Some(place) = self.find(transaction.number) else {
+            if sender == self.number {
+                return Err(NumberUnknown);
+            }
+            return self.bring(sender, verdict, transaction);
+        };
+        let known = &self.known[place];
         if known.transaction != *transaction {
             return Err(NumberTaken);
         }
-        let heard = &mut known.heard[usize::from(sender)];
-        match *heard {
+        match known.heard[usize::from(sender)] {
             Some(before) if before != verdict => Err(OtherVerdict),
             Some(_) => Ok(Done::Again(known.outcome())),
-            None => {
-                *heard = Some(verdict);
-                Ok(Done::Heard(self.decide(place)))
-            }
+            None => Ok(Done::Heard(self.hear_fresh(place, sender, verdict))),
         }
+    }
+
+    /// Registers the transaction that a vote brings, then hears the vote. It is
+    /// fresh: nobody but this shard itself has been heard. Where the
+    /// transaction cannot be entered, the vote is not heard either.
+    fn bring(&mut self, sender: u8, verdict: Verdict, transaction: &Transaction) -> Answer {
+        let (own, _) = self.enter(transaction)?;
+        let last = self.known.len() - 1;
+        Ok(Done::Brought {
+            verdict: own,
+            outcome: self.hear_fresh(last, sender, verdict),
+        })
+    }
+
+    /// Notes a vote that was not heard before on the known transaction at this
+    /// place, and gives the outcome after it.
+    fn hear_fresh(&mut self, place: usize, sender: u8, verdict: Verdict) -> Outcome {
+        self.known[place].heard[usize::from(sender)] = Some(verdict);
+        self.decide(place)
+    }
+
+    /// Enters a transaction whose number is not known here, by a registration
+    /// or by a vote: pledges its inputs here and notes this shard's own vote.
+    /// Gives that and the outcome.
+    fn enter(&mut self, transaction: &Transaction) -> Result<(Verdict, Outcome), Refusal> {
+        self.check_entry(transaction)?;
+        let verdict = self.pledge(transaction);
+        let mut heard = [None; SHARDS];
+        heard[usize::from(self.number)] = Some(verdict);
+        self.known.push(Known {
+            transaction: *transaction,
+            heard,
+        });
+        Ok((verdict, self.decide(self.known.len() - 1)))
+    }
+
+    /// What keeps a transaction out whose number is not known here: refusals 9,
+    /// 10 and 17.
+    fn check_entry(&self, transaction: &Transaction) -> Result<(), Refusal> {
+        if self.known.len() >= self.limits.transactions {
+            return Err(TransactionsFull);
+        }
+        let new = outputs_at(self.number, transaction).count();
+        if self.tokens.len() + self.reserved() + new > self.limits.tokens {
+            return Err(TokensFull);
+        }
+        if self.holds_off(transaction) {
+            return Err(HeldOff);
+        }
+        Ok(())
     }
 
     /// The vote that this shard has given on this very transaction.
@@ -377,8 +422,8 @@ impl Shard {
     }
 
     /// Whether an input is a token that may still be made here. Its owner and
-    /// amount play no part: whatever they are, the registration waits for the
-    /// other transaction's decision.
+    /// amount play no part: whatever they are, the transaction waits for the
+    /// other one's decision.
     fn holds_off(&self, transaction: &Transaction) -> bool {
         let mut inputs = transaction.used_inputs().iter();
         inputs.any(|input| self.may_be_made(input.token))

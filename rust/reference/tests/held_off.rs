@@ -149,7 +149,8 @@ fn not_by_a_transaction_that_has_voted_no() {
     assert_eq!(enter(&mut shard, second()), HELD_OFF);
 }
 
-/// It holds nobody off itself, no vote on it is heard, and its number is free.
+/// It holds nobody off itself, its own vote is not heard, and its number is
+/// free.
 #[test]
 fn what_is_held_off_is_not_known() {
     let mut shard = waiting(LIMITS);
@@ -206,8 +207,10 @@ fn a_chain_in_the_cluster() {
     assert_eq!(cluster, before);
     // Shard 2 does not know the first.
     assert_eq!(cluster.register(2, &second), registered(Yes, Wait));
-    let early = cluster.deliver(1, 2, 1, &second);
-    assert_eq!(early, Err(Refusal::NumberUnknown));
+    // A vote that would bring it to shard 1 is held off, too.
+    let before = cluster.clone();
+    assert_eq!(cluster.deliver(1, 2, 1, &second), HELD_OFF);
+    assert_eq!(cluster, before);
     assert_eq!(cluster.register(0, &first), registered(Yes, Wait));
     assert_eq!(cluster.register(1, &second), HELD_OFF);
     let committed = Ok(Done::Heard(Commit));

@@ -372,8 +372,7 @@ fn order_of_refusals_at_a_shard() {
     assert_eq!(number(shard.register(0, &all)), 7);
     assert_eq!(number(shard.hear(0, 2, 1, &all)), 7);
     all.number = 6;
-    assert_eq!(number(shard.hear(0, 2, 1, &all)), 11);
-    // A vote from the receiver itself.
+    // A vote from the receiver itself; another's would bring the transaction.
     assert_eq!(number(shard.hear(0, 0, 1, &all)), 11);
     assert_eq!(number(shard.hear(0, 0, 0, &known)), 12);
     assert_eq!(shard.hear(0, 0, 1, &known), Ok(Done::Again(Wait)));
@@ -390,9 +389,12 @@ fn order_of_refusals_at_a_shard() {
     assert_eq!(shard.known().len(), 32);
     let give = transaction(5, &[(1, 0, 0, 10, 4)], &[(0, 1, 1); 4]);
     assert_eq!(number(shard.register(0, &give)), 7);
+    assert_eq!(number(shard.hear(0, 1, 1, &give)), 7);
     assert_eq!(number(shard.register(0, &known)), 8);
     let fresh = Transaction { number: 99, ..give };
     assert_eq!(number(shard.register(0, &fresh)), 9);
+    assert_eq!(number(shard.hear(0, 1, 1, &fresh)), 9);
+    assert_eq!(number(shard.hear(0, 0, 1, &fresh)), 11);
 
     assert_eq!(number(shard.mint(1, 0, 10, 3)), 3);
     assert_eq!(number(shard.mint(0, 0, 0, 3)), 3);
@@ -416,7 +418,7 @@ fn order_of_refusals_in_the_cluster() {
         Err(Refusal::OutOfRange),
         "no such shard"
     );
-    // Neither shard knows it: 16 goes before 11.
+    // Neither shard knows it: 16 goes before all that the receiver looks for.
     assert_eq!(cluster.deliver(1, 0, 0, &first), not_given);
     assert_eq!(cluster.deliver(1, 1, 1, &first), not_given);
     assert_eq!(
@@ -425,10 +427,12 @@ fn order_of_refusals_in_the_cluster() {
     );
     assert_eq!(cluster.register(0, &first), registered(No, Abort));
     assert_eq!(cluster.deliver(1, 0, 1, &first), not_given);
-    assert_eq!(
-        cluster.deliver(1, 0, 0, &first),
-        Err(Refusal::NumberUnknown)
-    );
+    // The vote that was given brings it to a shard that knows no such number.
+    let brought = Done::Brought {
+        verdict: Yes,
+        outcome: Abort,
+    };
+    assert_eq!(cluster.clone().deliver(1, 0, 0, &first), Ok(brought));
     // The other transaction's number is known at the sender, but not that one.
     let mut third = first;
     third.outputs[0].owner = 11;

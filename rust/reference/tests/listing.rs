@@ -201,7 +201,7 @@ fn damaged_records_in_the_middle() {
     );
 }
 
-/// Order: 6, 16, 11, 7 for votes; from 6 on the pantry is shown.
+/// Order: 6, 16, 7 for votes; from 6 on the pantry is shown.
 #[test]
 fn votes_refused() {
     let other = transaction(5, &[(1, 0, 0, 20, 2)], &[(0, 20, 2)]);
@@ -212,11 +212,10 @@ fn votes_refused() {
             // No pantry of the swap: as the receiver, as the sender.
             vote(1, 0, 2, five()),
             vote(1, 2, 0, five()),
-            // Known nowhere: 16 goes before 11.
+            // Known nowhere, so nobody has voted on it.
             vote(1, 1, 0, five()),
             register(1, five()),
-            // Given by 1, not known at 0; and what 1 has not given.
-            vote(1, 1, 0, five()),
+            // What 1 has not given.
             vote(0, 1, 0, five()),
             // Another swap numbered 5 is known at 0.
             register(0, other),
@@ -232,12 +231,11 @@ fn votes_refused() {
             "4 0 REFUSED 6",
             "5 0 REFUSED 16",
             "6 1 YES WAIT",
-            "7 0 REFUSED 11",
-            "8 0 REFUSED 16",
-            "9 0 YES WAIT",
-            "10 0 REFUSED 7",
-            "11 1 AGAIN WAIT",
-            "12 1 REFUSED 16",
+            "7 0 REFUSED 16",
+            "8 0 YES WAIT",
+            "9 0 REFUSED 7",
+            "10 1 AGAIN WAIT",
+            "11 1 REFUSED 16",
             "TOTAL 5",
         ],
     );
@@ -404,6 +402,80 @@ fn turned() {
             "5 0 REFUSED 19",
             "6 7 TURNED",
             "7 0 YES COMMIT",
+            "TOTAL 3",
+        ],
+    );
+}
+
+/// A vote brings its swap: the line has the receiver's own verdict and the
+/// outcome after both. Pantry 2 has no token and votes no on swap 6, and so
+/// does pantry 0, whose token is gone with swap 5.
+#[test]
+fn brought() {
+    let inputs = [(2, 0, 0, 10, 3), (0, 0, 0, 10, 3)];
+    let vain = transaction(6, &inputs, &[(3, 30, 6)]);
+    shows(
+        &bytes(&[
+            mint(0, 0, 10, 3),
+            mint(1, 0, 20, 2),
+            register(1, five()),
+            vote(1, 1, 0, five()),
+            vote(1, 1, 0, five()),
+            register(0, five()),
+            vote(1, 0, 1, five()),
+            register(3, vain),
+            vote(1, 3, 2, vain),
+            vote(0, 2, 0, vain),
+            vote(0, 2, 3, vain),
+        ]),
+        &[
+            "1 0 OPENED",
+            "2 1 OPENED",
+            "3 1 YES WAIT",
+            "4 0 YES COMMIT",
+            "5 0 AGAIN COMMIT",
+            "6 0 REFUSED 8",
+            "7 1 HEARD COMMIT",
+            "8 3 YES WAIT",
+            "9 2 NO ABORT",
+            "10 0 NO ABORT",
+            "11 3 HEARD ABORT",
+            "TOTAL 5",
+        ],
+    );
+}
+
+/// The receiver's yes and the sender's no; and a vote that is held off, until
+/// the swap before it is decided.
+#[test]
+fn brought_by_a_no_and_held_off() {
+    let vain = transaction(6, &[(2, 0, 0, 10, 3)], &[(1, 30, 3)]);
+    let first = transaction(7, &[(0, 0, 0, 10, 3)], &[(1, 10, 3)]);
+    let second = transaction(8, &[(1, 7, 0, 10, 3)], &[(2, 20, 3)]);
+    shows(
+        &bytes(&[
+            mint(0, 0, 10, 3),
+            register(2, vain),
+            vote(0, 2, 1, vain),
+            register(1, first),
+            register(2, second),
+            vote(1, 2, 1, second),
+            vote(1, 1, 0, first),
+            vote(1, 0, 1, first),
+            vote(1, 2, 1, second),
+            vote(1, 1, 2, second),
+        ]),
+        &[
+            "1 0 OPENED",
+            "2 2 NO ABORT",
+            "3 1 YES ABORT",
+            "4 1 YES WAIT",
+            "5 2 YES WAIT",
+            "6 1 REFUSED 17",
+            "7 0 YES COMMIT",
+            "8 1 HEARD COMMIT",
+            "9 1 YES COMMIT",
+            "10 2 HEARD COMMIT",
             "TOTAL 3",
         ],
     );

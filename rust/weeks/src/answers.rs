@@ -3,6 +3,8 @@
 //! word, and every test that counts answers asks for it where it can be met,
 //! and shuts it out where it cannot.
 
+use std::collections::BTreeSet;
+
 use reference::Outcome::{Abort, Commit, Wait};
 use reference::Verdict::{No, Yes};
 use reference::{Answer, Done, Outcome, Refusal, Verdict};
@@ -29,6 +31,10 @@ pub struct Reply {
     pub answer: Answer,
     /// The words of document 01's listing.
     pub words: &'static str,
+    /// What it is counted as: the words, behind another one where an answer
+    /// that is not the same has these words. In capitals it is its name in the
+    /// header.
+    pub label: &'static str,
     /// A letter for each who gives it, none where it cannot be: r for the
     /// reader, w for the writers, m for a mint, g for a registration, v for a
     /// vote, t for a turn; s for a vote at a lone shard alone, c for one in a
@@ -43,8 +49,8 @@ pub struct Cause {
     pub reply: Reply,
     /// Its name in the header, without what all names have in front.
     pub name: &'static str,
-    /// Document 01's sentence, to the letter; from 17 on what document 02 asks
-    /// for, in the same words.
+    /// Document 01's sentence, to the letter but for the kinds that document 02
+    /// has added; from 17 on what that asks for, in the same words.
     pub sentence: &'static str,
 }
 
@@ -52,8 +58,26 @@ pub struct Cause {
 pub const ACCEPTED: &str = "accepted";
 
 /// An answer that cannot be, although it has a number: a registration with a no
-/// aborts at once, and one with a yes has heard no other vote.
+/// aborts at once, also one that a vote has brought, and one with a yes has
+/// heard no other vote, unless a vote has brought it.
 const NOBODY: &str = "";
+
+/// The answer with this number to a vote that has brought its transaction. Its
+/// words are a registration's.
+macro_rules! brought {
+    ($number:literal, $verdict:ident, $outcome:ident, $words:literal, $givers:expr) => {
+        Reply {
+            code: $number,
+            answer: Ok(Done::Brought {
+                verdict: $verdict,
+                outcome: $outcome,
+            }),
+            words: $words,
+            label: concat!("brought ", $words),
+            givers: $givers,
+        }
+    };
+}
 
 /// Every answer to a call that was carried out, in the order of the numbers.
 pub const DONE: &[Reply] = &[
@@ -71,6 +95,12 @@ pub const DONE: &[Reply] = &[
     done(401, Done::Again(Commit), "AGAIN COMMIT", "v"),
     done(402, Done::Again(Abort), "AGAIN ABORT", "v"),
     done(500, Done::Turned, "TURNED", "t"),
+    brought!(600, No, Wait, "NO WAIT", NOBODY),
+    brought!(601, No, Commit, "NO COMMIT", NOBODY),
+    brought!(602, No, Abort, "NO ABORT", "v"),
+    brought!(610, Yes, Wait, "YES WAIT", "v"),
+    brought!(611, Yes, Commit, "YES COMMIT", "v"),
+    brought!(612, Yes, Abort, "YES ABORT", "v"),
 ];
 
 const fn done(code: u32, done: Done, words: &'static str, givers: &'static str) -> Reply {
@@ -79,6 +109,7 @@ const fn done(code: u32, done: Done, words: &'static str, givers: &'static str) 
         code,
         answer,
         words,
+        label: words,
         givers,
     }
 }
@@ -96,6 +127,7 @@ macro_rules! cause {
                 code: $number,
                 answer: Err(Refusal::$refusal),
                 words: concat!("REFUSED ", $number),
+                label: concat!("REFUSED ", $number),
                 givers: $givers,
             },
             name: $name,
@@ -106,8 +138,10 @@ macro_rules! cause {
 
 /// Every cause of refusal, in the order of the numbers. The reader checks 1 to
 /// 5, the writers 3 to 5 and 15, a call from 3 on; a mint and a turn have no
-/// transaction, so neither 4 nor 5 nor 6. In a cluster 16 goes before 12. A
-/// registration looks for 17 last. A row is a line.
+/// transaction, so neither 4 nor 5 nor 6. A registration and a vote that brings
+/// its transaction look for 9, 10 and 17, in this order and last. In a cluster
+/// 16 goes before 12, and before 11, which is the answer to a shard's own vote
+/// on a number that it does not know. A row is a line.
 #[rustfmt::skip]
 pub const CAUSES: &[Cause] = &[
     cause!(1, UnknownKind, "r", "UNKNOWN_KIND", "kind not 1 to 4"),
@@ -118,15 +152,15 @@ pub const CAUSES: &[Cause] = &[
     cause!(6, NotTakingPart, "gv", "NOT_TAKING_PART", "receiver or sender not among the swap's pantries"),
     cause!(7, NumberTaken, "gv", "NUMBER_TAKEN", "number known here for a different swap"),
     cause!(8, KnownAlready, "g", "KNOWN_ALREADY", "kind 1: this swap known here"),
-    cause!(9, TransactionsFull, "g", "TRANSACTIONS_FULL", "kind 1: 32 swaps known"),
-    cause!(10, TokensFull, "g", "TOKENS_FULL", "kind 1: tokens would pass 128"),
-    cause!(11, NumberUnknown, "v", "NUMBER_UNKNOWN", "kind 2: number unknown here"),
+    cause!(9, TransactionsFull, "gv", "TRANSACTIONS_FULL", "kind 1 or 2: 32 swaps known"),
+    cause!(10, TokensFull, "gv", "TOKENS_FULL", "kind 1 or 2: tokens would pass 128"),
+    cause!(11, NumberUnknown, "s", "NUMBER_UNKNOWN", "kind 2: number unknown here"),
     cause!(12, OtherVerdict, "s", "OTHER_VERDICT", "kind 2: other verdict heard from this sender"),
     cause!(13, MintTooLate, "m", "MINT_TOO_LATE", "kind 3: a swap is known here"),
     cause!(14, IndexGiven, "m", "INDEX_GIVEN", "kind 3: this opening position was given"),
     cause!(15, BufferTooShort, "w", "BUFFER_TOO_SHORT", "writer: lent bytes fewer than the record"),
     cause!(16, VoteNotGiven, "c", "VOTE_NOT_GIVEN", "round, kind 2: sender has not given this vote on this swap"),
-    cause!(17, HeldOff, "g", "HELD_OFF", "kind 1: takes what an undecided swap is to make here"),
+    cause!(17, HeldOff, "gv", "HELD_OFF", "kind 1 or 2: takes what an undecided swap is to make here"),
     cause!(19, TurnedAlready, "t", "TURNED_ALREADY", "kind 4: this pantry is turned already"),
 ];
 
@@ -163,11 +197,11 @@ pub fn replies() -> impl Iterator<Item = &'static Reply> {
     DONE.iter().chain(refused)
 }
 
-/// The answer in the words of document 01's listing.
+/// What the answer is counted as.
 pub fn label(answer: Answer) -> &'static str {
     let found = replies().find(|reply| reply.answer == answer);
     let reply = found.unwrap_or_else(|| panic!("{answer:?} is not in the table of answers"));
-    reply.words
+    reply.label
 }
 
 /// Whether a call with this answer has changed nothing: it was refused, or it
@@ -186,25 +220,36 @@ pub fn refused(number: u8) -> &'static str {
         .iter()
         .find(|cause| cause.reply.code == number.into());
     let cause = found.unwrap_or_else(|| panic!("there is no refusal {number}"));
-    cause.reply.words
+    cause.reply.label
 }
 
-/// The words of all answers that one of these gives.
+/// The labels of all answers that one of these gives.
 pub fn given_by(givers: &[Giver]) -> Vec<&'static str> {
-    words(|reply| reply.is_given_by(givers))
+    labels(|reply| reply.is_given_by(givers))
 }
 
-/// The words of all answers that none of these gives.
+/// The labels of all answers that none of these gives.
 pub fn never_given_by(givers: &[Giver]) -> Vec<&'static str> {
-    words(|reply| !reply.is_given_by(givers))
+    labels(|reply| !reply.is_given_by(givers))
 }
 
-/// The words of all answers to calls that were carried out.
+/// The labels of all answers to calls that were carried out.
 pub fn carried_out() -> Vec<&'static str> {
-    words(|reply| reply.answer.is_ok() && reply.givers != NOBODY)
+    labels(|reply| reply.answer.is_ok() && reply.givers != NOBODY)
 }
 
-fn words(keep: impl Fn(&Reply) -> bool) -> Vec<&'static str> {
+fn labels(keep: impl Fn(&Reply) -> bool) -> Vec<&'static str> {
     let kept = replies().filter(|reply| keep(reply));
-    kept.map(|reply| reply.words).collect()
+    kept.map(|reply| reply.label).collect()
+}
+
+/// The listing's words for the answers that one of these gives, and those that
+/// it never has for them. Words may be shared: a listing does not tell how a
+/// transaction came to be registered.
+pub fn shown_for(givers: &[Giver]) -> [Vec<&'static str>; 2] {
+    let given = replies().filter(|reply| reply.is_given_by(givers));
+    let shown: BTreeSet<&str> = given.map(|reply| reply.words).collect();
+    let others = replies().filter(|reply| !shown.contains(reply.words));
+    let never = others.map(|reply| reply.words).collect();
+    [shown.into_iter().collect(), never]
 }

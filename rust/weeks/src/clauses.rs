@@ -27,13 +27,15 @@ pub fn views(cluster: &Cluster) -> [View<'_>; SHARDS] {
     })
 }
 
-/// A registration (document 01: an entry in the book's row). Its place is that
-/// in the list.
+/// A registration (document 01: an entry in the book's row), by a call of its
+/// own or by a vote. Its place is that of the call in the list.
 struct Entry {
     shard: u8,
     transaction: Transaction,
     /// Which inputs there were available.
     available: [bool; SLOTS],
+    /// Whether a vote has brought it.
+    brought: bool,
 }
 
 #[derive(Default)]
@@ -88,9 +90,13 @@ impl Clauses {
             return;
         }
         let now = after[receiver];
+        let registered = registered(record, &self.before[receiver]);
         check_turned(record, &self.before[receiver], now);
-        self.note(record, receiver, now);
-        check_pledges(record, &self.before[receiver], now);
+        if let Some(transaction) = registered {
+            self.note_registered(record, transaction, now);
+        }
+        self.note(record, registered.is_some(), now);
+        check_pledges(registered, &self.before[receiver], now);
         for (place, known) in now.known.iter().enumerate() {
             if let Some(earlier) = self.before[receiver].known.get(place) {
                 check_finality(earlier, known);
@@ -107,12 +113,30 @@ impl Clauses {
         kept.turned = now.turned;
     }
 
-    /// Notes what a call that was carried out has brought. Checks that the
+    /// Notes the registration that a call has brought: the receiver now knows
+    /// the transaction, behind those that it knew.
+    fn note_registered(&mut self, record: &Record, transaction: &Transaction, now: View) {
+        let shard = crate::receiver(record);
+        let before = &self.before[usize::from(shard)];
+        let (last, known) = now.known.split_last().expect("a transaction is known");
+        assert_eq!(known, before.known, "known before");
+        assert_eq!(last.transaction, *transaction, "known last");
+        let own = last.heard[usize::from(shard)];
+        assert!(own.is_some(), "it has no vote of its own");
+        self.log.push(Entry {
+            shard,
+            transaction: *transaction,
+            available: available(shard, transaction, &before.tokens),
+            brought: matches!(record, Record::Vote { .. }),
+        });
+    }
+
+    /// Notes what else a call that was carried out has brought. Checks that the
     /// receiver has become what the call asks for.
-    fn note(&mut self, record: &Record, receiver: usize, now: View) {
-        let before = &self.before[receiver];
+    fn note(&mut self, record: &Record, registered: bool, now: View) {
+        let before = &self.before[usize::from(crate::receiver(record))];
         match record {
-            Record::Turn { .. } => {}
+            Record::Turn { .. } | Record::Register { .. } => {}
             Record::Mint {
                 receiver,
                 index,
@@ -126,22 +150,13 @@ impl Clauses {
                     .insert((*receiver, 0, *index), (*owner, *amount));
                 assert_eq!(new, None, "a genesis index given twice");
             }
-            Record::Register { transaction, .. } => {
-                let (last, known) = now.known.split_last().expect("a transaction is known");
-                assert_eq!(known, before.known, "known before");
-                assert_eq!(last.transaction, *transaction, "known last");
-                self.log.push(Entry {
-                    shard: receiver as u8,
-                    transaction: *transaction,
-                    available: available(receiver as u8, transaction, &before.tokens),
-                });
-            }
             Record::Vote {
                 sender,
                 transaction,
                 ..
             } => {
-                assert_eq!(now.known.len(), before.known.len(), "known after a vote");
+                let known = before.known.len() + usize::from(registered);
+                assert_eq!(now.known.len(), known, "known after a vote");
                 check_noted(*sender, transaction, now);
             }
         }
@@ -218,6 +233,27 @@ impl Clauses {
         committed.values().map(|t| t.number).collect()
     }
 
+    /// Whether the serial order would be another one if the registrations that
+    /// votes have brought did not count.
+    pub fn is_ordered_by_votes(&self) -> bool {
+        let committed = self.committed().0;
+        let by_calls = committed.values().map(|transaction| {
+            let last = self.last_registration(transaction, |entry| !entry.brought);
+            last.expect("somebody has registered it before there were votes")
+        });
+        !by_calls.is_sorted()
+    }
+
+    /// The place of the last registration of the transaction among these.
+    fn last_registration(
+        &self,
+        transaction: &Transaction,
+        counts: impl Fn(&Entry) -> bool,
+    ) -> Option<usize> {
+        let its = |entry: &Entry| entry.transaction == *transaction && counts(entry);
+        self.log.iter().rposition(its)
+    }
+
     /// The transactions that some shard has committed, by the place of their
     /// last registration, and whether each is decided at all its shards.
     fn committed(&self) -> (BTreeMap<usize, &Transaction>, bool) {
@@ -227,9 +263,7 @@ impl Clauses {
         for known in known.filter(|known| outcome(known) == Outcome::Commit) {
             let transaction = &known.transaction;
             let last = self
-                .log
-                .iter()
-                .rposition(|entry| entry.transaction == *transaction)
+                .last_registration(transaction, |_| true)
                 .expect("a committed transaction was registered");
             committed.insert(last, transaction);
             for shard in transaction.shards() {
@@ -255,6 +289,21 @@ impl Clauses {
                     .expect("all votes are heard, so all shards have registered")
                     .available[slot]
             })
+    }
+}
+
+/// The transaction that a call which was carried out has registered at its
+/// receiver: by its own call, or by a vote on a number that was not known
+/// there.
+fn registered<'a>(record: &'a Record, before: &Kept) -> Option<&'a Transaction> {
+    let numbered = |number| {
+        let mut known = before.known.iter();
+        known.any(|known| known.transaction.number == number)
+    };
+    match record {
+        Record::Register { transaction, .. } => Some(transaction),
+        Record::Vote { transaction, .. } if !numbered(transaction.number) => Some(transaction),
+        Record::Vote { .. } | Record::Mint { .. } | Record::Turn { .. } => None,
     }
 }
 
@@ -304,11 +353,8 @@ fn check_turned(record: &Record, before: &Kept, now: View) {
 /// A pledge begins with the registration of its transaction. Of a token that is
 /// still held it ends only where the shard is turned and has aborted that
 /// transaction; and there it has ended.
-fn check_pledges(record: &Record, before: &Kept, now: View) {
-    let registered = match record {
-        Record::Register { transaction, .. } => Some(transaction.number),
-        _ => None,
-    };
+fn check_pledges(registered: Option<&Transaction>, before: &Kept, now: View) {
+    let registered = registered.map(|transaction| transaction.number);
     let aborted = |number: u32| {
         let mut known = now.known.iter();
         let known = known.find(|known| known.transaction.number == number);

@@ -23,6 +23,9 @@ pub struct ClusterStyle {
     pub new: usize,
     /// How many calls of a hundred deliver a vote that is due.
     pub due: usize,
+    /// How many registrations of eight are left out where another shard has
+    /// registered the transaction: votes alone bring it then.
+    pub left_out: usize,
     /// One record in so many is damaged.
     pub damage: Option<usize>,
     /// When shards are turned.
@@ -43,6 +46,7 @@ impl ClusterStyle {
                 amounts: 60,
                 new: 14,
                 due: 50,
+                left_out: rng.pick(&[0, 3, 8]),
                 damage,
                 turns,
             },
@@ -56,6 +60,7 @@ impl ClusterStyle {
                     amounts: rng.pick(&[3, 40, 40, 9_000, 1_000_000]),
                     new: rng.pick(&[6, 10, 14]),
                     due: rng.pick(&[20, 40, 55]),
+                    left_out: rng.pick(&[0, 0, 3, 8]),
                     damage,
                     turns,
                 }
@@ -209,22 +214,14 @@ impl Week<'_, ClusterStyle, Cluster> {
     }
 
     /// A vote that was given and not heard by a shard that knows the
-    /// transaction.
+    /// transaction, or that is to learn of it by votes.
     fn due_vote(&mut self) {
         for _ in 0..6 {
             let transaction = self.transaction();
             let mut due = Vec::new();
             for receiver in transaction.shards() {
-                let Some(here) = known(self.shard(receiver), &transaction) else {
-                    continue;
-                };
-                for sender in transaction.shards() {
-                    if here.heard[usize::from(sender)].is_none()
-                        && known(self.shard(sender), &transaction).is_some()
-                    {
-                        due.push((sender, receiver));
-                    }
-                }
+                let votes = self.votes_for(receiver, &transaction);
+                due.extend(votes.into_iter().map(|sender| (sender, receiver)));
             }
             if !due.is_empty() {
                 let (sender, receiver) = self.rng.pick(&due);
@@ -234,14 +231,40 @@ impl Week<'_, ClusterStyle, Cluster> {
         self.missing_registration();
     }
 
-    /// A registration at a shard that does not know the number.
+    /// The senders of the votes that are due at this shard: none where it has
+    /// to be asked to register the transaction first.
+    fn votes_for(&self, receiver: u8, transaction: &Transaction) -> Vec<u8> {
+        let here = known(self.shard(receiver), transaction);
+        if here.is_none() && !self.is_left_out(receiver, transaction) {
+            return Vec::new();
+        }
+        let heard = |sender: u8| here.is_some_and(|here| here.heard[usize::from(sender)].is_some());
+        let senders = transaction.shards().filter(|&sender| sender != receiver);
+        let given = senders.filter(|&sender| known(self.shard(sender), transaction).is_some());
+        given.filter(|&sender| !heard(sender)).collect()
+    }
+
+    /// Whether the transaction's registration at this shard is left out. The
+    /// number and the shard decide it, so that it stays so.
+    fn is_left_out(&self, shard: u8, transaction: &Transaction) -> bool {
+        let place = transaction.number.wrapping_add(shard.into()) % 8;
+        (place as usize) < self.style.left_out
+    }
+
+    /// A registration at a shard that does not know the number; or, where it is
+    /// left out, a vote that brings the transaction, if there is one.
     fn missing_registration(&mut self) {
         let mut transaction = self.transaction();
         let mut shard = self.shard_of(&transaction);
         for _ in 0..6 {
             let mut known = self.shard(shard).known().iter();
             if known.all(|known| known.transaction.number != transaction.number) {
-                return self.register(shard, transaction);
+                let votes = self.votes_for(shard, &transaction);
+                if votes.is_empty() {
+                    return self.register(shard, transaction);
+                }
+                let sender = self.rng.pick(&votes);
+                return self.deliver(sender, shard, transaction);
             }
             transaction = self.transaction();
             shard = self.shard_of(&transaction);

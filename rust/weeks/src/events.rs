@@ -6,6 +6,7 @@ use reference::{
 };
 
 use crate::answers::label;
+use crate::brought::Bringing;
 use crate::tally::Tally;
 use crate::transactions::{is_all_heard, known, receiver};
 
@@ -57,9 +58,11 @@ pub const TURNS: [&str; 9] = [
 
 /// What only a cluster shows. How many of its shards are turned is counted once
 /// a week, with the first call after which it is so.
-pub const CLUSTER_EVENTS: [&str; 7] = [
+pub const CLUSTER_EVENTS: [&str; 9] = [
     "vote overtaking another",
     "two commits of one number",
+    "brought by the vote of one that was brought",
+    "committed, brought to two of its shards or more",
     NONE_TURNED,
     SOME_TURNED,
     ALL_TURNED,
@@ -106,12 +109,15 @@ pub struct Events<'a> {
     held_off: Vec<(u8, Transaction)>,
     /// The tokens that came free so far.
     freed: Vec<TokenId>,
+    /// What votes have brought so far.
+    bringing: Bringing,
     /// How many shards of the cluster are turned, in words.
     turned: &'static str,
 }
 
 /// A registration or a vote that was carried out.
 struct Carried<'a> {
+    record: &'a Record,
     transaction: &'a Transaction,
     done: Done,
     before: &'a Before,
@@ -128,6 +134,7 @@ impl Tally {
             tally: self,
             held_off: Vec::new(),
             freed: Vec::new(),
+            bringing: Bringing::default(),
             turned: "",
         }
     }
@@ -149,14 +156,12 @@ impl Events<'_> {
             return;
         };
         let shard = &shards[before.place];
-        let done = match (answer, record) {
-            (Ok(done), _) => done,
-            (Err(Refusal::HeldOff), Record::Register { transaction, .. }) => {
-                return self.hold_off(shard, transaction);
-            }
-            _ => return,
+        let done = match answer {
+            Ok(done) => done,
+            Err(refusal) => return self.refuse(shard, record, refusal),
         };
         let carried = |transaction| Carried {
+            record,
             transaction,
             done,
             before: &before,
@@ -166,7 +171,7 @@ impl Events<'_> {
         match record {
             Record::Mint { .. } => {}
             Record::Turn { .. } => self.turn(shard, &before),
-            Record::Register { transaction, .. } => self.register(&carried(transaction)),
+            Record::Register { transaction, .. } => self.enter(&carried(transaction)),
             Record::Vote {
                 sender,
                 transaction,
@@ -187,7 +192,19 @@ impl Events<'_> {
         }
     }
 
-    /// A registration was held off, and has left the shard as it was.
+    /// A call was refused, and has left the shard as it was.
+    fn refuse(&mut self, shard: &Shard, record: &Record, refusal: Refusal) {
+        self.bringing.refuse(self.tally, record, refusal);
+        if let (
+            Refusal::HeldOff,
+            Record::Register { transaction, .. } | Record::Vote { transaction, .. },
+        ) = (refusal, record)
+        {
+            self.hold_off(shard, transaction);
+        }
+    }
+
+    /// A transaction was held off, whether it was to be registered or brought.
     fn hold_off(&mut self, shard: &Shard, transaction: &Transaction) {
         let mut inputs = inputs_at(shard.number(), transaction);
         if !inputs.any(|input| is_to_be_made(shard, input)) {
@@ -231,20 +248,20 @@ impl Events<'_> {
         }
     }
 
-    fn register(&mut self, call: &Carried) {
-        let Done::Registered { verdict, outcome } = call.done else {
-            return;
-        };
+    /// A transaction was registered, by a call or by a vote that is still to be
+    /// heard.
+    fn enter(&mut self, call: &Carried) {
+        let entered = call.entered();
         let takes = inputs_at(call.shard.number(), call.transaction)
             .next()
             .is_some();
-        match verdict {
+        match call.own_verdict() {
             Verdict::Yes if takes => {}
             Verdict::Yes => self.tally.add("yes, with outputs only"),
             Verdict::No => {
                 self.pledges_of_no(call);
                 self.causes_of_no(call);
-                if !is_all_heard(call.known()) {
+                if !is_all_heard(&entered) {
                     self.tally.add("aborted early, by its own no");
                 }
             }
@@ -257,7 +274,7 @@ impl Events<'_> {
             }
         }
         self.count_let_through(call);
-        self.decide(call, outcome);
+        self.decide(call, entered.outcome());
     }
 
     /// What a no has pledged: what was available, and at a turned shard it is
@@ -274,6 +291,9 @@ impl Events<'_> {
         for &id in &available {
             if held(call.shard.tokens(), id).is_some_and(|token| token.pledge.is_none()) {
                 self.tally.add("freed by its own no");
+                if call.is_brought() {
+                    self.tally.add("brought, freed by its own no");
+                }
                 self.freed.push(id);
             }
         }
@@ -335,19 +355,46 @@ impl Events<'_> {
 
     fn vote(&mut self, call: &Carried, sender: u8) {
         match call.done {
-            Done::Again(_) if sender == call.shard.number() => self.tally.add("own vote again"),
-            Done::Heard(outcome) => {
-                if call.overtakes(sender) {
-                    self.tally.add("vote overtaking another");
+            Done::Again(_) => {
+                if sender == call.shard.number() {
+                    self.tally.add("own vote again");
                 }
+                if self.bringing.has_brought(call.record) {
+                    self.tally.add("brought, the same vote again");
+                }
+            }
+            Done::Heard(outcome) => self.hear(call, sender, outcome),
+            Done::Brought { outcome, .. } => {
+                self.enter(call);
                 self.hear(call, sender, outcome);
+                self.bring(call, sender);
             }
             _ => {}
         }
     }
 
+    /// A vote has brought its transaction, and both steps are counted.
+    fn bring(&mut self, call: &Carried, sender: u8) {
+        let own = call.own_verdict();
+        for input in inputs_at(call.shard.number(), call.transaction) {
+            let token = held(call.shard.tokens(), input.token);
+            if own == Verdict::Yes && token.is_some_and(|token| token.pledge.is_none()) {
+                self.tally.add("brought, freed by the no that brought it");
+                self.freed.push(input.token);
+            }
+        }
+        if self.bringing.is_brought(sender, call.transaction) {
+            self.tally
+                .add("brought by the vote of one that was brought");
+        }
+        self.bringing.bring(self.tally, call.record, own);
+    }
+
     /// A fresh vote was noted. One that comes after an abort decides nothing.
     fn hear(&mut self, call: &Carried, sender: u8, outcome: Outcome) {
+        if call.overtakes(sender) {
+            self.tally.add("vote overtaking another");
+        }
         let now = call.known();
         let mut before = *now;
         let verdict = before.heard[usize::from(sender)].take();
@@ -378,6 +425,13 @@ impl Events<'_> {
             Outcome::Abort if held_off => self.tally.add("held off, later aborted"),
             _ => {}
         }
+        // Not by the vote that has brought it, which is noted behind this.
+        let brought = self.bringing.is_brought(decided.0, call.transaction);
+        match outcome {
+            Outcome::Commit if brought => self.tally.add("brought, later committed"),
+            Outcome::Abort if brought => self.tally.add("brought, later aborted"),
+            _ => {}
+        }
         if call.is_mixed() {
             match outcome {
                 Outcome::Wait => {}
@@ -403,6 +457,10 @@ impl Events<'_> {
                 self.tally.add("freed and spent");
             }
         }
+        if self.bringing.shards(call.transaction).count() > 1 {
+            self.tally
+                .add("committed, brought to two of its shards or more");
+        }
         // More tokens than there is space for were here in all.
         let genesis = call.shard.given().iter().filter(|&&given| given).count();
         if genesis + made(call.shard) > 128 {
@@ -420,6 +478,28 @@ impl Carried<'_> {
     /// What the receiver now keeps of the transaction.
     fn known(&self) -> &Known {
         known(self.shard, self.transaction).expect("it is known after the call")
+    }
+
+    /// What it kept of it behind the registration, before any vote was heard
+    /// but its own.
+    fn entered(&self) -> Known {
+        let mut heard = [None; SHARDS];
+        heard[usize::from(self.shard.number())] = Some(self.own_verdict());
+        Known {
+            transaction: *self.transaction,
+            heard,
+        }
+    }
+
+    /// The receiver's own vote.
+    fn own_verdict(&self) -> Verdict {
+        let own = self.known().heard[usize::from(self.shard.number())];
+        own.expect("it has voted")
+    }
+
+    /// Whether a vote has brought the transaction with this call.
+    fn is_brought(&self) -> bool {
+        matches!(self.done, Done::Brought { .. })
     }
 
     /// Whether some of the transaction's shards are turned, and some are not.

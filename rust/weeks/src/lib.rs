@@ -6,6 +6,7 @@
 #![warn(missing_docs)]
 
 mod answers;
+mod brought;
 mod case;
 mod clauses;
 mod cluster;
@@ -21,8 +22,9 @@ mod week;
 
 pub use answers::{
     ACCEPTED, CAUSES, Cause, DONE, Giver, Reply, carried_out, changes_nothing, given_by, label,
-    never_given_by, refused, replies,
+    never_given_by, refused, replies, shown_for,
 };
+pub use brought::{BROUGHT, BROUGHT_LATER};
 pub use case::Case;
 pub use clauses::{Clauses, View, views};
 pub use cluster::{ClusterStyle, cluster_week, cluster_week_of};

@@ -2,6 +2,7 @@
 
 use std::collections::{HashMap, VecDeque};
 use std::hash::{BuildHasher, BuildHasherDefault, DefaultHasher};
+use std::mem;
 
 use reference::{Cluster, Input, LIMITS, Output, Record, Refusal, TokenId, Transaction, Verdict};
 
@@ -25,8 +26,8 @@ enum Step {
     },
 }
 
-/// Transactions on genesis tokens, with all their registrations and all
-/// deliveries; and turns of shards.
+/// Transactions on genesis tokens, with all their registrations, or all but
+/// some that are left to votes, and all deliveries; and turns of shards.
 pub struct Scenario {
     /// For messages.
     pub name: &'static str,
@@ -44,10 +45,12 @@ pub struct Scenario {
 /// What of the orders is played.
 #[derive(Clone, Copy, PartialEq, Eq)]
 enum Orders {
-    /// Every order: a delivery may come too early, and is refused.
+    /// Every order: a delivery may come too early, before its sender knows the
+    /// transaction, and is refused; to a receiver that does not know it, it
+    /// brings the transaction.
     All,
-    /// As `All`, and after each step every registration that was held off
-    /// before it is sent again.
+    /// As `All`, and after each step every registration and every delivery that
+    /// was held off before it is sent again.
     HeldOffAgain,
     /// A transaction's last shard registers it after its others.
     LastShardLate,
@@ -126,10 +129,11 @@ pub fn scenarios() -> Vec<Scenario> {
             &[0],
             &[(5, &[genesis(0)], &[1]), (6, &[(1, 5, 0)], &[2])],
             Orders::All,
-            // 5 always commits: nobody else wants its token. 6 is voted no where
-            // shard 1 registers it before it knows 5. Else it is held off there
-            // until 5 has made the token, if only by the repeats. Then shard 1
-            // registers it after both registrations of 5, so that 5 goes first.
+            // 5 always commits: nobody else wants its token. 6 is voted no
+            // where it comes to shard 1, by a call or by a vote, before 5 is
+            // known there. Else it is held off until 5 has made the token, if
+            // only by the repeats. Then shard 1 registers it after both
+            // registrations of 5, so that 5 goes first.
             &[&[5], &[5, 6]],
         ),
         Scenario::new(
@@ -154,6 +158,53 @@ pub fn scenarios() -> Vec<Scenario> {
             // holds it off, and may commit it while it waits for 5.
             &[&[5], &[5, 6]],
         ),
+        Scenario::new(
+            "a transaction of three shards that is registered at one",
+            &[0, 1],
+            &[(5, &[genesis(0), genesis(1)], &[2, 2])],
+            Orders::All,
+            // Its votes bring it to the others, and nobody else wants its
+            // tokens.
+            &[&[5]],
+        )
+        .leaving_out(&[(5, 1), (5, 2)]),
+        Scenario::new(
+            "a transaction of three shards that is registered at one, and one no",
+            &[0, 2],
+            &[(5, &[genesis(0), genesis(1), genesis(2)], &[0, 1, 2])],
+            Orders::All,
+            // Shard 1 has no token, and votes no when it is brought there.
+            &[&[]],
+        )
+        .leaving_out(&[(5, 1), (5, 2)]),
+        Scenario::new(
+            "a chain across three shards, brought to its second one while held off",
+            &[0],
+            &[(5, &[genesis(0)], &[1]), (6, &[(1, 5, 0)], &[2])],
+            Orders::HeldOffAgain,
+            // 5 always commits. The vote of shard 2 brings 6 to shard 1: before
+            // 5 is known there, so that it is voted no; or behind the decision
+            // of 5, for until then it is held off. So 5 goes first, though
+            // shard 2 may register 6 before anybody knows 5.
+            &[&[5], &[5, 6]],
+        )
+        .leaving_out(&[(5, 0), (6, 1)]),
+        Scenario::new(
+            "two conflicting transactions that each are brought to the other's shard",
+            &[0, 1],
+            &[
+                (5, &[genesis(0), genesis(1)], &[1, 0]),
+                (6, &[genesis(0), genesis(1)], &[0, 1]),
+            ],
+            Orders::All,
+            // Each may come to both shards before the other does. Where each
+            // has one token, the one that is brought first is voted no; the
+            // other may find the token that this has bound free, if the no and
+            // the turn come there in time.
+            &[&[], &[5], &[6]],
+        )
+        .leaving_out(&[(5, 1), (6, 0)])
+        .turning(&[0, 1]),
         Scenario::new(
             "a transaction registered late at its last shard",
             &[0, 1, 2],
@@ -281,25 +332,54 @@ impl Scenario {
                 }));
             }
         }
-        let needs = steps
-            .iter()
-            .map(|step| {
-                let before = steps
-                    .iter()
-                    .enumerate()
-                    .filter(|(_, other)| orders.need(step, other, &transactions));
-                before.map(|(place, _)| 1 << place).sum()
-            })
-            .collect();
-        Scenario {
+        let scenario = Scenario {
             name,
             ends,
             mints,
             transactions,
-            steps,
-            needs,
+            steps: Vec::new(),
+            needs: Vec::new(),
             orders,
-        }
+        };
+        scenario.with(steps)
+    }
+
+    /// The same with these steps, and what has to come before each of them.
+    fn with(mut self, steps: Vec<Step>) -> Self {
+        let needs = steps.iter().map(|step| {
+            let others = steps.iter().enumerate();
+            let before =
+                others.filter(|(_, other)| self.orders.need(step, other, &self.transactions));
+            before.map(|(place, _)| 1 << place).sum()
+        });
+        self.needs = needs.collect();
+        self.steps = steps;
+        self
+    }
+
+    /// The same without these registrations, each by its transaction's number
+    /// and the shard: votes alone bring the transaction there. The votes of
+    /// shards that register it stand before the others, so that in the repeats
+    /// none is too early.
+    fn leaving_out(mut self, left_out: &[(u32, u8)]) -> Self {
+        let mut steps = mem::take(&mut self.steps);
+        let is_left_out = |transaction: usize, shard: u8| {
+            left_out.contains(&(self.transactions[transaction].number, shard))
+        };
+        steps.retain(|step| match *step {
+            Step::Register { transaction, shard } => !is_left_out(transaction, shard),
+            Step::Deliver { .. } | Step::Turn { .. } => true,
+        });
+        steps.sort_by_key(|step| match *step {
+            Step::Register { transaction, .. } => (transaction, 0),
+            Step::Deliver {
+                transaction,
+                sender,
+                ..
+            } => (transaction, 1 + u8::from(is_left_out(transaction, sender))),
+            Step::Turn { .. } => (self.transactions.len(), 0),
+        });
+        self.with(steps)
     }
 
     /// The same with a turn of each of these shards, at any place of an order.
@@ -312,11 +392,11 @@ impl Scenario {
     }
 
     /// Calls `visit` with every order's number, its calls and its repeats: the
-    /// mints and the steps in that order; then, if some may have been too early,
-    /// all steps again, one transaction's behind the other's, so that every
-    /// transaction comes to be decided at all its shards. A delivery carries the
-    /// vote its sender has given; one that is too early carries any, is refused
-    /// and stays so until the repeats, and so does a registration that is held
+    /// mints and the steps in that order; then, if some may have been too
+    /// early, all steps again, one transaction's behind the other's, so that
+    /// every transaction comes to be decided at all its shards. A delivery
+    /// carries the vote its sender has given; one that is too early carries
+    /// any, is refused and stays so until the repeats, and so does what is held
     /// off, unless it is sent again after each step.
     pub fn orders(&self, mut visit: impl FnMut(u64, &[Record], &[Record])) -> u64 {
         let mut number = 0;
@@ -476,7 +556,7 @@ impl Orders {
         )
     }
 
-    /// Whether a registration that is held off is sent again after each step.
+    /// Whether what is held off is sent again after each step.
     fn sends_again(self) -> bool {
         matches!(self, Orders::HeldOffAgain | Orders::NoneEarlyHeldOffAgain)
     }

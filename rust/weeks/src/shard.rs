@@ -23,6 +23,9 @@ pub struct ShardStyle {
     pub damage: Option<usize>,
     /// How many of sixteen votes are yes.
     pub yes: usize,
+    /// How many new transactions of eight are brought by a vote, where another
+    /// shard takes part.
+    pub brought: usize,
     /// When the shard is turned.
     pub turns: Turns,
 }
@@ -33,7 +36,7 @@ impl ShardStyle {
         let calls = match rng.below(4) {
             0 => 1 + rng.below(40),
             1 => 40 + rng.below(200),
-            _ => 200 + rng.below(400),
+            _ => 150 + rng.below(200),
         };
         let mints = match rng.below(4) {
             0 => rng.below(8),
@@ -49,6 +52,7 @@ impl ShardStyle {
             here: rng.pick(&[1, 4, 7, 8]),
             damage: rng.pick(&[None, Some(40), Some(12), Some(4)]),
             yes: rng.pick(&[8, 14, 16]),
+            brought: rng.pick(&[0, 3, 6]),
             turns: Turns::random(rng, calls),
         }
     }
@@ -104,14 +108,11 @@ impl Week<'_, ShardStyle, Shard> {
     }
 
     fn step(&mut self) {
-        if self.rng.once_in(6) && self.send_again() {
+        if self.rng.once_in(4) && self.send_again() {
             return;
         }
         match self.rng.below(100) {
-            0..27 => {
-                let new = self.new_transaction();
-                self.register(new);
-            }
+            0..27 => self.hand_in(),
             27..31 => {
                 let old = self.old_transaction();
                 self.register(old);
@@ -131,6 +132,7 @@ impl Week<'_, ShardStyle, Shard> {
             87..90 => {
                 let new = self.new_transaction();
                 self.vote(new);
+                self.transactions.push(new);
             }
             90..94 => self.elsewhere(),
             94..97 => {
@@ -139,6 +141,19 @@ impl Week<'_, ShardStyle, Shard> {
             }
             _ => self.other_receiver(),
         }
+    }
+
+    /// A new transaction, registered or brought by a vote.
+    fn hand_in(&mut self) {
+        let new = self.new_transaction();
+        let here = self.here();
+        let others: Vec<u8> = new.shards().filter(|&shard| shard != here).collect();
+        if others.is_empty() || self.rng.below(8) >= self.style.brought {
+            return self.register(new);
+        }
+        let (sender, verdict) = (self.rng.pick(&others), self.verdict());
+        self.send_vote(sender, verdict, new);
+        self.transactions.push(new);
     }
 
     fn register(&mut self, transaction: Transaction) {
@@ -182,8 +197,7 @@ impl Week<'_, ShardStyle, Shard> {
                 return self.send_vote(sender, verdict, known.transaction);
             }
         }
-        let new = self.new_transaction();
-        self.register(new);
+        self.hand_in();
     }
 
     /// A vote heard before, its own included, or its contrary.

@@ -66,8 +66,9 @@ pub(crate) struct Week<'a, S, L> {
     pub transactions: Vec<Transaction>,
     /// Inputs that named a token, for tokens that may be gone.
     pub tokens: Vec<Input>,
-    /// Registrations that were held off and have not come again.
-    held_off: Vec<Record>,
+    /// Calls that were held off, and votes that found no space for what they
+    /// bring, and that have not come again: they may pass later.
+    put_off: Vec<Record>,
     /// The last number given.
     pub last: u32,
     pub records: Vec<Record>,
@@ -92,7 +93,7 @@ impl<'a, S, L: Playable> Week<'a, S, L> {
             shards,
             transactions: Vec::new(),
             tokens: Vec::new(),
-            held_off: Vec::new(),
+            put_off: Vec::new(),
             last,
             records: Vec::with_capacity(plan.calls),
         }
@@ -114,19 +115,24 @@ impl<'a, S, L: Playable> Week<'a, S, L> {
             }
         }
         // Nothing else depends on the answer, only on what the ledger keeps.
-        if self.ledger.play(&record) == Err(Refusal::HeldOff) {
-            self.held_off.push(record);
+        let may_pass_later = match self.ledger.play(&record) {
+            Err(Refusal::HeldOff) => true,
+            Err(Refusal::TokensFull) => matches!(record, Record::Vote { .. }),
+            _ => false,
+        };
+        if may_pass_later {
+            self.put_off.push(record);
         }
         self.records.push(record);
     }
 
-    /// Makes a call again that was held off. Tells whether there was one.
+    /// Makes a call again that was put off. Tells whether there was one.
     pub fn send_again(&mut self) -> bool {
-        if self.held_off.is_empty() {
+        if self.put_off.is_empty() {
             return false;
         }
-        let place = self.rng.below(self.held_off.len());
-        let record = self.held_off.swap_remove(place);
+        let place = self.rng.below(self.put_off.len());
+        let record = self.put_off.swap_remove(place);
         self.send(record);
         true
     }

@@ -6,21 +6,44 @@ use std::collections::BTreeSet;
 use reference::Refusal;
 use weeks::{
     ACCEPTED, CAUSES, DONE, Giver, carried_out, given_by, label, never_given_by, refused, replies,
+    shown_for,
 };
 
 /// Rows are in the order of their numbers, and each row is told apart from all
-/// others by its number, its answer and its words.
+/// others by its number, its answer and its label. The label ends with the
+/// words.
 #[test]
 fn rows_are_told_apart() {
     assert!(DONE.is_sorted_by_key(|reply| reply.code));
     assert!(CAUSES.is_sorted_by_key(|cause| cause.reply.code));
     let codes: BTreeSet<u32> = replies().map(|reply| reply.code).collect();
-    let words: BTreeSet<&str> = replies().map(|reply| reply.words).collect();
+    let labels: BTreeSet<&str> = replies().map(|reply| reply.label).collect();
     let all = DONE.len() + CAUSES.len();
-    assert_eq!((codes.len(), words.len()), (all, all));
+    assert_eq!((codes.len(), labels.len()), (all, all));
     for reply in replies() {
-        assert_eq!(label(reply.answer), reply.words, "{reply:?}");
+        assert_eq!(label(reply.answer), reply.label, "{reply:?}");
+        assert!(reply.label.ends_with(reply.words), "{reply:?}");
     }
+}
+
+/// A transaction that a vote has brought is listed as one that was registered,
+/// and no other answers have words in common. YES ABORT is a vote's alone.
+#[test]
+fn words_in_common() {
+    for reply in replies() {
+        let same = replies().filter(|other| other.words == reply.words);
+        let codes: Vec<u32> = same.map(|other| other.code).collect();
+        match reply.code {
+            registered @ 200..300 => assert_eq!(codes, [registered, registered + 400]),
+            brought @ 600..700 => assert_eq!(codes, [brought - 400, brought]),
+            other => assert_eq!(codes, [other]),
+        }
+    }
+    let [shown, never] = shown_for(&[Giver::Cluster]);
+    assert!(shown.contains(&"YES ABORT") && shown.contains(&"HEARD WAIT"));
+    let none = ["NO WAIT", "NO COMMIT", "REFUSED 11", "REFUSED 12"];
+    assert!(none.iter().all(|words| never.contains(words)));
+    assert!(shown.iter().all(|words| !never.contains(words)));
 }
 
 /// Every refusal that the reference knows has its row, and no other number.
@@ -46,19 +69,27 @@ fn givers() {
     let numbers = |giver| -> Vec<u32> {
         let given = given_by(&[giver]);
         let causes = CAUSES.iter().map(|cause| cause.reply);
-        let first = causes.filter(|reply| reply.code <= 19 && given.contains(&reply.words));
+        let first = causes.filter(|reply| reply.code <= 19 && given.contains(&reply.label));
         first.map(|reply| reply.code).collect()
     };
     assert_eq!(numbers(Giver::Reader), [1, 2, 3, 4, 5]);
     assert_eq!(numbers(Giver::Writer), [3, 4, 5, 15]);
     let shard = [3, 4, 5, 6, 7, 8, 9, 10, 11, 12, 13, 14, 17, 19];
     assert_eq!(numbers(Giver::Shard), shard);
-    let cluster = [3, 4, 5, 6, 7, 8, 9, 10, 11, 13, 14, 16, 17, 19];
+    let cluster = [3, 4, 5, 6, 7, 8, 9, 10, 13, 14, 16, 17, 19];
     assert_eq!(numbers(Giver::Cluster), cluster);
     let both = given_by(&[Giver::Shard, Giver::Cluster]);
-    assert!(carried_out().iter().all(|words| both.contains(words)));
-    for never in ["YES ABORT", "NO COMMIT", "NO WAIT"] {
+    assert!(carried_out().iter().all(|label| both.contains(label)));
+    let never = ["YES ABORT", "NO COMMIT", "NO WAIT"];
+    for never in never
+        .into_iter()
+        .chain(["brought NO COMMIT", "brought NO WAIT"])
+    {
         assert!(!both.contains(&never) && !carried_out().contains(&never));
+    }
+    for given in ["YES WAIT", "YES COMMIT", "YES ABORT", "NO ABORT"] {
+        let brought = format!("brought {given}");
+        assert!(both.contains(&brought.as_str()), "{brought}");
     }
     let others = never_given_by(&[Giver::Shard, Giver::Cluster]);
     assert_eq!(both.len() + others.len(), replies().count());

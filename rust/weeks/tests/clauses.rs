@@ -10,14 +10,15 @@ use reference::{
     Verdict,
 };
 use weeks::{
-    Before, CLUSTER_EVENTS, Case, Clauses, EARLY_ABORTS, Giver, Rng, SEED, TURNS, Tally, View,
-    changes_nothing, cluster_week, label, never_given_by, scenarios, shard_week, views,
+    BROUGHT, BROUGHT_LATER, Before, CLUSTER_EVENTS, Case, Clauses, EARLY_ABORTS, Giver, Rng, SEED,
+    TURNS, Tally, View, changes_nothing, cluster_week, label, never_given_by, scenarios,
+    shard_week, views,
 };
 
 const WEEKS: u64 = 3000;
 
 /// What the clauses have to be tried on.
-const MET: [&str; 10] = [
+const MET: [&str; 15] = [
     "REFUSED 17",
     "REFUSED 19",
     "TURNED",
@@ -25,10 +26,18 @@ const MET: [&str; 10] = [
     "HEARD COMMIT",
     "HEARD ABORT",
     "AGAIN COMMIT",
+    "brought YES WAIT",
+    "brought YES COMMIT",
+    "brought YES ABORT",
+    "brought NO ABORT",
     "made token destroyed",
     "serial ledger, all decided",
     "serial ledger, some undecided",
+    BY_VOTES,
 ];
+
+/// Counted once a week, at its end.
+const BY_VOTES: &str = "serial order by what votes have brought";
 
 #[test]
 fn random_weeks_keep_the_clauses() {
@@ -56,11 +65,16 @@ fn random_weeks_keep_the_clauses() {
                 commits = clauses.commits();
             }
         }
+        if clauses.is_ordered_by_votes() {
+            events.tally.add(BY_VOTES);
+        }
     }
     let title = "clauses over random weeks";
     tally.report(title, &MET, 100);
     tally.check(title, &EARLY_ABORTS, 100);
     tally.check(title, &TURNS, 100);
+    tally.check(title, &BROUGHT, 100);
+    tally.check(title, &BROUGHT_LATER, 20);
     tally.check(title, &CLUSTER_EVENTS, 100);
 }
 
@@ -95,8 +109,8 @@ fn every_order_keeps_the_clauses() {
 }
 
 /// The reference keeps its promises about answers: a no aborts at once, a
-/// registration decides nothing else where other shards take part, and twelve is
-/// never met in a cluster.
+/// registration decides nothing else where other shards take part, and eleven
+/// and twelve are never met in a cluster.
 #[test]
 fn answers_that_cannot_be() {
     let mut lone = Tally::default();
@@ -116,9 +130,11 @@ fn answers_that_cannot_be() {
     cluster_tally.check_never("a cluster", &never_given_by(&[Giver::Cluster]));
     // What tells the two apart.
     assert_eq!(lone.count("REFUSED 16"), 0);
-    assert!(lone.count("REFUSED 12") > 0);
-    assert_eq!(cluster_tally.count("REFUSED 12"), 0);
     assert!(cluster_tally.count("REFUSED 16") > 0);
+    for only_alone in ["REFUSED 11", "REFUSED 12"] {
+        assert!(lone.count(only_alone) > 0, "{only_alone}");
+        assert_eq!(cluster_tally.count(only_alone), 0, "{only_alone}");
+    }
 }
 
 // Wrong states. Each starts from what the reference does and changes one thing.
@@ -470,4 +486,141 @@ fn wrong_turns_are_caught() {
     }
     let unasked = from(3, |shards| shards[0].2 = true);
     assert!(caught(&records[..4], unasked), "an abort turns the shard");
+}
+
+/// Transaction 5 is brought to shard 1 by shard 0's vote, behind another one
+/// that shard 1 knows.
+fn bringing() -> Vec<Record> {
+    let (five, mut other) = (shared(), away(6));
+    other.inputs[0].token.shard = 1;
+    vec![
+        mint(),
+        register(1, other),
+        register(0, five),
+        vote(1, 0, 1, five),
+        vote(1, 1, 2, five),
+    ]
+}
+
+/// A vote that brings its transaction notes it behind what was known, with two
+/// verdicts, and changes nothing else.
+#[test]
+fn wrong_bringings_are_caught() {
+    let records = bringing();
+    assert!(!caught(&records, |_, _| ()), "nothing is wrong");
+    let (yes, no) = (Some(Verdict::Yes), Some(Verdict::No));
+    type Change = fn(&mut Shards);
+    let cases: [(&str, Change); 7] = [
+        ("is not known", |shards| shards[1].1.truncate(1)),
+        ("known before the other", |shards| shards[1].1.swap(0, 1)),
+        ("instead of the other", |shards| {
+            shards[1].1.remove(0);
+        }),
+        ("the vote is not heard", |shards| {
+            shards[1].1[1].heard[0] = None;
+        }),
+        ("the own vote is missing", |shards| {
+            shards[1].1[1].heard[1] = None;
+        }),
+        ("changes the other", |shards| {
+            shards[1].1[0].heard[0] = Some(Verdict::Yes);
+        }),
+        ("is known elsewhere, too", |shards| {
+            let brought = shards[1].1[1];
+            shards[2].1.push(brought);
+        }),
+    ];
+    for (name, change) in cases {
+        let wrong = |call: usize, shards: &mut Shards| {
+            if call == 3 {
+                change(shards);
+            }
+        };
+        assert!(caught(&records[..4], wrong), "{name}");
+    }
+    // The own vote is for the commit rule: shard 1 has no input, so each is
+    // there.
+    let voted = |own| {
+        move |call: usize, shards: &mut Shards| {
+            for place in [1, 2] {
+                if call >= 2 + place {
+                    shards[place].1.last_mut().expect("it is known").heard[1] = own;
+                }
+            }
+        }
+    };
+    let mut all = records;
+    all.push(vote(1, 0, 2, shared()));
+    assert!(!caught(&all, voted(yes)), "nothing is wrong");
+    assert!(
+        caught(&all, voted(no)),
+        "votes no although all is available"
+    );
+}
+
+/// A refused vote brings nothing; and a pledge begins with what is brought.
+#[test]
+fn what_a_refused_vote_leaves_is_caught() {
+    let (first, mut second) = (away(5), away(6));
+    second.inputs[0].token = TokenId {
+        shard: 1,
+        creator: 5,
+        index: 0,
+    };
+    second.outputs[0].shard = 2;
+    let records = [
+        mint(),
+        register(1, first),
+        register(2, second),
+        vote(1, 2, 1, second),
+    ];
+    assert!(!caught(&records, |_, _| ()), "nothing is wrong");
+    let kept = |call: usize, shards: &mut Shards| {
+        if call == 3 {
+            let second = shards[2].1[0];
+            shards[1].1.push(second);
+        }
+    };
+    assert!(caught(&records, kept), "the registration is kept");
+
+    // Shard 1's yes brings 5 to shard 0, where its token is pledged.
+    let mut three = shared();
+    three.outputs[0].shard = 1;
+    let records = [mint(), register(1, three), vote(1, 1, 0, three)];
+    assert!(!caught(&records, |_, _| ()), "nothing is wrong");
+    assert!(caught(&records, pledging(2, Some(6))), "another's pledge");
+    let behind = [&records[..], &[vote(1, 1, 0, three)]].concat();
+    assert!(caught(&behind, pledging(3, None)), "a repeat frees");
+}
+
+/// Last registration counts those that votes bring. Shard 2 registers 6 before
+/// anybody knows 5, and shard 1 comes to know it when 5 has made what it takes.
+#[test]
+fn the_order_counts_what_votes_bring() {
+    let (five, mut six) = (away(5), away(6));
+    six.inputs[0].token = TokenId {
+        shard: 1,
+        creator: 5,
+        index: 0,
+    };
+    six.outputs[0].shard = 2;
+    let records = [
+        mint(),
+        register(2, six),
+        register(0, five),
+        vote(1, 0, 1, five),
+        vote(1, 2, 1, six),
+        vote(1, 1, 2, six),
+        vote(1, 1, 0, five),
+    ];
+    let (mut cluster, mut clauses) = (Cluster::new(LIMITS), Clauses::new());
+    for record in &records {
+        let answer = cluster.play(record);
+        assert!(answer.is_ok(), "{record:?}");
+        clauses.step(record, false, &views(&cluster));
+        clauses.serial();
+    }
+    assert!(clauses.serial(), "both are decided at all their shards");
+    assert_eq!(clauses.committed_numbers(), [5, 6]);
+    assert!(clauses.is_ordered_by_votes());
 }

@@ -11,6 +11,8 @@ struct Played {
     tally: Tally,
     /// How often each end was reached: the commits in serial order.
     ends: BTreeMap<Vec<u32>, u64>,
+    /// How often that order is one by registrations that votes have brought.
+    by_votes: u64,
 }
 
 /// Plays every order of the scenario of this name, with its repeats, on the
@@ -18,7 +20,7 @@ struct Played {
 fn play(name: &str) -> Played {
     let mut scenarios = scenarios().into_iter();
     let scenario = scenarios.find(|scenario| scenario.name == name);
-    let (mut tally, mut ends) = (Tally::default(), BTreeMap::new());
+    let (mut tally, mut ends, mut by_votes) = (Tally::default(), BTreeMap::new(), 0);
     let orders = scenario.expect(name).orders(|_, calls, repeats| {
         let (mut cluster, mut clauses) = (Cluster::new(LIMITS), Clauses::new());
         let mut events = tally.week();
@@ -29,11 +31,13 @@ fn play(name: &str) -> Played {
             clauses.step(record, answer.is_err(), &views(&cluster));
         }
         *ends.entry(clauses.committed_numbers()).or_default() += 1;
+        by_votes += u64::from(clauses.is_ordered_by_votes());
     });
     Played {
         orders,
         tally,
         ends,
+        by_votes,
     }
 }
 
@@ -138,83 +142,147 @@ fn held_off_until_the_no() {
 
 // Tokens that come free. Transaction 5 takes the tokens of the shards 0 and 1,
 // transaction 6 that of shard 1 alone and 7 that of shard 0 alone. The eight
-// steps may come in any order: at each shard its registration of 5, the delivery
-// of the other's vote on 5, the registration of 6 or 7, and the turn. A delivery
-// has its effect in its place if both registrations of 5 are before it, else it
-// has it in the repeats. All is the same with the shards changed about.
+// steps may come in any order: at each shard its registration of 5, the
+// delivery of the other's vote on 5, the registration of 6 or 7, and the turn.
+// All is the same with the shards changed about.
+//
+// A and B are the registrations of 5 at the shards 0 and 1, Y is the delivery
+// to shard 0, and X the one to shard 1. Where A is before B, 5 comes to shard 0
+// with A, and to shard 1 with B; or with X, if that stands between the two. X
+// has no effect before A, and Y has none before 5 has come to shard 1: these
+// are refused, and come again in the repeats.
 
 const FREED: &str = "contended tokens that come free, at shards that turn at any time";
 
 /// All orders.
 const EIGHT: u64 = 40_320;
 
-/// Orders of which something is asked that depends on five steps, or on six: so
-/// many for each order of these.
+/// Orders of which something is asked that depends on five steps, six or seven:
+/// so many for each order of these.
 const OF_FIVE: u64 = EIGHT / 120;
 const OF_SIX: u64 = EIGHT / 720;
+const OF_SEVEN: u64 = EIGHT / 5040;
 
-/// 5 comes first at both shards, second at both, or first at shard 0 and second
-/// at shard 1: one order of four each. The last of these are told apart below;
-/// there shard 1 votes no on 5, and shard 0, which has voted yes, frees its token
-/// sooner or later.
-const QUARTER: u64 = EIGHT / 4;
+// Where A is before B, there are 20 orders of A, B, X, 6 and 7 each with X
+// between A and B, behind both and before both. 5 comes before 7 to shard 0 and
+// before 6 to shard 1 in 8, 8 and 3 of them, first to shard 0 only in 7, 7 and
+// 7, first to shard 1 only in 2, 2 and 2, and first to neither in 3, 3 and 8.
+// Where B is before A it is the same with Y, and with the shards changed about.
 
-/// Of that last quarter: the vote and the turn come to shard 0 before 7 does, so
-/// that 7 spends the freed token. 7 is the last of the six steps; the vote is
-/// behind 6 at shard 1, behind 5 there and behind 5 at shard 0, which may stand
-/// in 3 orders; the turn has 5 places.
-const SPENT: u64 = 3 * 5 * OF_SIX;
+/// 5 is first at both shards.
+const FIRST_AT_BOTH: u64 = 2 * (8 + 8 + 3) * OF_FIVE;
 
-/// Of that quarter: the no comes to shard 0 before the turn does. As before there
-/// are 3 orders in front of the vote, with 5 at shard 0 first, second or third of
-/// them, and 7 is somewhere behind that.
-const NO_BEFORE_TURN: u64 = (5 + 4 + 3) * OF_SIX;
+/// It is first at shard 0 and second at shard 1. Then shard 1 votes no on it,
+/// and shard 0, which has voted yes, frees its token sooner or later.
+const FIRST_AT_0: u64 = (7 + 7 + 7 + 2 + 2 + 2) * OF_FIVE;
 
-/// And 7 stands between the two.
-const STILL_BOUND: u64 = 3 * OF_SIX;
+/// It is second at both.
+const SECOND_AT_BOTH: u64 = 2 * (3 + 3 + 8) * OF_FIVE;
 
-/// 5 comes to shard 0 before 7 and before the turn, in a third of the orders, and
-/// the vote has not decided it when the turn comes. It has where it is behind both
-/// registrations of 5, in either order, and before the turn, with 7 behind that of
-/// shard 0.
-const UNDECIDED_AT_TURN: u64 = EIGHT / 3 - (4 + 3) * OF_FIVE;
+/// Of these, a delivery brings it: where X is between A and B, or Y between B
+/// and A. Where 5 is first at one shard only, it is brought to the other or to
+/// that.
+const BROUGHT_FIRST_AT_BOTH: u64 = 2 * 8 * OF_FIVE;
+const BROUGHT_WHERE_SECOND: u64 = 2 * 7 * OF_FIVE;
+const BROUGHT_WHERE_FIRST: u64 = 2 * 2 * OF_FIVE;
+const BROUGHT_SECOND_AT_BOTH: u64 = 2 * 3 * OF_FIVE;
 
-/// 7 commits at shard 0 although the token never was 5's, behind the turn: 7 is
-/// between the turn and 5.
-const TURN_SEVEN_FIVE: u64 = EIGHT / 6;
+/// 5 is first at shard 0 only, which hears the no with Y in its place, before
+/// 7. Of the orders of A, B, X, Y, 6 and 7 these are: A and 6, then X, then Y
+/// before 7, and B anywhere behind X; A and 6, then B, Y and 7, and X anywhere
+/// but between A and B; 6, B, Y, A, 7, or 6, B, Y, 7, A, or 6, B, A, Y, 7, and
+/// X anywhere.
+const NO_BEFORE_SEVEN: u64 = 2 * 3 + (4 + 5) + 3 * 6;
 
-/// 5 commits, and its vote comes to shard 0 before the turn: behind both
-/// registrations, in either order. 7 is behind the one, in 4 places, and 6 behind
-/// the other, in 4 more, or in 3 if 7 stands between the two.
-const FIVE_BEFORE_TURN: u64 = 2 * (3 + 3 * 4) * OF_SIX;
+/// The places of 7 in these, added up.
+const PLACES_OF_SEVEN: u64 = 2 * 17 + (23 + 29) + 35 + 28 + 35;
+
+/// The turn of shard 0 comes before 7, too, so that 7 spends the freed token.
+const SPENT: u64 = PLACES_OF_SEVEN * OF_SEVEN;
+
+/// And it comes behind 7, which finds the token bound.
+const STILL_BOUND: u64 = (7 * NO_BEFORE_SEVEN - PLACES_OF_SEVEN) * OF_SEVEN;
+
+/// The turn of shard 0 comes behind the no and frees the token. The orders are
+/// those, with 7 anywhere behind 5 at shard 0; the places behind Y, added up.
+const NO_BEFORE_TURN: u64 = (33 + 46 + 2 * 21 + 21) * OF_SEVEN;
+
+/// The turn comes before the no, and this brings 5 to shard 0: 6, B, Y, and
+/// then A and 7, with X anywhere. The places before Y, added up.
+const FREED_BY_THE_NO: u64 = 2 * 21 * OF_SEVEN;
+
+/// Of the orders of A, B, X, Y, 7 and the turn of shard 0: 5 comes there before
+/// 7 and before the turn, with A before B, with Y behind B, or with A behind B;
+/// less those in which Y then decides it before the turn, 5 having come to
+/// shard 1 with X, or with B, or Y having brought it, or A behind B.
+const UNDECIDED_AT_TURN: u64 = (180 + 36 + 48 - (15 + 19 + 36 + 18)) * OF_SIX;
+
+/// 7 commits at shard 0 although the token never was 5's, behind the turn. 7 is
+/// between the turn and 5, which comes with A before B, with Y, or with A
+/// behind B.
+const TURN_SEVEN_FIVE: u64 = (30 + 18 + 54) * OF_SIX;
+
+/// 5 is first at both shards, and Y comes to shard 0 before the turn. Of the
+/// orders of A, B, X, Y, 6 and 7, where 5 comes to shard 1 with X, or with B
+/// behind A, or to shard 0 with Y, or with A behind B: the places behind Y,
+/// added up.
+const FIVE_BEFORE_TURN: u64 = (72 + 87 + 210 + 105) * OF_SEVEN;
 
 #[test]
 fn contended_tokens_come_free() {
     let played = play(FREED);
     assert_eq!(played.orders, EIGHT, "orders");
+    let either_first = SECOND_AT_BOTH / 2 + SPENT;
     let ends = [
-        (vec![5], QUARTER),
-        (vec![6], QUARTER - SPENT),
+        (vec![5], FIRST_AT_BOTH),
+        (vec![6], FIRST_AT_0 - SPENT),
         // 5 second at both shards, and every second time 6 before 7.
-        (vec![6, 7], QUARTER / 2 + SPENT),
-        (vec![7], QUARTER - SPENT),
-        (vec![7, 6], QUARTER / 2 + SPENT),
+        (vec![6, 7], either_first),
+        (vec![7], FIRST_AT_0 - SPENT),
+        (vec![7, 6], either_first),
     ];
     assert_eq!(played.ends, ends.into());
+    let noes_on_five = 2 * SECOND_AT_BOTH + 2 * FIRST_AT_0;
+    let brought_noes = BROUGHT_SECOND_AT_BOTH + BROUGHT_WHERE_SECOND;
     played.check(&[
         // Each shard is turned once, and not a second time by the repeats.
         ("TURNED", 2 * EIGHT),
         ("REFUSED 19", 2 * EIGHT),
-        // 6 and 7; 5 at both; 5 at one and 7 or 6, unless it is freed in time.
+        // On 5, on 6 and 7, and on one of these, unless it is freed in time.
         (
             "NO ABORT",
-            2 * QUARTER + 2 * QUARTER + 2 * (2 * QUARTER - SPENT),
+            noes_on_five - brought_noes + 2 * FIRST_AT_BOTH + 2 * (FIRST_AT_0 - SPENT),
         ),
-        ("YES COMMIT", 2 * QUARTER + 2 * (QUARTER + SPENT)),
+        ("YES COMMIT", 2 * SECOND_AT_BOTH + 2 * (FIRST_AT_0 + SPENT)),
+        ("brought NO ABORT", brought_noes),
+        ("brought YES COMMIT", BROUGHT_FIRST_AT_BOTH),
+        // The other shard has voted no.
+        ("brought YES ABORT", BROUGHT_WHERE_FIRST),
+        ("brought by a no, own no", BROUGHT_SECOND_AT_BOTH),
+        ("brought by a yes, own no", BROUGHT_WHERE_SECOND),
+        // In a third of the orders, and again in the repeats.
+        ("brought, registered too late", 2 * EIGHT / 3),
+        ("REFUSED 11", 0),
+        // X before A, in 4 of 12 orders, or Y before 5 is at shard 1, in 7 of
+        // them.
+        ("REFUSED 16", 2 * (4 + 7) * EIGHT / 24),
+    ]);
+}
+
+#[test]
+fn tokens_are_freed_and_spent() {
+    play(FREED).check(&[
         ("freed and spent", 2 * SPENT),
         ("freed by a turn", 2 * NO_BEFORE_TURN),
+        (
+            "brought, freed by the no that brought it",
+            2 * FREED_BY_THE_NO,
+        ),
         // In the repeats at the latest.
-        ("freed by a no heard last", 2 * (QUARTER - NO_BEFORE_TURN)),
+        (
+            "freed by a no heard last",
+            2 * (FIRST_AT_0 - NO_BEFORE_TURN - FREED_BY_THE_NO),
+        ),
         // 5 has two shards, so a no is the last vote. At one shard it takes one
         // token: nothing is available there if it votes no.
         ("freed by a no heard early", 0),
@@ -223,7 +291,194 @@ fn contended_tokens_come_free() {
         ("pledged over a turn", 2 * UNDECIDED_AT_TURN),
         (
             "committed at a turned shard",
-            2 * (TURN_SEVEN_FIVE + SPENT + QUARTER - FIVE_BEFORE_TURN),
+            2 * (TURN_SEVEN_FIVE + SPENT + FIRST_AT_BOTH - FIVE_BEFORE_TURN),
         ),
+    ]);
+}
+
+// Brought to two shards. Transaction 5 has the shards 0, 1 and 2 and is
+// registered at shard 0 alone; the other six of the seven steps are the
+// deliveries. Those before the registration are refused. Behind it the vote of
+// 0 brings 5 to 1 and to 2, unless the other one's vote has brought it there
+// before.
+
+/// All orders.
+const SEVEN: u64 = 5040;
+
+/// The vote of shard 1, or that of shard 2, to another: behind the registration
+/// and then the vote of 0 to its sender, in 20 orders of the five steps, or
+/// behind the registration and both votes by way of the other shard, in 5; in 3
+/// it is both.
+const IN_TIME: u64 = (20 + 5 - 3) * SEVEN / 120;
+
+/// Two votes of shard 0 are refused in every second order, the others where
+/// they are not in time.
+const TOO_EARLY: u64 = 2 * SEVEN / 2 + 4 * (SEVEN - IN_TIME);
+
+/// Shard 1 has 5 from shard 0 and brings it to shard 2: the registration, the
+/// vote of 0 to 1 and that of 1 to 2 are in this order, and the vote of 0 to 2
+/// is before all three or behind them.
+const BY_WAY_OF_1: u64 = 2 * SEVEN / 24;
+
+#[test]
+fn registered_at_one_shard() {
+    let played = play("a transaction of three shards that is registered at one");
+    assert_eq!(played.orders, SEVEN, "orders");
+    assert_eq!(played.ends, [(vec![5], SEVEN)].into());
+    played.check(&[
+        // At shard 0, and once more in the repeats.
+        ("YES WAIT", SEVEN),
+        ("REFUSED 8", SEVEN),
+        // To each of the others once, in the repeats at the latest. Each then
+        // waits for one vote, and shard 0 for two.
+        ("brought YES WAIT", 2 * SEVEN),
+        ("brought, later committed", 2 * SEVEN),
+        ("HEARD WAIT", SEVEN),
+        ("HEARD COMMIT", 3 * SEVEN),
+        // All three have voted then, so it has come to both of the others.
+        ("committed, brought to two of its shards or more", 3 * SEVEN),
+        ("REFUSED 16", TOO_EARLY),
+        ("REFUSED 11", 0),
+        (
+            "brought by the vote of one that was brought",
+            2 * BY_WAY_OF_1,
+        ),
+    ]);
+    // What had its effect in its place is heard again in the repeats.
+    let again = ["AGAIN WAIT", "AGAIN COMMIT"].map(|label| played.tally.count(label));
+    assert_eq!(again.iter().sum::<u64>(), 6 * SEVEN - TOO_EARLY);
+}
+
+/// The votes of 1 and of 2 are both in time at shard 0: both behind the vote of
+/// 0 to their sender, in 252 orders; or one of them by way of the other shard,
+/// in 126 each; or both, in 20. Less those in which one is in time by either
+/// way, in 77 each and 19 each, and again the 18 in which both are.
+const BOTH_IN_TIME: u64 = 252 + 2 * 126 + 20 - 2 * 77 - 2 * 19 + 18;
+
+/// Shard 0 hears the yes of 2 before the no of 1: where that one alone is in
+/// time, and in every second order in which both are. The repeats have the no
+/// first.
+const YES_FIRST_AT_0: u64 = IN_TIME - BOTH_IN_TIME / 2;
+
+/// The same steps. Shard 1 has no token and votes no.
+#[test]
+fn registered_at_one_shard_and_one_no() {
+    let played = play("a transaction of three shards that is registered at one, and one no");
+    assert_eq!(played.orders, SEVEN, "orders");
+    assert_eq!(played.ends, [(vec![], SEVEN)].into());
+    played.check(&[
+        // Shard 1, whoever has brought it there: neither of the others votes
+        // no.
+        ("brought NO ABORT", SEVEN),
+        ("brought by a yes, own no", SEVEN),
+        // Shard 2, by the no of shard 1 or by the yes of shard 0.
+        ("brought YES ABORT", BY_WAY_OF_1),
+        ("brought YES WAIT", SEVEN - BY_WAY_OF_1),
+        ("brought, later aborted", SEVEN - BY_WAY_OF_1),
+        ("HEARD WAIT", YES_FIRST_AT_0),
+        ("HEARD ABORT", 4 * SEVEN - YES_FIRST_AT_0),
+        ("aborted early, by its own no", SEVEN),
+        // At shard 0 and at shard 2.
+        (
+            "aborted early, by a no heard",
+            SEVEN - YES_FIRST_AT_0 + BY_WAY_OF_1,
+        ),
+        // At shard 1 two, the one that has brought it there and the other.
+        (
+            "yes after an abort",
+            2 * SEVEN + SEVEN - YES_FIRST_AT_0 + BY_WAY_OF_1,
+        ),
+        ("no after an abort", 0),
+        ("REFUSED 16", TOO_EARLY),
+    ]);
+}
+
+// A chain. Transaction 5 goes from shard 0 to shard 1, and is registered there
+// alone; 6 takes its token there and goes to shard 2, and is registered there
+// alone. The other four of the six steps are the deliveries; that of 6 to shard
+// 1 comes again after each step as long as it is held off.
+
+/// All orders.
+const SIX: u64 = 720;
+
+/// The vote of shard 2 brings 6 to shard 1 before that has registered 5: no.
+const BEFORE_FIVE: u64 = SIX / 6;
+
+/// It comes behind the registrations of 5 and of 6; but not behind the decision
+/// of 5, with its registration and its two votes in this order, and that of 6
+/// at any of four places before it.
+const HELD_OFF_AT_1: u64 = SIX / 3 - 4 * SIX / 120;
+
+#[test]
+fn a_chain_is_brought() {
+    let played = play("a chain across three shards, brought to its second one while held off");
+    assert_eq!(played.orders, SIX, "orders");
+    let ends = [(vec![5], BEFORE_FIVE), (vec![5, 6], SIX - BEFORE_FIVE)];
+    assert_eq!(played.ends, ends.into());
+    // 6 is registered at shard 2 before 5 is at shard 1, and does not come to
+    // shard 1 before that: the brought registration alone puts it behind.
+    assert_eq!(played.by_votes, SIX / 2 - BEFORE_FIVE, "by votes");
+    played.check(&[
+        ("YES WAIT", 2 * SIX),
+        // 5 at shard 0, and 6 at shard 1: each is of two shards.
+        ("brought YES COMMIT", SIX + SIX - BEFORE_FIVE),
+        ("brought NO ABORT", BEFORE_FIVE),
+        ("brought by a yes, own no", BEFORE_FIVE),
+        ("held off, later committed", HELD_OFF_AT_1),
+        ("held off, later aborted", 0),
+        ("vote refused with 17, later brought", HELD_OFF_AT_1),
+        ("REFUSED 11", 0),
+    ]);
+}
+
+// Two conflicting transactions. 5 and 6 both take the tokens of the shards 0
+// and 1. 5 is registered at shard 0 and brought to shard 1, 6 the other way
+// round. There are the two registrations, four deliveries and two turns. In the
+// repeats 5 is brought before 6, and all shards are turned.
+
+/// 5 comes to shard 1 before 6 is registered there, and so is first at both; 6
+/// likewise.
+const ONE_AT_BOTH: u64 = EIGHT / 6;
+
+/// Else each is first where it is registered. Both are brought in their place,
+/// behind both registrations: 6 commits where 5 is brought first, its no comes
+/// to shard 0, and 6 is brought there behind that and behind the turn, for
+/// which there are 5 places. The other vote and the other turn may stand
+/// anywhere. Likewise 5.
+const FREED_IN_TIME: u64 = 2 * 5 * 7 * 8;
+
+/// 5 is brought in its place, behind both registrations, and 6 only in the
+/// repeats: 6 commits. So it does where both are brought in the repeats.
+const SIX_IN_THE_REPEATS: u64 = 3 * EIGHT / 24 + EIGHT / 4;
+
+/// 6 is brought in its place and 5 in the repeats, before anything else: 5
+/// commits if the no on 6 is heard in its place.
+const FIVE_IN_THE_REPEATS: u64 = 3 * EIGHT / 120;
+
+#[test]
+fn a_contended_pair_is_brought() {
+    let played = play("two conflicting transactions that each are brought to the other's shard");
+    assert_eq!(played.orders, EIGHT, "orders");
+    let five = ONE_AT_BOTH + FREED_IN_TIME + FIVE_IN_THE_REPEATS;
+    let six = ONE_AT_BOTH + FREED_IN_TIME + SIX_IN_THE_REPEATS;
+    let ends = [
+        (vec![], EIGHT - five - six),
+        (vec![5], five),
+        (vec![6], six),
+    ];
+    assert_eq!(played.ends, ends.into());
+    let noes = 2 * EIGHT - five - six;
+    played.check(&[
+        // Each is brought once, and one that finds its second token commits
+        // with it.
+        ("brought YES COMMIT", five + six),
+        ("brought NO ABORT", noes),
+        // The one that is second at both shards.
+        ("brought by a no, own no", 2 * ONE_AT_BOTH),
+        ("brought by a yes, own no", noes - 2 * ONE_AT_BOTH),
+        ("brought YES ABORT", 0),
+        ("brought YES WAIT", 0),
+        ("freed and spent", five + six - 2 * ONE_AT_BOTH),
+        ("REFUSED 11", 0),
     ]);
 }

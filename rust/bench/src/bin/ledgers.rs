@@ -31,6 +31,7 @@ const SHARD: ShardStyle = ShardStyle {
     here: 4,
     damage: None,
     yes: 14,
+    brought: 0,
     turns: Turns::NEVER,
 };
 const FULL_SHARD: ShardStyle = ShardStyle {
@@ -45,6 +46,7 @@ const CLUSTER: ClusterStyle = ClusterStyle {
     amounts: 40,
     new: 10,
     due: 55,
+    left_out: 0,
     damage: None,
     turns: Turns::NEVER,
 };
@@ -65,6 +67,13 @@ const TURNED_CLUSTER: ClusterStyle = ClusterStyle {
     ..CLUSTER
 };
 
+/// As `CLUSTER`, with each transaction registered at one shard and brought to
+/// the others by votes.
+const BROUGHT_CLUSTER: ClusterStyle = ClusterStyle {
+    left_out: 8,
+    ..CLUSTER
+};
+
 fn main() -> ExitCode {
     let arguments: Vec<String> = env::args().skip(1).collect();
     let (rounds, repeats) = match arguments.as_slice() {
@@ -79,6 +88,7 @@ fn main() -> ExitCode {
         ("cluster", CLUSTER),
         ("full cluster", FULL_CLUSTER),
         ("turned cluster", TURNED_CLUSTER),
+        ("brought cluster", BROUGHT_CLUSTER),
     ]
     .map(|(name, style)| (name, weeks(|rng| cluster_of(rng, style))));
     let shards = [("shard", SHARD), ("full shard", FULL_SHARD)]

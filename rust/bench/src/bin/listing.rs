@@ -73,6 +73,7 @@ fn week() -> Vec<Record> {
         amounts: 9_000,
         new: 8,
         due: 60,
+        left_out: 0,
         damage: Some(200),
         turns: Turns::NEVER,
     };

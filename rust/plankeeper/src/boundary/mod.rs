@@ -17,10 +17,11 @@
 //! | 300 + outcome | a vote heard for the first time |
 //! | 400 + outcome | a vote that was heard before |
 //! | 500 | the shard is turned |
+//! | 600 + 10 × verdict + outcome | a vote has brought its transaction; the verdict is the receiver's own |
 //!
-//! The outcome is 0 wait, 1 commit or 2 abort. 200, 201 and 212 are never given:
-//! a shard that votes no aborts at once, and one that votes yes has then heard
-//! no other vote.
+//! The outcome is 0 wait, 1 commit or 2 abort. 200, 201, 212, 600 and 601 are
+//! never given: a shard that votes no aborts at once, and one that votes yes
+//! when it is asked to register has then heard no other vote.
 //!
 //! # Why this is safe
 //!
@@ -98,7 +99,8 @@ pub trait Memory: sealed::Sealed {
 
     /// Hands the sending shard's vote to the receiving one: the verdict is 1
     /// for yes and 0 for no. A cluster sees to it that the sender has given
-    /// that vote; a lone shard hears any.
+    /// that vote; a lone shard hears any. To a shard that does not know the
+    /// number it brings the transaction, which is registered there first.
     fn deliver(
         &mut self,
         receiver: u32,

@@ -51,7 +51,7 @@ fn play<M: Memory + Clone>(ledger: &mut Ledger<M>, told: &[Told], codes: &mut BT
         assert_eq!(code, *expected, "{record:?}");
         let after = ledger.memory().words().as_ref();
         let changed = *after != before;
-        let carried_out = matches!(code, 100..400 | 500);
+        let carried_out = matches!(code, 100..400 | 500..);
         assert_eq!(changed, carried_out, "{record:?}: {code}");
         codes.insert(code);
 
@@ -66,8 +66,8 @@ fn codes_of_a_cluster() {
     let mut codes = BTreeSet::new();
     play(&mut Cluster::new(), &cluster_story(), &mut codes);
     let every = [
-        3, 4, 5, 6, 7, 8, 9, 10, 11, 13, 14, 16, 17, 19, 100, 202, 210, 211, 300, 301, 302, 400,
-        401, 402, 500,
+        3, 4, 5, 6, 7, 8, 9, 10, 13, 14, 16, 17, 19, 100, 202, 210, 211, 300, 301, 302, 400, 401,
+        402, 500, 602, 610, 611, 612,
     ];
     assert_eq!(codes, every.into());
 }
@@ -80,7 +80,7 @@ fn codes_of_a_shard() {
     }
     let every = [
         3, 4, 5, 6, 7, 8, 9, 10, 11, 12, 13, 14, 17, 19, 100, 202, 210, 211, 300, 301, 302, 400,
-        401, 402, 500,
+        401, 402, 500, 602, 610, 611, 612,
     ];
     assert_eq!(codes, every.into());
 }
@@ -148,7 +148,8 @@ fn codes_of_bytes() {
 #[test]
 fn calls_answers_are_told_apart() {
     let registered = |verdict, outcome| Ok(Answer::Registered { verdict, outcome });
-    let answers: [(u32, &str, Result<Answer, Refusal>); 14] = [
+    let brought = |verdict, outcome| Ok(Answer::Brought { verdict, outcome });
+    let answers: [(u32, &str, Result<Answer, Refusal>); 20] = [
         (100, "OPENED", Ok(Answer::Minted)),
         (200, "NO WAIT", registered(Verdict::No, Outcome::Wait)),
         (201, "NO COMMIT", registered(Verdict::No, Outcome::Commit)),
@@ -163,6 +164,12 @@ fn calls_answers_are_told_apart() {
         (401, "AGAIN COMMIT", Ok(Answer::Again(Outcome::Commit))),
         (402, "AGAIN ABORT", Ok(Answer::Again(Outcome::Abort))),
         (500, "TURNED", Ok(Answer::Turned)),
+        (600, "NO WAIT", brought(Verdict::No, Outcome::Wait)),
+        (601, "NO COMMIT", brought(Verdict::No, Outcome::Commit)),
+        (602, "NO ABORT", brought(Verdict::No, Outcome::Abort)),
+        (610, "YES WAIT", brought(Verdict::Yes, Outcome::Wait)),
+        (611, "YES COMMIT", brought(Verdict::Yes, Outcome::Commit)),
+        (612, "YES ABORT", brought(Verdict::Yes, Outcome::Abort)),
     ];
     for (code, text, answer) in answers {
         assert_eq!(answer_from_code(code), Some(answer), "{code}");
@@ -175,8 +182,23 @@ fn calls_answers_are_told_apart() {
     }
     // No other number is one.
     let codes = (0..100_000).filter(|&code| answer_from_code(code).is_some());
-    assert_eq!(codes.count(), 14 + 18);
-    for odd in [0, 18, 20, 99, 101, 203, 259, 310, 403, 501, u32::MAX] {
+    assert_eq!(codes.count(), 20 + 18);
+    for odd in [
+        0,
+        18,
+        20,
+        99,
+        101,
+        203,
+        259,
+        310,
+        403,
+        501,
+        603,
+        609,
+        613,
+        u32::MAX,
+    ] {
         assert_eq!(answer_from_code(odd), None, "{odd} passed for an answer");
         assert!(catch_unwind(|| answered(odd)).is_err(), "{odd}");
     }

@@ -159,6 +159,30 @@ fn words_after_calls() {
     }
 }
 
+/// A vote brings its transaction to shard 1, alone and in a cluster: what a
+/// registration and a vote would leave.
+#[test]
+fn words_after_a_bringing() {
+    let three = transaction(6, &[(1, 1), (3, 0)], &[2, 2]);
+    let mints = [mint(1, 0), mint(1, 1)];
+    let bringing = [register(2, three), yes(2, 1, three)];
+    let apart = [register(2, three), register(1, three), yes(2, 1, three)];
+    let free = [0, 0, OWNER, AMOUNT, 0];
+    let pledged = [0, 1, OWNER, AMOUNT, 6];
+    for calls in [&bringing[..], &apart] {
+        let (mut cluster, mut shard) = (cluster(), shard(1));
+        for record in mints.iter().chain(calls) {
+            cluster.play(record).expect("it is carried out");
+            let alone = shard.play(record);
+            assert_eq!(alone.is_ok(), record.receiver() == 1);
+        }
+        let heard = [(three, [0, 2, 2, 0, 0, 0, 0, 0])];
+        for words in [words_of(&cluster, 1), shard.memory().words()] {
+            check_shard(words, 1, &[0, 1], &[free, pledged], &heard);
+        }
+    }
+}
+
 #[test]
 fn the_last_words_of_a_full_shard() {
     let mut cluster = cluster();

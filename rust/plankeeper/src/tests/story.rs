@@ -91,8 +91,8 @@ fn transactions() -> [Transaction; 5] {
 }
 
 /// Takes the first token that the transaction of that number makes, at this
-/// shard, and makes another there.
-fn successor(number: u32, creator: u32, shard: u8) -> Transaction {
+/// shard, and makes another at that one.
+fn successor(number: u32, creator: u32, shard: u8, to: u8) -> Transaction {
     let token = TokenId {
         shard,
         creator,
@@ -104,7 +104,7 @@ fn successor(number: u32, creator: u32, shard: u8) -> Transaction {
         amount: AMOUNT,
     };
     let output = Output {
-        shard,
+        shard: to,
         owner: OWNER,
         amount: AMOUNT,
     };
@@ -151,7 +151,7 @@ pub fn encode(record: &Record) -> Vec<u8> {
 pub fn cluster_story() -> Vec<Told> {
     let [here, late, both, three, four] = transactions();
     // What shard 2 is to hold after `both`.
-    let behind = successor(10, 7, 2);
+    let behind = successor(10, 7, 2, 2);
     let mut told = vec![
         (mint(1, 0), 100),
         (mint(1, 1), 100),
@@ -170,7 +170,6 @@ pub fn cluster_story() -> Vec<Told> {
         (register(1, both), 210),
         (yes(1, 1, both), 400),
         (yes(2, 1, both), 16),
-        (yes(1, 2, both), 11),
         (register(2, both), 210),
         (yes(2, 1, both), 301),
         (register(2, behind), 17),
@@ -198,9 +197,50 @@ pub fn cluster_story() -> Vec<Told> {
         (yes(4, 1, four), 402),
     ];
     told.extend(turned_shard(four));
+    told.extend(brought_in_a_cluster());
     told.extend(refused_forms());
     told.extend(full_shard());
     told
+}
+
+/// Shard 5 has two tokens, and shard 3 has none: it votes no. Nobody asks shard
+/// 6 to register what its votes and theirs bring there.
+fn brought_in_a_cluster() -> [Told; 26] {
+    let two = transaction(20, &[(5, 0)], &[6]);
+    let other_two = transaction(20, &[(3, 5)], &[6]);
+    let three = transaction(21, &[(5, 1), (3, 5)], &[6, 6]);
+    let vain = transaction(22, &[(3, 5)], &[6]);
+    // What shard 6 would hold if `three` were committed.
+    let behind = successor(23, 21, 6, 5);
+    [
+        (mint(5, 0), 100),
+        (mint(5, 1), 100),
+        (yes(6, 6, two), 16),
+        (register(5, two), 210),
+        (yes(5, 6, two), 611),
+        (yes(5, 6, two), 401),
+        (register(6, two), 8),
+        (mint(6, 0), 13),
+        (yes(6, 5, two), 301),
+        (register(3, other_two), 202),
+        (no(3, 6, other_two), 7),
+        (register(5, three), 210),
+        (yes(5, 6, three), 610),
+        (yes(6, 3, three), 602),
+        (register(5, behind), 210),
+        (yes(5, 6, behind), 17),
+        (yes(6, 5, behind), 16),
+        (no(3, 6, three), 302),
+        (yes(5, 6, behind), 602),
+        (no(6, 5, behind), 302),
+        (register(3, vain), 202),
+        (no(3, 6, vain), 612),
+        (no(3, 6, vain), 402),
+        (yes(6, 3, vain), 302),
+        // For shard 7 to come.
+        (register(6, without_token()), 202),
+        (register(6, away(32)), 210),
+    ]
 }
 
 /// Shard 2 is turned. Its first token is bound by a transaction that it has
@@ -225,7 +265,7 @@ fn turned_shard(four: Transaction) -> [Told; 8] {
 pub fn shard_stories() -> [(u8, Vec<Told>); 2] {
     let [here, late, both, three, four] = transactions();
     // What shard 1 would hold if `four` were committed.
-    let behind = successor(10, 11, 1);
+    let behind = successor(10, 11, 1, 1);
     let mut told = vec![
         (mint(1, 0), 100),
         (mint(1, 1), 100),
@@ -239,7 +279,8 @@ pub fn shard_stories() -> [(u8, Vec<Told>); 2] {
         (no(1, 1, here), 12),
         (register(1, late), 202),
         (no(1, 1, late), 402),
-        (yes(2, 1, both), 11),
+        (yes(1, 1, both), 11),
+        (no(1, 1, both), 11),
         (register(1, both), 210),
         (yes(1, 1, both), 400),
         (yes(2, 1, both), 301),
@@ -260,8 +301,32 @@ pub fn shard_stories() -> [(u8, Vec<Told>); 2] {
         (no(4, 1, four), 12),
     ];
     told.extend([(turn(2), 3), (turn(1), 500), (turn(1), 19), (turn(2), 3)]);
+    told.extend(brought_to_shard_1());
     told.extend(refused_forms());
     [(1, told), (7, full_shard())]
+}
+
+/// Votes of the shards 2 and 3, which bring what shard 1 is to make.
+fn brought_to_shard_1() -> [Told; 11] {
+    let three = transaction(20, &[(2, 0), (3, 0)], &[1, 1]);
+    let two = transaction(21, &[(2, 5)], &[1]);
+    let other_two = transaction(21, &[(3, 5)], &[1]);
+    let vain = transaction(22, &[(2, 6)], &[1]);
+    // What shard 1 would hold if `three` were committed.
+    let behind = successor(23, 20, 1, 2);
+    [
+        (yes(2, 1, three), 610),
+        (yes(2, 1, three), 400),
+        (register(1, three), 8),
+        (yes(2, 1, behind), 17),
+        (yes(1, 1, behind), 11),
+        (no(3, 1, three), 302),
+        (yes(2, 1, behind), 602),
+        (yes(2, 1, two), 611),
+        (no(3, 1, other_two), 7),
+        (no(2, 1, vain), 612),
+        (yes(2, 1, vain), 12),
+    ]
 }
 
 /// Calls at shard 1 that are refused for what they say, and for a number taken
@@ -282,16 +347,27 @@ fn refused_forms() -> Vec<Told> {
         .collect()
 }
 
+/// A genesis token goes from shard 7 to shard 6.
+fn away(index: u8) -> Transaction {
+    transaction(100 + u32::from(index), &[(7, index)], &[6])
+}
+
+/// Takes a token that shard 6 has not, and would make one at shard 7.
+fn without_token() -> Transaction {
+    transaction(98, &[(6, 0)], &[7])
+}
+
 /// Shard 7 until it holds and knows all it can, in the last words of the
-/// memory.
+/// memory; votes can bring it no more than registrations.
 fn full_shard() -> Vec<Told> {
-    let away = |number: u8| transaction(100 + u32::from(number), &[(7, number)], &[6]);
     let mints = (0..128).map(|index| (mint(7, index), 100));
-    let known = (0..31).map(|number| (register(7, away(number)), 210));
+    let known = (0..31).map(|index| (register(7, away(index)), 210));
     let full = [
         (register(7, transaction(99, &[(7, 99)], &[7])), 10),
+        (no(6, 7, without_token()), 10),
         (register(7, away(31)), 210),
         (register(7, away(32)), 9),
+        (yes(6, 7, away(32)), 9),
     ];
     mints.chain(known).chain(full).collect()
 }
