@@ -160,6 +160,18 @@ fn away(number: u32) -> Transaction {
     transaction
 }
 
+/// Transaction 6: what 5 brings away goes further, to shard 2.
+fn further() -> Transaction {
+    let mut transaction = away(6);
+    transaction.inputs[0].token = TokenId {
+        shard: 1,
+        creator: 5,
+        index: 0,
+    };
+    transaction.outputs[0].shard = 2;
+    transaction
+}
+
 /// Token (0, 0, 0).
 fn mint() -> Record {
     Record::Mint {
@@ -561,13 +573,7 @@ fn wrong_bringings_are_caught() {
 /// A refused vote brings nothing; and a pledge begins with what is brought.
 #[test]
 fn what_a_refused_vote_leaves_is_caught() {
-    let (first, mut second) = (away(5), away(6));
-    second.inputs[0].token = TokenId {
-        shard: 1,
-        creator: 5,
-        index: 0,
-    };
-    second.outputs[0].shard = 2;
+    let (first, second) = (away(5), further());
     let records = [
         mint(),
         register(1, first),
@@ -597,13 +603,7 @@ fn what_a_refused_vote_leaves_is_caught() {
 /// anybody knows 5, and shard 1 comes to know it when 5 has made what it takes.
 #[test]
 fn the_order_counts_what_votes_bring() {
-    let (five, mut six) = (away(5), away(6));
-    six.inputs[0].token = TokenId {
-        shard: 1,
-        creator: 5,
-        index: 0,
-    };
-    six.outputs[0].shard = 2;
+    let (five, six) = (away(5), further());
     let records = [
         mint(),
         register(2, six),
