@@ -30,7 +30,8 @@ pub enum Record {
         /// What it is to register.
         transaction: Transaction,
     },
-    /// Kind 2: hands one shard's vote to another (document 01: vote).
+    /// Kind 2: hands one shard's vote to another (document 01: vote), and with it
+    /// the transaction, where that is not known there.
     Vote {
         /// The shard that is to hear it.
         receiver: u8,

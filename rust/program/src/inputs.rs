@@ -128,18 +128,7 @@ fn unturned_style(rng: &mut Rng, short: bool) -> ClusterStyle {
         };
     }
     if rng.once_in(100) {
-        let mints = rng.pick(&[0, 8, 126, 127, 128]);
-        return ClusterStyle {
-            calls: mints + 150,
-            shards: 1,
-            mints,
-            amounts: 60,
-            new: 40,
-            due: 30,
-            left_out: rng.pick(&[0, 3, 8]),
-            damage,
-            turns,
-        };
+        return filling_style(rng, damage);
     }
     ClusterStyle {
         calls: 15 + rng.below(50),
@@ -151,6 +140,22 @@ fn unturned_style(rng: &mut Rng, short: bool) -> ClusterStyle {
         left_out: rng.pick(&[0, 0, 3, 8]),
         damage,
         turns,
+    }
+}
+
+/// A week that fills a shard.
+fn filling_style(rng: &mut Rng, damage: Option<usize>) -> ClusterStyle {
+    let mints = rng.pick(&[0, 8, 126, 127, 128]);
+    ClusterStyle {
+        calls: mints + 150,
+        shards: 1,
+        mints,
+        amounts: 60,
+        new: 40,
+        due: 30,
+        left_out: rng.pick(&[0, 3, 8]),
+        damage,
+        turns: Turns::NEVER,
     }
 }
 

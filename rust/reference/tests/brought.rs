@@ -197,7 +197,9 @@ fn the_senders_no() {
 /// Two tokens are held, and transaction 5 may make one more.
 #[test]
 fn what_cannot_be_entered() {
-    let shared = transaction(7, &[(1, 5, 0, 30, 5)], &[(1, 50, 4), (2, 50, 1)]);
+    // It takes the second token, too, which is available and stays unpledged.
+    let inputs = [(1, 0, 1, 20, 4), (1, 5, 0, 30, 5)];
+    let shared = transaction(7, &inputs, &[(1, 50, 8), (2, 50, 1)]);
     let cases = [(4, 2, 17), (3, 2, 10), (4, 1, 9), (3, 1, 9)];
     for (tokens, transactions, expected) in cases {
         let limits = Limits {

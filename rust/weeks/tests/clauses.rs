@@ -520,7 +520,6 @@ fn bringing() -> Vec<Record> {
 fn wrong_bringings_are_caught() {
     let records = bringing();
     assert!(!caught(&records, |_, _| ()), "nothing is wrong");
-    let (yes, no) = (Some(Verdict::Yes), Some(Verdict::No));
     type Change = fn(&mut Shards);
     let cases: [(&str, Change); 7] = [
         ("is not known", |shards| shards[1].1.truncate(1)),
@@ -550,24 +549,25 @@ fn wrong_bringings_are_caught() {
         };
         assert!(caught(&records[..4], wrong), "{name}");
     }
-    // The own vote is for the commit rule: shard 1 has no input, so each is
-    // there.
+}
+
+/// Shard 1 has no input of 5, so it votes yes; else the commit rule is broken
+/// at shard 2, to which its vote brings 5.
+#[test]
+fn a_wrong_vote_on_what_is_brought_is_caught() {
+    let mut records = bringing();
+    records.push(vote(1, 0, 2, shared()));
     let voted = |own| {
         move |call: usize, shards: &mut Shards| {
             for place in [1, 2] {
                 if call >= 2 + place {
-                    shards[place].1.last_mut().expect("it is known").heard[1] = own;
+                    shards[place].1.last_mut().expect("it is known").heard[1] = Some(own);
                 }
             }
         }
     };
-    let mut all = records;
-    all.push(vote(1, 0, 2, shared()));
-    assert!(!caught(&all, voted(yes)), "nothing is wrong");
-    assert!(
-        caught(&all, voted(no)),
-        "votes no although all is available"
-    );
+    assert!(!caught(&records, voted(Verdict::Yes)), "nothing is wrong");
+    assert!(caught(&records, voted(Verdict::No)), "votes no");
 }
 
 /// A refused vote brings nothing; and a pledge begins with what is brought.

@@ -203,8 +203,8 @@ pub fn cluster_story() -> Vec<Told> {
     told
 }
 
-/// Shard 5 has two tokens, and shard 3 has none: it votes no. Nobody asks shard
-/// 6 to register what its votes and theirs bring there.
+/// Shard 5 has two tokens; shard 3 has none, and votes no. What they vote on
+/// comes to shard 6 by votes, and by the vote of shard 6 to shard 3.
 fn brought_in_a_cluster() -> [Told; 26] {
     let two = transaction(20, &[(5, 0)], &[6]);
     let other_two = transaction(20, &[(3, 5)], &[6]);
