@@ -31,9 +31,9 @@ pub struct Reply {
     pub answer: Answer,
     /// The words of document 01's listing.
     pub words: &'static str,
-    /// What it is counted as: the words, behind another one where an answer
-    /// that is not the same has these words. In capitals it is its name in the
-    /// header.
+    /// What it is counted as: the words, with another one in front where they
+    /// are the words of two answers. Of a call that was carried out it is, in
+    /// capitals, the name in the header.
     pub label: &'static str,
     /// A letter for each who gives it, none where it cannot be: r for the
     /// reader, w for the writers, m for a mint, g for a registration, v for a
