@@ -42,8 +42,17 @@ use Rattle.model.specs.Model.{Model, logged, logAfter, step}
 use Rattle.model.proofs.Basics.{eqb-yes, eqb-no, set-elim}
 use Rattle.model.proofs.Entries.{registered-entry}
 use Rattle.model.proofs.Outcomes.{one≢two, outcome-no, no-abort, abort-stays}
-use Rattle.model.proofs.Refusals.{shard-below, part-in, BringPasses, brought-registers, brought-fresh, brought-known, brought-passes}
-use Rattle.model.proofs.Effects.{ShardEffect, shard-refused, shard-heard, shard-again, shard-brought, shard-effect}
+use Rattle.model.proofs.Refusals.{
+  shard-below,
+  part-in,
+  BringPasses,
+  brought-registers,
+  brought-fresh,
+  brought-known,
+  brought-passes,
+  FormPasses,
+}
+use Rattle.model.proofs.Effects.{ShardEffect, shard-refused, shard-heard, shard-again, shard-brought, shard-effect, deliver-elim}
 use Rattle.model.proofs.Votes.{shardCount, Fresh, Brings, own-no, own-yes, votes-bring}
 use Rattle.model.proofs.Tables.{unless-done}
 
@@ -135,13 +144,14 @@ module _ (limits : Limits) (me : ℕ) (ledger : Ledger) (receiver sender verdict
   -- ---- What it is answered
 
   -- this shard is one of the transaction's, and so is the sender
+  formed : FormPasses limits me receiver t
+  formed = bringing .passes .passes .form
+
   here : me < 8
-  here = subst (λ (p : ℕ). p < 8) (bringing .passes .passes .form .addressed) (shard-below receiver (bringing .passes .passes .form .receiver-fits))
+  here = subst (λ (p : ℕ). p < 8) (formed .addressed) (shard-below receiver (formed .receiver-fits))
 
   part : List·Memᴰ me (shardsOf t)
-  part =
-      subst (λ (p : ℕ). List·Memᴰ p (shardsOf t)) (bringing .passes .passes .form .addressed)
-      (part-in receiver t (bringing .passes .passes .form .takes-part))
+  part = subst (λ (p : ℕ). List·Memᴰ p (shardsOf t)) (formed .addressed) (part-in receiver t (formed .takes-part))
 
   sender-part : List·Memᴰ sender (shardsOf t)
   sender-part = part-in sender t (bringing .passes .passes .sender-part)
@@ -192,8 +202,7 @@ module _ (limits : Limits) (me : ℕ) (ledger : Ledger) (receiver sender verdict
       → Brings entered ((sender, verdict) ∷ votes) (shardCount t)
   brought-votes eight votes fresh =
       let h = bringing .passes in
-      let form = h .passes .form in
-      let mine : takesPart me t ≡ true = subst (λ (p : ℕ). takesPart p t ≡ true) (form .addressed) (form .takes-part) in
+      let mine : takesPart me t ≡ true = subst (λ (p : ℕ). takesPart p t ≡ true) (formed .addressed) (formed .takes-part) in
       let said : takesPart sender (entered .transaction) ≡ true = unfold newlyKnown in h .passes .sender-part in
       votes-bring me (ledger .tokens) t here mine eight ((sender, verdict) ∷ votes) (said, unheard, h .passes .verdict-fits, fresh)
 
@@ -210,16 +219,11 @@ module _ (limits : Limits) (shards : List Ledger) (p sender verdict : ℕ) (t : 
 
   -- it is not refused with 16, and so answered by its receiver, of which all that was said holds
   pub brought-at : (notGiven limits shards p sender verdict t ≡ false) × (shardStep limits p ledger vote-in .1 ≡ Brought own o)
-  unfolding clusterStep atShard
-  brought-at = go (notGiven limits shards p sender verdict t) refl e
-    where
-      done : List Ledger × Answer
-      done = atShard limits shards p vote-in
-
-      go : (b : Bool) → notGiven limits shards p sender verdict t ≡ b → cond b (shards, Refused 16) done .1 ≡ Brought own o
-          → (notGiven limits shards p sender verdict t ≡ false) × (shardStep limits p ledger vote-in .1 ≡ Brought own o)
-      go true g e = let z : _≡_ {A = ℕ} 0 1 = cc in absurd (omega arith)
-      go false g e = (g, e)
+  unfolding atShard
+  brought-at =
+      deliver-elim limits shards p sender verdict t
+      (λ r. r .1 ≡ Brought own o → (notGiven limits shards p sender verdict t ≡ false) × (shardStep limits p ledger vote-in .1 ≡ Brought own o))
+      (λ z. let y : _≡_ {A = ℕ} 0 1 = cc in absurd (omega arith)) (λ given z. (given, z)) e
 
   abbrev between : List Ledger
   between = set shards p (afterRegister p ledger t)

@@ -135,6 +135,24 @@ module _ (limits : Limits) (me : ℕ) (ledger : Ledger) where
 
 -- ---- At the cluster, with the model's notes
 
+-- what holds where a vote is refused with 16, and of its receiver's answer where it is not, holds of what the cluster does with it
+pub deliver-elim : (limits : Limits) (shards : List Ledger) (p sender verdict : ℕ) (t : Transaction) (P : List Ledger × Answer → Type 0)
+    → P (shards, Refused 16) → (notGiven limits shards p sender verdict t ≡ false → P (atShard limits shards p (deliver p sender verdict t)))
+    → P (clusterStep limits shards (deliver p sender verdict t))
+unfolding clusterStep
+deliver-elim limits shards p sender verdict t P refused answered = go (notGiven limits shards p sender verdict t) refl
+  where
+    go : (b : Bool) → notGiven limits shards p sender verdict t ≡ b → P (cond b (shards, Refused 16) (atShard limits shards p (deliver p sender verdict t)))
+    go true g = refused
+    go false g = answered g
+
+-- a vote that is not refused with 16 and has passed 3 to 6 was given
+pub was-given : (limits : Limits) (shards : List Ledger) (p sender verdict : ℕ) (t : Transaction) → notGiven limits shards p sender verdict t ≡ false
+    → firstOf (deliverForm limits p p sender verdict t) ≡ 0 → gave (ledgerAt limits shards sender) sender verdict t ≡ true
+unfolding notGiven
+was-given limits shards p sender verdict t g f =
+    not-no (gave (ledgerAt limits shards sender) sender verdict t) (not-yes (λ n. clash (and-intro (eqb-yes f) n) g))
+
 module _ (limits : Limits) (place : ℕ) (model : Model) where
   -- a shard's ledger
   abbrev pub at : ℕ → Ledger
@@ -208,21 +226,15 @@ module _ (limits : Limits) (place : ℕ) (model : Model) where
   turn-effect p _ (shard-refused h) = back p (did-refuse h)
   turn-effect p _ (shard-turned h) = did-turn h
 
-  -- a vote that is not refused with 16 and has passed 3 to 6 was given
-  was-given : (p sender verdict : ℕ) (t : Transaction) → notGiven limits (model .shards) p sender verdict t ≡ false
-      → firstOf (deliverForm limits p p sender verdict t) ≡ 0 → gave (at sender) sender verdict t ≡ true
-  unfolding notGiven
-  was-given p sender verdict t g f = not-no (gave (at sender) sender verdict t) (not-yes (λ n. clash (and-intro (eqb-yes f) n) g))
-
   -- a vote's effect from that at its shard
   deliver-effect : (p sender verdict : ℕ) (t : Transaction) → notGiven limits (model .shards) p sender verdict t ≡ false
       → (r : Ledger × Answer) → ShardEffect limits p (at p) (deliver p sender verdict t) r
       → Effects (deliver p sender verdict t) (noted-at p (deliver p sender verdict t) r)
   unfolding logAfter mintedAfter
   deliver-effect p sender verdict t g _ (shard-refused h) = did-one (back p (did-refuse h))
-  deliver-effect p sender verdict t g _ (shard-heard h f z) = did-one (did-hear h (was-given p sender verdict t g f) z)
+  deliver-effect p sender verdict t g _ (shard-heard h f z) = did-one (did-hear h (was-given limits (model .shards) p sender verdict t g f) z)
   deliver-effect p sender verdict t g _ (shard-again h z) = did-one (back p (did-repeat h z))
-  deliver-effect p sender verdict t g _ (shard-brought h f) = did-bring h (was-given p sender verdict t g f)
+  deliver-effect p sender verdict t g _ (shard-brought h f) = did-bring h (was-given limits (model .shards) p sender verdict t g f)
 
   -- every call does one of these
   pub effect : (call : Call) → Effects call (step limits place model call)

@@ -34,13 +34,14 @@ use Rattle.model.specs.Shard.{
   deliverRest,
   deliverRefusals,
 }
-use Rattle.model.specs.Cluster.{ledgerAt, atShard, clusterStep, notGiven}
+use Rattle.model.specs.Cluster.{ledgerAt, atShard, clusterStep}
 use Rattle.model.specs.Model.{Entry, Model, step, play}
 use Rattle.model.specs.Demand.{Value, tokenAt, outcomeAt}
 use Rattle.model.proofs.Basics.{both, not-yes, clash, any-at, any-no, all-at, some≢none, some-inj, orElse, never-answers, number-behind}
 use Rattle.model.proofs.Entries.{look, mem-look}
 use Rattle.model.proofs.Holdings.{available-token, made-named}
 use Rattle.model.proofs.Invariant.{Core, made, gain, byCommit, onCommit, held-made}
+use Rattle.model.proofs.Effects.{deliver-elim}
 use Rattle.model.proofs.Steps.{play-inv}
 use Rattle.model.proofs.Decisions.{knows, final-at}
 use Rattle.model.proofs.Laws.{leaves, model-unchanged}
@@ -179,19 +180,17 @@ module _ (limits : Limits) (calls : List Call) (p : ℕ) (t : Transaction) (free
 
   module _ (sender verdict : ℕ) where
     pub free-brings : clusterStep limits (play limits calls .shards) (deliver p sender verdict t) .1 ≢ Refused 17
-    unfolding clusterStep atShard deliverRefusals deliverForm
-    free-brings e = go (notGiven limits (play limits calls .shards) p sender verdict t) e
+    unfolding atShard deliverRefusals deliverForm
+    free-brings =
+        deliver-elim limits (play limits calls .shards) p sender verdict t (λ r. r .1 ≢ Refused 17)
+        (λ e. let z : _≡_ {A = ℕ} 16 17 = cc in omega arith) (λ given e. answered e)
       where
-        done : List Ledger × Answer
-        done = atShard limits (play limits calls .shards) p (deliver p sender verdict t)
-
         rest : (unknown : Bool) → firstOf (cond unknown (bringRest limits p ledger sender t) (hearRest ledger sender verdict t)) ≡ 17 → ⊥
         rest true e = never-answers 17 (λ z. omega arith) (bringRest limits p ledger sender t) passes-17 e
         rest false e = never-answers 17 (λ z. omega arith) (hearRest ledger sender verdict t) refl e
 
-        go : (b : Bool) → cond b (play limits calls .shards, Refused 16) done .1 ≡ Refused 17 → ⊥
-        go true e = let z : _≡_ {A = ℕ} 16 17 = cc in omega arith
-        go false e =
+        answered : shardStep limits p ledger (deliver p sender verdict t) .1 ≢ Refused 17
+        answered e =
             let form = deliverForm limits p p sender verdict t in
             let said = number-behind 17 form (deliverRest limits p ledger sender verdict t) refl (deliver-number limits p ledger sender verdict t 17 e) in
             rest (isUnknown t (ledger .known)) (said .1)

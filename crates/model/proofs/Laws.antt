@@ -3,7 +3,7 @@ use Prim.Native.Nat.{ℕ, suc, _+_}
 use native.Mathlib.Omega.{arith}
 use mathlib.Core.Path.{_≡_, refl, ap, sym, _∙_, subst}
 use mathlib.Core.Logic.{_≢_}
-use mathlib.Core.Bool.{Bool, true, false, cond, true≢false}
+use mathlib.Core.Bool.{Bool, true, false, true≢false}
 use mathlib.Core.List.{List, _++_, [], _∷_, List·Memᴰ, List·Memᴰ·head, List·Memᴰ·tail}
 use lib.ListN.{length, set}
 use lib.Seq.{set-getD}
@@ -17,7 +17,7 @@ use Rattle.model.specs.declared.Answer.{Answer}
 use Rattle.model.specs.declared.Answer.the-variants.{Refused, Minted, Registered, Heard, Again, Turned, Brought}
 use Rattle.model.specs.Steps.{Limits, Ledger, emptyLedger, inputsHere}
 use Rattle.model.specs.Shard.{Call, mint, register, deliver, shardStep, turn}
-use Rattle.model.specs.Cluster.{ledgerAt, notGiven, atShard, clusterStep}
+use Rattle.model.specs.Cluster.{ledgerAt, atShard, clusterStep}
 use Rattle.model.specs.Model.{Entry, Model, entryFor, step, after, answers, play}
 use Rattle.model.specs.Demand.{committed, outcomeAt}
 use Rattle.model.proofs.Basics.{eqb-eq, clash}
@@ -43,6 +43,7 @@ use Rattle.model.proofs.Effects.{
   Effects,
   did-one,
   did-bring,
+  deliver-elim,
 }
 use Rattle.model.proofs.Steps.{play-inv, Keeps, play-keeps}
 use Rattle.model.proofs.Order.{committed-logged}
@@ -90,14 +91,9 @@ unfolding clusterStep
 cluster-unchanged limits shards (mint p index owner amount) e = at-unchanged limits shards p (mint p index owner amount) e
 cluster-unchanged limits shards (register p t) e = at-unchanged limits shards p (register p t) e
 cluster-unchanged limits shards (turn p) e = at-unchanged limits shards p (turn p) e
-cluster-unchanged limits shards (deliver p sender verdict t) e = go (notGiven limits shards p sender verdict t) e
-  where
-    done : List Ledger × Answer
-    done = atShard limits shards p (deliver p sender verdict t)
-
-    go : (b : Bool) → leaves (cond b (shards, Refused 16) done .1) ≡ true → cond b (shards, Refused 16) done .0 ≡ shards
-    go true e = refl
-    go false e = at-unchanged limits shards p (deliver p sender verdict t) e
+cluster-unchanged limits shards (deliver p sender verdict t) e =
+    deliver-elim limits shards p sender verdict t (λ r. leaves (r .1) ≡ true → r .0 ≡ shards) (λ y. refl)
+    (λ given y. at-unchanged limits shards p (deliver p sender verdict t) y) e
 
 -- by cases on what a call did to the model
 model-left : (limits : Limits) (place : ℕ) (model : Model) (call : Call) (r : Model × Answer)

@@ -16,7 +16,7 @@ use Rattle.model.specs.declared.Known.{Known}
 use Rattle.model.specs.declared.Outcome.{Outcome}
 use Rattle.model.specs.declared.Outcome.the-variants.{Wait, Commit, Abort}
 use Rattle.model.specs.declared.Answer.{Answer}
-use Rattle.model.specs.declared.Answer.the-variants.{Refused, Registered, Heard, Again}
+use Rattle.model.specs.declared.Answer.the-variants.{Registered, Heard, Again}
 use Rattle.model.specs.Steps.{
   Limits,
   Ledger,
@@ -36,7 +36,7 @@ use Rattle.model.specs.Steps.{
   concluded,
 }
 use Rattle.model.specs.Shard.{Call, mint, register, deliver, isUndecided, ifUndecided, reservedBy, awaits, hear, shardStep, turn}
-use Rattle.model.specs.Cluster.{ledgerAt, notGiven, atShard, clusterStep}
+use Rattle.model.specs.Cluster.{ledgerAt, atShard, clusterStep}
 use Rattle.model.specs.Model.{play}
 use Rattle.model.specs.Demand.{outcomeAt, heardAllAt, WasAvailable}
 use Rattle.model.proofs.Basics.{eqb-yes}
@@ -52,6 +52,7 @@ use Rattle.model.proofs.Effects.{
   shard-effect,
   shard-turned,
   shard-brought,
+  deliver-elim,
 }
 use Rattle.model.proofs.Steps.{play-inv}
 use Rattle.model.proofs.Decisions.{decided-exact, all-in-at}
@@ -92,14 +93,10 @@ unfolding clusterStep atShard
 at-once-in limits shards (mint p index owner amount) verdict o e = at-once limits p (ledgerAt limits shards p) (mint p index owner amount) verdict o e
 at-once-in limits shards (register p t) verdict o e = at-once limits p (ledgerAt limits shards p) (register p t) verdict o e
 at-once-in limits shards (turn p) verdict o e = at-once limits p (ledgerAt limits shards p) (turn p) verdict o e
-at-once-in limits shards (deliver p sender said t) verdict o e = go (notGiven limits shards p sender said t) e
-  where
-    done : Ledger × Answer
-    done = shardStep limits p (ledgerAt limits shards p) (deliver p sender said t)
-
-    go : (b : Bool) → cond {A = List Ledger × Answer} b (shards, Refused 16) (set shards p (done .0), done .1) .1 ≡ Registered verdict o → AtOnce verdict o
-    go true e = let z : _≡_ {A = ℕ} 0 1 = cc in absurd (omega arith)
-    go false e = at-once limits p (ledgerAt limits shards p) (deliver p sender said t) verdict o e
+at-once-in limits shards (deliver p sender said t) verdict o e =
+    deliver-elim limits shards p sender said t (λ r. r .1 ≡ Registered verdict o → AtOnce verdict o)
+    (λ y. let z : _≡_ {A = ℕ} 0 1 = cc in absurd (omega arith))
+    (λ given y. at-once limits p (ledgerAt limits shards p) (deliver p sender said t) verdict o y) e
 
 -- ---- What an aborted transaction still does: nothing
 

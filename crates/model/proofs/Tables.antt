@@ -63,8 +63,6 @@ use Rattle.model.proofs.Basics.{
   eqb-no,
   eqb-apart,
   both,
-  and-intro,
-  not-yes,
   not-no,
   not-is,
   clash,
@@ -78,6 +76,7 @@ use Rattle.model.proofs.Basics.{
 }
 use Rattle.model.proofs.Entries.{whole-known, entry-look, known-number}
 use Rattle.model.proofs.Invariant.{Voted}
+use Rattle.model.proofs.Effects.{was-given, deliver-elim}
 use Rattle.model.proofs.Steps.{Inv, play-inv, gave-vote}
 use Rattle.model.proofs.Decisions.{voted-same}
 
@@ -236,7 +235,7 @@ module _ (limits : Limits) (p : ℕ) (ledger : Ledger) (sender verdict : ℕ) (t
           (whole-known t (ledger .known) (not-no (any (hasNumber t) (ledger .known)) u) (g .0), last other (s .1))
 
   -- where it says 11, the vote passed 3 to 6, the number is unknown, and sender and receiver are one
-  eleven-says : firstOf (deliverRefusals limits p ledger p sender verdict t) ≡ 11
+  pub eleven-says : firstOf (deliverRefusals limits p ledger p sender verdict t) ≡ 11
       → (firstOf (deliverForm limits p p sender verdict t) ≡ 0) × (isUnknown t (ledger .known) ≡ true) × (sender ≡ p)
   unfolding deliverRefusals deliverForm
   eleven-says e =
@@ -256,21 +255,17 @@ module _ (limits : Limits) (p : ℕ) (ledger : Ledger) (sender verdict : ℕ) (t
 -- 12 is never answered in a cluster
 pub never-twelve : (limits : Limits) (calls : List Call) (p sender verdict : ℕ) (t : Transaction)
     → clusterStep limits (play limits calls .shards) (deliver p sender verdict t) .1 ≢ Refused 12
-unfolding clusterStep atShard notGiven
-never-twelve limits calls p sender verdict t e = go (notGiven limits shards p sender verdict t) refl e
+unfolding atShard
+never-twelve limits calls p sender verdict t =
+    deliver-elim limits shards p sender verdict t (λ r. r .1 ≢ Refused 12) (λ e. let z : _≡_ {A = ℕ} 16 12 = cc in omega arith) answered
   where
     shards : List Ledger
     shards = play limits calls .shards
 
-    done : List Ledger × Answer
-    done = atShard limits shards p (deliver p sender verdict t)
-
-    go : (b : Bool) → notGiven limits shards p sender verdict t ≡ b → cond b (shards, Refused 16) done .1 ≡ Refused 12 → ⊥
-    go true g e = let z : _≡_ {A = ℕ} 16 12 = cc in omega arith
-    go false g e =
+    answered : notGiven limits shards p sender verdict t ≡ false → shardStep limits p (ledgerAt limits shards p) (deliver p sender verdict t) .1 ≢ Refused 12
+    answered g e =
         let r = twelve-says limits p (ledgerAt limits shards p) sender verdict t (deliver-number limits p (ledgerAt limits shards p) sender verdict t 12 e) in
-        let given : gave (ledgerAt limits shards sender) sender verdict t ≡ true =
-        not-no (gave (ledgerAt limits shards sender) sender verdict t) (not-yes (λ n. clash (and-intro (eqb-yes (r .0)) n) g)) in
+        let given = was-given limits shards p sender verdict t g (r .0) in
         no-other-verdict limits (play limits calls) (play-inv limits calls) p sender verdict t (r .1) given (r .2)
 
 -- ---- Refusal 11 is met at a lone shard only, for its own vote: in a cluster, who has given a vote knows the transaction
@@ -285,7 +280,7 @@ gave-known ledger sender verdict t e =
 
 -- no call of a cluster is answered with 11, whatever its shards hold
 pub no-eleven : (limits : Limits) (shards : List Ledger) (call : Call) → clusterStep limits shards call .1 ≢ Refused 11
-unfolding clusterStep atShard shardStep notGiven mintRefusals registerRefusals turnRefusals
+unfolding clusterStep atShard shardStep mintRefusals registerRefusals turnRefusals
 no-eleven limits shards (mint p index owner amount) e =
     let ledger = ledgerAt limits shards p in
     let table = mintRefusals limits p ledger p index owner amount in
@@ -302,20 +297,16 @@ no-eleven limits shards (turn p) e =
     let table = turnRefusals p ledger p in
     never-answers 11 (λ z. omega arith) table refl
     (unless-number (firstOf table) ledger (afterTurn ledger, Turned) 11 (λ y. let z : _≡_ {A = ℕ} 0 1 = cc in omega arith) e)
-no-eleven limits shards (deliver p sender verdict t) e = go (notGiven limits shards p sender verdict t) refl e
+no-eleven limits shards (deliver p sender verdict t) e =
+    deliver-elim limits shards p sender verdict t (λ r. r .1 ≢ Refused 11) (λ y. let z : _≡_ {A = ℕ} 16 11 = cc in omega arith) answered e
   where
     ledger : Ledger
     ledger = ledgerAt limits shards p
 
-    done : List Ledger × Answer
-    done = atShard limits shards p (deliver p sender verdict t)
-
-    go : (b : Bool) → notGiven limits shards p sender verdict t ≡ b → cond b (shards, Refused 16) done .1 ≡ Refused 11 → ⊥
-    go true g e = let z : _≡_ {A = ℕ} 16 11 = cc in omega arith
-    go false g e =
+    answered : notGiven limits shards p sender verdict t ≡ false → shardStep limits p ledger (deliver p sender verdict t) .1 ≢ Refused 11
+    answered g e =
         let r = eleven-says limits p ledger sender verdict t (deliver-number limits p ledger sender verdict t 11 e) in
-        let given : gave (ledgerAt limits shards sender) sender verdict t ≡ true =
-        not-no (gave (ledgerAt limits shards sender) sender verdict t) (not-yes (λ n. clash (and-intro (eqb-yes (r .0)) n) g)) in
+        let given = was-given limits shards p sender verdict t g (r .0) in
         let own : gave ledger sender verdict t ≡ true = subst (λ (q : ℕ). gave (ledgerAt limits shards q) sender verdict t ≡ true) (r .2) given in
         clash (r .1) (gave-known ledger sender verdict t own)
 
