@@ -168,7 +168,7 @@ pub number-unknown : (t : Transaction) (l : List Known) → any (isOther t) l �
 number-unknown t l other same =
     lookup-no (hasNumber t) l (any-no (hasNumber t) l (λ k m e. clash (and-intro e (ap not (any-none (isFor t) same m))) (any-none (isOther t) other m)))
 
--- refusals 11 and 7 passed: the transaction is known
+-- the number is known, and refusal 7 passed: the transaction is known
 pub whole-known : (t : Transaction) (l : List Known) → any (hasNumber t) l ≡ true → any (isOther t) l ≡ false → any (isFor t) l ≡ true
 whole-known t l number other =
     let r = any-at (hasNumber t) l number in

@@ -45,7 +45,7 @@ use Rattle.model.proofs.Effects.{deliver-elim}
 use Rattle.model.proofs.Steps.{play-inv}
 use Rattle.model.proofs.Decisions.{knows, final-at}
 use Rattle.model.proofs.Laws.{leaves, model-unchanged}
-use Rattle.model.proofs.Tables.{unless-number, deliver-number}
+use Rattle.model.proofs.Tables.{unless-never, deliver-number}
 use Rattle.model.proofs.Brought.{brings-first-in}
 
 -- the outcome is wait
@@ -160,11 +160,9 @@ module _ (limits : Limits) (calls : List Call) (p : ℕ) (t : Transaction) (free
 
   pub free-registers : clusterStep limits (play limits calls .shards) (register p t) .1 ≢ Refused 17
   unfolding clusterStep atShard shardStep registerRefusals
-  free-registers e =
-      let table = registerRefusals limits p ledger p t in
-      never-answers 17 (λ z. omega arith) table passes-17
-      (unless-number (firstOf table) ledger (afterRegister p ledger t, Registered (vote p (ledger .tokens) t) outcome) 17
-      (λ y. let z : _≡_ {A = ℕ} 0 1 = cc in omega arith) e)
+  free-registers =
+      unless-never 17 (λ z. omega arith) (registerRefusals limits p ledger p t) passes-17 ledger
+      (afterRegister p ledger t, Registered (vote p (ledger .tokens) t) outcome) (λ y. let z : _≡_ {A = ℕ} 0 1 = cc in omega arith)
 
   pub free-voted : (v : Bool) (o : Outcome) → clusterStep limits (play limits calls .shards) (register p t) .1 ≡ Registered v o → v ≡ true
   unfolding clusterStep atShard shardStep

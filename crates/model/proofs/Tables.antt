@@ -99,6 +99,11 @@ unless-number cause before done n never e = go (eqb cause 0) e
     go true e = absurd (never e)
     go false e = cc
 
+-- and never with a number that no row of the table says
+pub unless-never : {A : Type 0} (n : ℕ) → (n ≡ 0 → ⊥) → (table : List (Bool × ℕ)) → all (λ row. not (eqb (row .1) n && row .0)) table ≡ true
+    → (before : A) (done : A × Answer) → done .1 ≢ Refused n → unless (firstOf table) before done .1 ≢ Refused n
+unless-never n z table none before done never e = never-answers n z table none (unless-number (firstOf table) before done n never e)
+
 -- two tables one behind the other
 first-of-both : (a b : List (Bool × ℕ)) → all isNumber a ≡ true → firstOf (a ++ b) ≡ cond (eqb (firstOf a) 0) (firstOf b) (firstOf a)
 first-of-both [] b s = refl
@@ -283,20 +288,17 @@ pub no-eleven : (limits : Limits) (shards : List Ledger) (call : Call) → clust
 unfolding clusterStep atShard shardStep mintRefusals registerRefusals turnRefusals
 no-eleven limits shards (mint p index owner amount) e =
     let ledger = ledgerAt limits shards p in
-    let table = mintRefusals limits p ledger p index owner amount in
-    never-answers 11 (λ z. omega arith) table refl
-    (unless-number (firstOf table) ledger (afterMint ledger index owner amount, Minted) 11 (λ y. let z : _≡_ {A = ℕ} 0 1 = cc in omega arith) e)
+    unless-never 11 (λ z. omega arith) (mintRefusals limits p ledger p index owner amount) refl ledger (afterMint ledger index owner amount, Minted)
+    (λ y. let z : _≡_ {A = ℕ} 0 1 = cc in omega arith) e
 no-eleven limits shards (register p t) e =
     let ledger = ledgerAt limits shards p in
-    let table = registerRefusals limits p ledger p t in
     let answer = Registered (vote p (ledger .tokens) t) (outcomeOf (newlyKnown p (ledger .tokens) t)) in
-    never-answers 11 (λ z. omega arith) table refl
-    (unless-number (firstOf table) ledger (afterRegister p ledger t, answer) 11 (λ y. let z : _≡_ {A = ℕ} 0 1 = cc in omega arith) e)
+    unless-never 11 (λ z. omega arith) (registerRefusals limits p ledger p t) refl ledger (afterRegister p ledger t, answer)
+    (λ y. let z : _≡_ {A = ℕ} 0 1 = cc in omega arith) e
 no-eleven limits shards (turn p) e =
     let ledger = ledgerAt limits shards p in
-    let table = turnRefusals p ledger p in
-    never-answers 11 (λ z. omega arith) table refl
-    (unless-number (firstOf table) ledger (afterTurn ledger, Turned) 11 (λ y. let z : _≡_ {A = ℕ} 0 1 = cc in omega arith) e)
+    unless-never 11 (λ z. omega arith) (turnRefusals p ledger p) refl ledger (afterTurn ledger, Turned)
+    (λ y. let z : _≡_ {A = ℕ} 0 1 = cc in omega arith) e
 no-eleven limits shards (deliver p sender verdict t) e =
     deliver-elim limits shards p sender verdict t (λ r. r .1 ≢ Refused 11) (λ y. let z : _≡_ {A = ℕ} 16 11 = cc in omega arith) answered e
   where

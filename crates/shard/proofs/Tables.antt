@@ -94,7 +94,7 @@ module _ {ws : List ℕ} (sound : Sound ws) {count : ℕ} (ec : count ≡ shardO
   pub all-known : leb knownSlots count ≡ leb (house .transactions) (length (view ws .known))
   all-known = rw count-is refl
 
--- ---- The tests that go by the place of the number: 11, 7 and 8
+-- ---- The tests that go by the place of the number: whether it is known, 7 and 8
 
 module _ {ws : List ℕ} (sound : Sound ws) (t : Transaction) {place count : ℕ}
     (found : place ≡ find (isNumbered (t .number)) (view ws .known)) (ec : count ≡ shardOf ws .known) where
