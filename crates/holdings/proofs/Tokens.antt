@@ -15,8 +15,7 @@ use Rattle.transaction.proofs.Slots.{any-append}
 use Rattle.model.specs.declared.Token.{Token}
 use Rattle.model.specs.declared.Outcome.the-variants.{Commit, Abort}
 use Rattle.model.specs.Lists.{keep}
-use Rattle.model.proofs.Basics.{eqb-yes, eqb-no}
-use Rattle.model.proofs.Capacity.{keep-length}
+use Rattle.model.proofs.Basics.{eqb-yes, eqb-no, keep-length}
 use Rattle.model.specs.Steps.{names, namedBy, pledgedTo, pledgeIf, pledges, stays, inputsHere, madeHere, commit, pledgeWhen, isPledgedTo, freeing, ended}
 use Rattle.loops.specs.Lists.{oneIf}
 use Rattle.loops.proofs.Loops.{append-one}

@@ -29,6 +29,11 @@ use Rattle.holdings.specs.declared.Inputs.{Inputs}
 abbrev pub inputsOf : Inputs → List Input
 inputsOf x = take (x .count) (x .list)
 
+-- these are the inputs of the list, all of them and in its order
+pub record Lists (x : Inputs) (inputs : List Input) : Type 0 where
+  pub few : x .count ≤ 4
+  pub are : inputsOf x ≡ inputs
+
 -- the token of an output slot, where the slot is used and the output is at this shard
 abbrev pub madeFrom : ℕ → ℕ → Bool → ℕ → Output → List Token
 madeFrom me number used index y = oneIf (used && outputHere me y) (tokenOf number index y)

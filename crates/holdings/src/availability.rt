@@ -1,13 +1,14 @@
-// The first two steps of a registration: the inputs at this shard, then the available ones among them.
+// The first two parts of the local step (document 000, section 4): the inputs at this shard, I(S, τ), then the available
+// ones among them, D(S, τ). What there is to find about an input is found in the second, before anything is pledged.
 ghost use mathlib.Core.Path.{_≡_};
 ghost use mathlib.Core.Bool.{_&&_};
 ghost use mathlib.Core.List.{[], _++_};
-ghost use Prim.Native.Nat.{_+_, _≤_, _<_};
-ghost use Rattle.model.specs.Lists.{keep};
-ghost use Rattle.model.specs.Steps.{names, freeFor, available, inputsHere};
+ghost use Prim.Native.Nat.{ℕ, _+_, _≤_, _<_};
+ghost use Rattle.transaction.specs.declared.Transaction.{Transaction};
+ghost use Rattle.model.specs.Steps.{names, freeFor, available, inputsHere, availableHere};
 ghost use Rattle.loops.specs.Lists.{oneIf};
 ghost use Rattle.layout.specs.Layout.{tokenSlots, shardOf, ledgerOf};
-ghost use Rattle.holdings.specs.Held.{inputsOf};
+ghost use Rattle.holdings.specs.Held.{inputsOf, Lists};
 use crate::Inputs;
 use layout::Words;
 use layout::counts::held;
@@ -88,9 +89,9 @@ fn push_if(so_far: Inputs, wanted: bool, x: Input) -> Inputs
     }
 }
 
-// First, the inputs at this shard.
+// First, I(S, τ) = {o ∈ Inputs(τ) | S = shard(o)}: the inputs at this shard.
 pub fn inputs_here(me: u8, t: Transaction) -> Inputs
-    ensures { λ r. ⌜ (inputsOf r ≡ inputsHere me t) × (r .count ≤ 4) ⌝ }
+    ensures { λ r. ⌜ Lists r (inputsHere me t) ⌝ }
 {
     let n = t.input_count;
     let x = t.inputs;
@@ -116,10 +117,11 @@ fn push_available(s: &Words, so_far: Inputs, used: bool, x: Input) -> Inputs
     push_if(so_far, wanted, x)
 }
 
-// Second, the available ones among the inputs here.
-pub fn available_of(s: &Words, here: Inputs) -> Inputs
+// Second, D(S, τ) ⊆ I(S, τ): the available ones among the inputs here, of whichever shard and transaction those are.
+pub fn available_here(s: &Words, here: Inputs) -> Inputs
     requires { ⌜ shardOf (now s) .held ≤ tokenSlots ⌝ }
-    ensures { λ r. ⌜ (inputsOf r ≡ keep (available (ledgerOf (now (s .entry)) .tokens)) (inputsOf here)) × (r .count ≤ 4) ⌝ }
+    ensures { λ r. ⌜ ((me : ℕ) (t : Transaction) → Lists here (inputsHere me t)
+        → Lists r (availableHere me (ledgerOf (now (s .entry)) .tokens) t)) ⌝ }
 {
     let n = here.count;
     let x = here.list;

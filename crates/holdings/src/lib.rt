@@ -4,6 +4,7 @@ use transaction::Input;
 
 pub mod availability; // the inputs at a shard, and the available ones among them
 pub mod pledging; // the pledges
+pub mod voting; // the message
 pub mod committing; // tokens destroyed and made
 pub mod freeing; // tokens that come free
 

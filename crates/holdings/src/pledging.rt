@@ -1,4 +1,4 @@
-// The third step of a registration: the tokens of the available inputs are pledged.
+// The third part of the local step (document 000, section 4): the pledges.
 ghost use mathlib.Core.Path.{_≡_};
 ghost use mathlib.Core.List.{[], _∷_};
 ghost use Rattle.model.specs.Steps.{pledges};
@@ -38,7 +38,8 @@ fn pledge_if(s: &mut Words, number: u32, used: bool, x: Input)
     }
 }
 
-// Input after input: a loop over the tokens has one name to compare.
+// Third, S pledges D(S, τ) to τ: the tokens of these inputs are pledged to the transaction of that number. Input after
+// input: a loop over the tokens has one name to compare.
 pub fn pledge_all(s: &mut Words, number: u32, inputs: Inputs)
     requires { ⌜ Room (now s) ⌝ }
     ensures { λ _. ⌜ Changes (pledges number (inputsOf inputs)) (now (s .entry)) (now (s .exit)) ⌝ }

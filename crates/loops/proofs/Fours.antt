@@ -4,14 +4,11 @@ use mathlib.Core.Path.{_≡_, refl, sym, ap, _∙_}
 use mathlib.Core.Bool.{Bool, true, false, cond, _&&_}
 use mathlib.Core.List.{List, [], _∷_, _++_, append-assoc, append-nil}
 use native.Mathlib.Omega.{arith}
-use borrow.Author.Tests.{ne-eqb}
-use lib.Dec.{eqb, ltb, eqb·suc-suc}
+use lib.Dec.{ltb}
 use lib.ListN.{length, getD, take}
 use lib.Seq.{take-nil}
-use Rattle.transaction.specs.Lists.{all}
 use Rattle.transaction.proofs.Slots.{above, four}
 use Rattle.model.specs.Lists.{keep}
-use Rattle.model.proofs.Capacity.{keep-length}
 use Rattle.loops.specs.Lists.{oneIf}
 
 keep-one : {A : Type 0} (f : A → Bool) (a : A) (l : List A) → keep f (a ∷ l) ≡ oneIf (f a) a ++ keep f l
@@ -68,13 +65,3 @@ module _ {A : Type 0} (d : A) (x : List A) (long : length x ≡ 4) where
   keep-by f n ep eq er es et =
       et ∙ rw (es, er, eq, ep)
       (sym (keep-of f (getD x 0 d) (getD x 1 d) (getD x 2 d) (getD x 3 d) n) ∙ ap (λ (l : List A). keep f (take n l)) (four d x long))
-
--- as many pass as there are: each passes
-pub all-kept : {A : Type 0} (f : A → Bool) (l : List A) → eqb (length (keep f l)) (length l) ≡ all f l
-all-kept f [] = refl
-all-kept f (a ∷ l) = go (f a) (all-kept f l)
-  where
-    go : (b : Bool) → eqb (length (keep f l)) (length l) ≡ all f l
-        → eqb (length (cond b (a ∷ keep f l) (keep f l))) (suc (length l)) ≡ b && all f l
-    go true h = eqb·suc-suc (length (keep f l)) (length l) ∙ h
-    go false h = ne-eqb (length (keep f l)) (suc (length l)) (λ e. omega (arith, keep-length f l))

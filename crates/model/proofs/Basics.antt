@@ -1,12 +1,12 @@
 -- Tests, options and lists: what the other proofs are written with.
-use Prim.Native.Nat.{ℕ, zero, suc, _<_}
+use Prim.Native.Nat.{ℕ, zero, suc, _≤_, _<_}
 use native.Mathlib.Omega.{arith}
 use mathlib.Core.Path.{_≡_, refl, ap, sym, _∙_, subst}
 use mathlib.Core.Bool.{Bool, true, false, cond, _&&_, _||_, not, true≢false, false≢true, and-assoc}
 use mathlib.Core.Option.{Option, none, some}
 use mathlib.Core.List.{List, [], _∷_, _++_, List·Memᴰ, List·Memᴰ·head, List·Memᴰ·tail}
 use borrow.Author.Tests.{eqb-true, eq-eqb, ne-eqb}
-use lib.Dec.{eqb}
+use lib.Dec.{eqb, eqb·suc-suc}
 use lib.ListN.{length, getD, set, replicate}
 use lib.Seq.{getD-set-same, getD-set-other}
 use Rattle.transaction.specs.Lists.{any, all, firstOf}
@@ -275,6 +275,32 @@ keep-out f (y ∷ l) {x} m = go (f y) refl m (keep-out f l)
     go true p (List·Memᴰ·head q) h = (List·Memᴰ·head q, ap f q ∙ p)
     go true p (List·Memᴰ·tail q) h = (List·Memᴰ·tail (h q .0), h q .1)
     go false p q h = (List·Memᴰ·tail (h q .0), h q .1)
+
+-- all are kept where all pass
+pub keep-all : {A : Type 0} (f : A → Bool) (l : List A) → all f l ≡ true → keep f l ≡ l
+keep-all f [] e = refl
+keep-all {A} f (x ∷ l) e =
+    let r = both (f x) (all f l) e in
+    ap (λ (b : Bool). cond b (x ∷ keep f l) (keep f l)) (r .0) ∙ ap (λ (k : List A). x ∷ k) (keep-all f l (r .1))
+
+-- what is kept is no longer than the list
+pub keep-length : {A : Type 0} (f : A → Bool) (l : List A) → length (keep f l) ≤ length l
+keep-length f [] = omega arith
+keep-length f (x ∷ l) = go (f x) (keep-length f l)
+  where
+    go : (b : Bool) → length (keep f l) ≤ length l → length (cond b (x ∷ keep f l) (keep f l)) ≤ suc (length l)
+    go true h = omega arith
+    go false h = omega arith
+
+-- and as long only where all pass
+pub all-kept : {A : Type 0} (f : A → Bool) (l : List A) → eqb (length (keep f l)) (length l) ≡ all f l
+all-kept f [] = refl
+all-kept f (a ∷ l) = go (f a) (all-kept f l)
+  where
+    go : (b : Bool) → eqb (length (keep f l)) (length l) ≡ all f l
+        → eqb (length (cond b (a ∷ keep f l) (keep f l))) (suc (length l)) ≡ b && all f l
+    go true h = eqb·suc-suc (length (keep f l)) (length l) ∙ h
+    go false h = ne-eqb (length (keep f l)) (suc (length l)) (λ e. omega (arith, keep-length f l))
 
 -- some element that passes is among those kept by another test
 pub any-keep : {A : Type 0} (g h : A → Bool) (l : List A) → any g (keep h l) ≡ any (λ x. h x && g x) l

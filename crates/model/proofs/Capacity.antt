@@ -59,7 +59,7 @@ use Rattle.model.specs.Shard.{Call, ifUndecided, reservedBy, reserved, s
 use Rattle.model.specs.Fit.{isSet, counted, Fit}
 use Rattle.model.specs.Cluster.{ledgerAt}
 use Rattle.model.specs.Model.{Model, play}
-use Rattle.model.proofs.Basics.{eqb-apart, find-at, getD-same}
+use Rattle.model.proofs.Basics.{eqb-apart, keep-length, find-at, getD-same}
 use Rattle.model.proofs.Entries.{same-eq}
 use Rattle.model.proofs.Outcomes.{outcome-yes, CaseOutcome, case-wait, case-commit, case-abort, case-outcome, abort-stays}
 use Rattle.model.proofs.Refusals.{part-in, MintPasses, RegisterPasses, DeliverPasses, brought-registers, brought-hears, brought-fresh}
@@ -84,15 +84,6 @@ use Rattle.model.proofs.Effects.{
 use Rattle.model.proofs.Steps.{Inv, at-one, play-keeps}
 
 -- ---- Lengths and sums
-
--- what is kept is no longer than the list
-pub keep-length : {A : Type 0} (f : A → Bool) (l : List A) → length (keep f l) ≤ length l
-keep-length f [] = omega arith
-keep-length f (x ∷ l) = go (f x) (keep-length f l)
-  where
-    go : (b : Bool) → length (keep f l) ≤ length l → length (cond b (x ∷ keep f l) (keep f l)) ≤ suc (length l)
-    go true h = omega arith
-    go false h = omega arith
 
 -- how many are kept, counted one by one
 pub keep-count : {A : Type 0} (f : A → Bool) (l : List A) → length (keep f l) ≡ total (λ (x : A). cond (f x) 1 0) l

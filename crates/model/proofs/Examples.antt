@@ -136,6 +136,14 @@ wrong = make 6 (input 0 0 0 99 3 ∷ []) (output 0 11 3 ∷ [])
 half : Transaction
 half = make 6 (input 0 0 0 10 3 ∷ input 0 0 1 10 1 ∷ []) (output 0 11 4 ∷ [])
 
+-- two tokens held at shard 0, the second pledged to transaction 9
+two-held : List Token
+two-held = token 0 0 10 3 0 ∷ token 0 1 10 1 9 ∷ []
+
+-- both of them and one of shard 1, for a token at shard 2
+mixed : Transaction
+mixed = make 6 (input 0 0 0 10 3 ∷ input 1 0 0 20 2 ∷ input 0 0 1 10 1 ∷ []) (output 2 11 6 ∷ [])
+
 -- another transaction numbered 5, and one like document 01's in all but an owner
 other5 : Transaction
 other5 = make 5 (input 0 0 0 10 3 ∷ []) (output 1 10 3 ∷ [])
@@ -214,6 +222,12 @@ pub record Examples : Type 0 where
   -- one input available, one not: no, and the first stays pledged
   half-there : playAnswers house (mint 0 0 10 3 ∷ register 0 half ∷ register 0 (alone 1) ∷ []) ≡ Minted ∷ Registered false Abort ∷ Registered false Abort ∷ []
   half-there-held : tokensAfter (mint 0 0 10 3 ∷ register 0 half ∷ register 0 (alone 1) ∷ []) 0 ≡ token 0 0 10 3 6 ∷ []
+  -- the local step's four parts: the inputs here, the available one among them, its pledge beside another's, a no; with outputs only a yes
+  local-inputs : inputsHere 0 mixed ≡ input 0 0 0 10 3 ∷ input 0 0 1 10 1 ∷ []
+  local-available : availableHere 0 two-held mixed ≡ input 0 0 0 10 3 ∷ []
+  local-pledges : pledges 6 (availableHere 0 two-held mixed) two-held ≡ token 0 0 10 3 6 ∷ token 0 1 10 1 9 ∷ []
+  local-message : vote 0 two-held mixed ≡ false
+  local-outputs-only : vote 2 two-held mixed ≡ true
   -- registered again: 8; another of that number: 7; also once it is decided
   again-8 : playAnswers house (mint 0 0 10 3 ∷ register 0 both ∷ register 0 both ∷ register 0 other5 ∷ []) ≡ Minted
       ∷ Registered true Wait ∷ Refused 8 ∷ Refused 7 ∷ []
@@ -396,8 +410,8 @@ pub record Examples : Type 0 where
 
 -- each of them by computation
 pub examples : Examples
-unfolding input output make tokensAfter token entry both known-at-both votes alone alone-second wrong half other5 near5 pass torn torn-apart onward
-    crossed onward-to brought three known-at-three early small takesPart sameToken sameInput sameOutput sameTransaction indexFits valueFits inputFits
+unfolding input output make tokensAfter token entry both known-at-both votes alone alone-second wrong half two-held mixed other5 near5 pass torn torn-apart
+    onward crossed onward-to brought three known-at-three early small takesPart sameToken sameInput sameOutput sameTransaction indexFits valueFits inputFits
     outputFits countsFit fieldsFit sameName namedTwice balanced mintFits inputsHere available availableHere pledges vote newlyKnown decide outputsHere
     madeHere commit freeing afterMint afterRegister afterVote afterTurn placeOf entryOf reservedBy reserved heldOff mintRefusals registerRefusals
     deliverForm deliverRefusals turnRefusals hear bring shardStep gave notGiven atShard clusterStep logAfter mintedAfter step after answers play
@@ -417,6 +431,11 @@ examples = record {
   wrong-owner-held = refl;
   half-there = refl;
   half-there-held = refl;
+  local-inputs = refl;
+  local-available = refl;
+  local-pledges = refl;
+  local-message = refl;
+  local-outputs-only = refl;
   again-8 = refl;
   decided-8 = refl;
   two-sevens = refl;

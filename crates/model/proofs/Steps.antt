@@ -2,7 +2,7 @@
 use Prim.Native.Nat.{ℕ, suc, _+_, _<_}
 use native.Mathlib.Omega.{arith}
 use mathlib.Core.Path.{_≡_, refl, ap, sym, _∙_, subst}
-use mathlib.Core.Logic.{_↔_, _⊎_, inl, inr, ⊎-elim}
+use mathlib.Core.Logic.{_⊎_, inl, inr, ⊎-elim}
 use mathlib.Core.Bool.{Bool, true, false, cond, _&&_, true≢false}
 use mathlib.Core.Option.{Option, none, some}
 use mathlib.Core.List.{List, [], _∷_, _++_, List·Memᴰ, List·Memᴰ·head, List·Memᴰ·tail}
@@ -11,7 +11,7 @@ use lib.ListN.{length, getD, set, replicate, length-set, length-replicate}
 use lib.Seq.{getD-set-same, getD-set-other, set-set}
 use Rattle.transaction.specs.declared.Input.{Input}
 use Rattle.transaction.specs.declared.Transaction.{Transaction}
-use Rattle.transaction.specs.Lists.{any, all}
+use Rattle.transaction.specs.Lists.{any}
 use Rattle.transaction.specs.Tokens.{shardsOf, sameToken}
 use Rattle.transaction.specs.Checks.{namedTwice, shardFits}
 use Rattle.model.specs.declared.Token.{Token}
@@ -27,12 +27,8 @@ use Rattle.model.specs.Steps.{
   emptyLedger,
   holding,
   genesisToken,
-  inputsHere,
-  namedBy,
   available,
   availableHere,
-  pledgedTo,
-  namedIn,
   pledges,
   vote,
   noted,
@@ -78,19 +74,14 @@ use Rattle.model.proofs.Basics.{
   is-none,
   caseO,
   map-or,
-  all-at,
-  all-of,
   any-at,
-  any-no,
-  keep-in,
-  keep-out,
   set-elim,
   getD-same,
 }
 use Rattle.model.proofs.Lookups.{lookup-append, alone-append}
 use Rattle.model.proofs.Entries.{same-eq, look, mem-look, put, look-put-same, look-put-other, append-put, set-put, number-unknown, entry-look}
 use Rattle.model.proofs.Outcomes.{outcome-yes, abort-stays}
-use Rattle.model.proofs.Holdings.{idOf, tok-name, mem-tok, available-token, value-pledges, no-twice-pledges, tok-pledged, tok-unpledged}
+use Rattle.model.proofs.Holdings.{idOf, mem-tok, value-pledges, no-twice-pledges}
 use Rattle.model.proofs.Invariant.{
   Voted,
   voted-more,
@@ -120,6 +111,7 @@ use Rattle.model.proofs.Invariant.{
   frees-ok,
   ended-ok,
 }
+use Rattle.model.proofs.Local.{found-token, pledged-new, pledged-more, vote-says}
 use Rattle.model.proofs.Refusals.{
   shard-below,
   number-positive,
@@ -254,26 +246,7 @@ made-source {log} {p} {tokens} {genesis} {known} c x e = go (caseO (genesis (x .
     go (is-some v g) = from-genesis (g ∙ (λ j. orElse (sym g j) (byCommit p (look known m) m i)) ∙ e)
     go (is-none g) = committed (look known m) refl ((λ j. orElse (sym g j) (byCommit p (look known m) m i)) ∙ e)
 
--- ---- Available inputs and the vote
-
--- the available ones among the inputs here
-pub available-in : (p : ℕ) (tokens : List Token) (t : Transaction) (x : Input) → List·Memᴰ x (availableHere p tokens t)
-    → List·Memᴰ x (inputsHere p t) × (available tokens x ≡ true)
-unfolding availableHere
-available-in p tokens t x m = keep-out (available tokens) (inputsHere p t) m
-
--- the vote is yes exactly if all inputs here are available
-vote-says : (p : ℕ) (tokens : List Token) (t : Transaction) → (noted (vote p tokens t) ≡ 2)
-    ↔ ((x : Input) → List·Memᴰ x (inputsHere p t) → List·Memᴰ x (availableHere p tokens t))
-unfolding availableHere vote
-vote-says p tokens t = (
-  λ e x m. keep-in (available tokens) (inputsHere p t) m (all-at (available tokens) (inputsHere p t) (yes-of (all (available tokens) (inputsHere p t)) e) x m),
-  λ h. ap noted (all-of (available tokens) (inputsHere p t) (λ x m. keep-out (available tokens) (inputsHere p t) (h x m) .1)),
-)
-  where
-    yes-of : (b : Bool) → noted b ≡ 2 → b ≡ true
-    yes-of true e = refl
-    yes-of false e = absurd (eqb-apart {m = 1} {n = 2} refl e)
+-- ---- The verdict as it is noted
 
 -- a verdict is noted as 1 or 2
 noted-cases : (b : Bool) → (noted b ≡ 1) ⊎ (noted b ≡ 2)
@@ -308,7 +281,7 @@ module _ {limits : Limits} {log : List Entry} {p : ℕ} {genesis : ℕ → ℕ �
     where
       new : p ≡ p → (x : Input) → List·Memᴰ x (availableHere p (l .tokens) t) → Source p genesis (l .known) log x
       new _ x m =
-          let a = available-token (l .tokens) x (o .no-twice) (available-in p (l .tokens) t x m .1) in
+          let a = found-token p (l .tokens) t (o .no-twice) x m in
           made-source (o .core) x (held-made (o .core) (x .token .creator) (x .token .index) (a .is-there) ∙ ap some (a .is-value))
 
   -- what the registration enters
@@ -338,35 +311,6 @@ module _ {limits : Limits} {log : List Entry} {p : ℕ} {genesis : ℕ → ℕ �
   keeps : (m i : ℕ) → mapOption tokenValue (tokenAt tokens₁ m i) ≡ mapOption tokenValue (tokenAt (l .tokens) m i)
   keeps m i = value-pledges (t .number) (availableHere p (l .tokens) t) (l .tokens) m i
 
-  -- a token that is pledged is no available input's
-  unnamed : (m i n : ℕ) → (n ≡ 0 → ⊥) → (b : Pledged (l .tokens) m i n) → namedIn (availableHere p (l .tokens) t) (b .token) ≡ false
-  unnamed m i n f b = any-no (namedBy (b .token)) (availableHere p (l .tokens) t) (λ x a y.
-      let found = available-token (l .tokens) x (o .no-twice) (available-in p (l .tokens) t x a .1) in
-      let here = tok-name (l .tokens) m i (b .is-there) in
-      let z = both (eqb (b .token .creator) (x .token .creator)) (eqb (b .token .index) (x .token .index)) y in
-      let creator : x .token .creator ≡ m = sym (eqb-eq (b .token .creator) (x .token .creator) (z .0)) ∙ here .0 in
-      let index : x .token .index ≡ i = sym (eqb-eq (b .token .index) (x .token .index) (z .1)) ∙ here .1 in
-      let same : b .token ≡ found .token = some-inj (sym (b .is-there) ∙ (λ j. tokenAt (l .tokens) (sym creator j) (sym index j)) ∙ found .is-there) in
-      f (sym (b .is-pledged) ∙ ap (λ (u : Token). u .pledge) same ∙ found .is-free))
-
-  -- what was pledged stays pledged to the same transaction
-  pledged-more : (m i n : ℕ) → (n ≡ 0 → ⊥) → Pledged (l .tokens) m i n → Pledged tokens₁ m i n
-  pledged-more m i n f b = record {
-    token = b .token;
-    is-pledged = b .is-pledged;
-    is-there = tok-unpledged (t .number) (availableHere p (l .tokens) t) (l .tokens) m i (b .is-there) (unnamed m i n f b);
-  }
-
-  -- an available input is pledged
-  pledged-new : (x : Input) → List·Memᴰ x (availableHere p (l .tokens) t) → Pledged tokens₁ (x .token .creator) (x .token .index) (t .number)
-  pledged-new x m =
-      let a = available-token (l .tokens) x (o .no-twice) (available-in p (l .tokens) t x m .1) in
-      record {
-        token = pledgedTo (t .number) (a .token);
-        is-pledged = refl;
-        is-there = tok-pledged (t .number) (availableHere p (l .tokens) t) (l .tokens) x m (a .is-there);
-      }
-
   -- a registered transaction's number is not 0
   numbered : (r₀ : Entry) → List·Memᴰ r₀ log → r₀ .shard ≡ p → r₀ .transaction .number ≡ 0 → ⊥
   numbered r₀ d at = let h = o .entered r₀ d at in o .core .number (r₀ .transaction .number) (h .0) (h .1)
@@ -380,7 +324,7 @@ module _ {limits : Limits} {log : List Entry} {p : ℕ} {genesis : ℕ → ℕ �
       → (x x₀ : Input) → List·Memᴰ x (availableHere p (l .tokens) t) → List·Memᴰ x₀ (r₀ .available)
       → x .token .creator ≡ x₀ .token .creator → x .token .index ≡ x₀ .token .index → ⊥
   free r₀ d at lasts x x₀ a a₀ em ei =
-      let f = available-token (l .tokens) x (o .no-twice) (available-in p (l .tokens) t x a .1) in
+      let f = found-token p (l .tokens) t (o .no-twice) x a in
       let e : tokenAt (l .tokens) (x₀ .token .creator) (x₀ .token .index) ≡ some (f .token) = (λ j. tokenAt (l .tokens) (sym em j) (sym ei j)) ∙ f .is-there in
       ⊎-elim (λ c. some≢none e (o .core .gone (x₀ .token .creator) (x₀ .token .index) c))
       (λ w. numbered r₀ d at (sym (w .is-pledged) ∙ ap (λ (u : Token). u .pledge) (some-inj (sym (w .is-there) ∙ e)) ∙ f .is-free))
@@ -411,13 +355,14 @@ module _ {limits : Limits} {log : List Entry} {p : ℕ} {genesis : ℕ → ℕ �
 
       bnd : Bound (r ∷ log) p (l .turned) (put k (l .known)) (settle (outcomeOf k) p t tokens₁)
       bnd r₀ (List·Memᴰ·head e) at lasts x a =
-          let new = pledged-new x (subst (λ (c : Entry). List·Memᴰ x (c .available)) e a) in
+          let new = pledged-new p (l .tokens) t (o .no-twice) x (subst (λ (c : Entry). List·Memᴰ x (c .available)) e a) in
           bound-enter core₁ k tokens₁ enters₁ keeps (x .token .creator) (x .token .index) (r₀ .transaction .number)
           (subst (Pledged tokens₁ (x .token .creator) (x .token .index)) (ap (λ (c : Entry). c .transaction .number) (sym e)) new)
       bnd r₀ (List·Memᴰ·tail d) at lasts x a =
           let n = r₀ .transaction .number in
           bound-more core₁ k tokens₁ enters₁ keeps (x .token .creator) (x .token .index) n
-          (⊎-elim inl (λ b. inr (pledged-more (x .token .creator) (x .token .index) n (numbered r₀ d at) b)) (o .bound r₀ d at (lasted n lasts) x a))
+          (⊎-elim inl (λ b. inr (pledged-more p (l .tokens) t (o .no-twice) (x .token .creator) (x .token .index) n (numbered r₀ d at) b))
+          (o .bound r₀ d at (lasted n lasts) x a))
 
       dis : Disjoint (r ∷ log) p (l .turned) (put k (l .known))
       dis r₁ r₂ (List·Memᴰ·head e₁) (List·Memᴰ·head e₂) b₁ b₂ n₁ n₂ x₁ x₂ a₁ a₂ em ei = e₁ ∙ sym e₂

@@ -19,8 +19,7 @@ use Rattle.model.specs.declared.Outcome.the-variants.{Wait, Commit, Abort}
 use Rattle.model.specs.Lists.{keep}
 use Rattle.model.specs.Steps.{isYes, isNo, decide, outcomeOf, outputHere, outputsHere}
 use Rattle.model.specs.Shard.{isUndecided, ifUndecided, reservedBy, reserved}
-use Rattle.model.proofs.Basics.{all-append}
-use Rattle.model.proofs.Capacity.{keep-length}
+use Rattle.model.proofs.Basics.{all-append, keep-length}
 use Rattle.layout.specs.Layout.{knownSlots, shardOf, ledgerOf, noKnown, slotKnown}
 use Rattle.layout.proofs.Slots.{four-outputs}
 use Rattle.layout.proofs.Ledgers.{known-length, known-entry}

@@ -6,9 +6,7 @@ use mathlib.Core.List.{List, [], _∷_, _++_}
 use native.Mathlib.Omega.{arith}
 use native.Mathlib.Nat.{not-suc-le-zero}
 use lib.ListN.{length, getD, take, set, replicate, length-append}
-use lib.Dec.{eqb}
-use lib.Seq.{getD-set-same, take-set-lt, length-take-le}
-use Rattle.transaction.specs.declared.Input.{Input}
+use lib.Seq.{getD-set-same, take-set-lt}
 use Rattle.transaction.specs.declared.Transaction.{Transaction}
 use Rattle.model.specs.declared.Token.{Token}
 use Rattle.model.specs.declared.Known.{Known}
@@ -24,17 +22,14 @@ use Rattle.model.specs.Steps.{
   withSaid,
   outcomeOf,
   inputsHere,
-  available,
   availableHere,
   pledges,
   vote,
   concluded,
 }
-use Rattle.model.specs.Lists.{keep}
 use Rattle.model.specs.Fit.{Fit}
 use Rattle.model.proofs.Capacity.{empty-fit}
 use Rattle.loops.proofs.Loops.{append-one}
-use Rattle.loops.proofs.Fours.{all-kept}
 use Rattle.layout.specs.Layout as layout
 use Rattle.layout.specs.Layout.{
   tokenSlots,
@@ -69,7 +64,7 @@ use Rattle.layout.proofs.Regions.{tab-same}
 use Rattle.layout.proofs.Slots.{length-tokens, length-known}
 use Rattle.layout.proofs.Ledgers.{held-length}
 use Rattle.holdings.specs.declared.Inputs.{Inputs}
-use Rattle.holdings.specs.Held.{inputsOf, Holds, Changes, Settling, Settles, settledAt}
+use Rattle.holdings.specs.Held.{inputsOf, Lists, Holds, Changes, Settling, Settles, settledAt}
 use Rattle.shard.specs.View.{number, view, Fresh}
 use Rattle.shard.specs.Parts.{Pledges, Leaves, Minted, Grows, decidedOn, entryFor, Entering, Entered, heardIn, FreshVote, FreshDone}
 
@@ -286,26 +281,16 @@ module _ {ws : List ℕ} {me : ℕ} (c : Cleared me ws) where
     };
   }
 
--- ---- The message, and the pledges
+-- ---- The local step, from what each of its four parts yields
 
-pub same-count : (here found : Inputs) → length (here .list) ≡ 4 → length (found .list) ≡ 4 → here .count ≤ 4
-    → found .count ≤ 4
-    → eqb (found .count) (here .count) ≡ eqb (length (inputsOf found)) (length (inputsOf here))
-same-count here found lh lf ch cf =
-    let h : length (inputsOf here) ≡ here .count = length-take-le (here .count) (here .list) (omega arith) in
-    let f : length (inputsOf found) ≡ found .count = length-take-le (found .count) (found .list) (omega arith) in
-    rw (h, f) refl
-
-module _ (ws : List ℕ) (t : Transaction) {me : ℕ} {here found : List Input} (em : me ≡ number ws)
-    (eh : here ≡ inputsHere me t) (ef : found ≡ keep (available (view ws .tokens)) here) where
-  found-is : found ≡ availableHere (number ws) (view ws .tokens) t
-  unfolding availableHere
-  found-is = ef ∙ rw (eh, em) refl
-
-  pub pledged-here : {vs : List ℕ} {verdict : Bool} → Changes (pledges (t .number) found) ws vs
-      → verdict ≡ eqb (length found) (length here) → Pledges t ws verdict vs
-  unfolding vote
-  pledged-here p e =
-      let said : eqb (length found) (length here) ≡ vote (number ws) (view ws .tokens) t =
-      rw (ef, eh, em) (all-kept (available (view ws .tokens)) (inputsHere (number ws) t)) in
-      (rw found-is at p, e ∙ said)
+pub stepped-here : (ws : List ℕ) (t : Transaction) {me : ℕ} {here found : Inputs} → me ≡ number ws → Lists here (inputsHere me t)
+    → ((me : ℕ) (t : Transaction) → Lists here (inputsHere me t) → Lists found (availableHere me (view ws .tokens) t))
+    → {vs : List ℕ} → Changes (pledges (t .number) (inputsOf found)) ws vs
+    → {verdict : Bool}
+    → ((me : ℕ) (tokens : List Token) (t : Transaction) → Lists here (inputsHere me t) → Lists found (availableHere me tokens t)
+    → verdict ≡ vote me tokens t)
+    → Pledges t ws verdict vs
+stepped-here ws t {me} {here} em first second third fourth =
+    let inputs : Lists here (inputsHere (number ws) t) = subst (λ (m : ℕ). Lists here (inputsHere m t)) em first in
+    let found = second (number ws) t inputs in
+    (rw (found .are) at third, fourth (number ws) (view ws .tokens) t inputs found)

@@ -18,6 +18,7 @@ use transaction::Transaction;
 
 mod rows; // the rows of the tables of refusals
 pub mod refusals; // the tables of refusals; internal
+mod local; // the local step of a registration
 mod steps; // the steps that a call that passes takes
 mod turning; // the step of a turn
 pub mod queries; // what can be asked of a shard

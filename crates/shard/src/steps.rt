@@ -1,23 +1,19 @@
-// The steps of a call that passes: document 01's, in document 000's order.
+// The steps of a call that passes: document 01's. Those of a registration are the local step, and then its entry.
 ghost use mathlib.Core.Path.{_≡_};
-ghost use Prim.Native.Nat.{_<_, _≤_};
+ghost use Prim.Native.Nat.{_<_};
 ghost use mathlib.Core.Bool.{true, false};
 ghost use lib.ListN.{length};
-ghost use lib.Dec.{eqb};
 ghost use Rattle.transaction.specs.Lists.{firstOf};
 ghost use Rattle.model.specs.Lists.{find};
 ghost use Rattle.model.specs.Steps.{house, noted, knownWith, outcomeOf};
 ghost use Rattle.model.specs.Shard.{registerRefusals, isUnknown, deliverRefusals, register, deliver};
 ghost use Rattle.layout.specs.Layout.{shardWords, tokenSlots, knownSlots, genesisSlots, shardOf, slotKnown};
-ghost use Rattle.holdings.specs.Held.{inputsOf, Settling, Settles, Room};
+ghost use Rattle.holdings.specs.Held.{Settling, Settles};
 ghost use Rattle.registry.specs.Numbers.{isNumbered};
 ghost use Rattle.shard.specs.View.{number, view, Sound, Steps};
-ghost use Rattle.shard.specs.Parts.{Pledges, Minted, Grows, Entering, Entered, FreshVote, FreshDone};
-use holdings::Inputs;
-use holdings::availability::available_of;
-use holdings::availability::inputs_here;
+ghost use Rattle.shard.specs.Parts.{Minted, Grows, Entering, Entered, FreshVote, FreshDone};
+use crate::local::local_step;
 use holdings::committing::settle_at;
-use holdings::pledging::pledge_all;
 use layout::Words;
 use layout::counts::give;
 use layout::counts::held;
@@ -53,26 +49,6 @@ pub(crate) fn after_mint(s: &mut Words, index: u8, owner: u32, amount: u32)
     put_token(s, n, token);
     set_held(s, n + 1);
     give(s, at);
-}
-
-// The message: yes if all inputs here are available, as many as there are.
-fn own_vote(here: Inputs, found: Inputs) -> bool
-    requires { ⌜ (here .count ≤ 4) × (found .count ≤ 4) ⌝ }
-    ensures { λ r. ⌜ r ≡ eqb (length (inputsOf found)) (length (inputsOf here)) ⌝ }
-{
-    found.count == here.count
-}
-
-// The inputs at this shard, the available ones among them, the pledges, the message.
-fn pledge_here(s: &mut Words, t: Transaction) -> bool
-    requires { ⌜ Room (now s) ⌝ }
-    ensures { λ r. ⌜ Pledges t (now (s .entry)) r (now (s .exit)) ⌝ }
-{
-    let me = own_number(s);
-    let here = inputs_here(me, t);
-    let found = available_of(s, here);
-    pledge_all(s, t.number, found);
-    own_vote(here, found)
 }
 
 // A verdict as it is noted.
@@ -133,7 +109,7 @@ pub(crate) fn carry_registration(s: &mut Words, t: Transaction) -> Answer
     requires { ⌜ Sound (now s) × (firstOf (registerRefusals house (number (now s)) (view (now s)) (number (now s)) t) ≡ 0) ⌝ }
     ensures { λ r. ⌜ Steps (now (s .entry)) (register (number (now (s .entry))) t) r (now (s .exit)) ⌝ }
 {
-    let verdict = pledge_here(s, t);
+    let verdict = local_step(s, t);
     let decided = enter(s, verdict, t);
     Answer::Registered(verdict, decided)
 }
@@ -176,7 +152,7 @@ pub(crate) fn carry_brought(s: &mut Words, sender: u8, verdict: u8, t: Transacti
     ensures { λ r. ⌜ Steps (now (s .entry)) (deliver (number (now (s .entry))) sender verdict t) r (now (s .exit)) ⌝ }
 {
     let place = known_count(s);
-    let own = pledge_here(s, t);
+    let own = local_step(s, t);
     enter(s, own, t);
     let decided = fresh_vote(s, place, sender, verdict);
     Answer::Brought(own, decided)

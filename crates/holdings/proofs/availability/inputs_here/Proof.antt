@@ -51,7 +51,7 @@ returns c =
     (second .push-if2 .ensures .0)
     (third .push-if3 .ensures .0)
     (c .push-if4 .ensures .0) in
-    (kept, search needs)
+    record { few = search needs; are = kept }
 
 pub inputs-here-spec : {M : Type 1} → statement M
 inputs-here-spec =

@@ -17,7 +17,7 @@ make-requires c κs =
     let found : tie.After-inputs-here = search in
     let entry : tie.Start = search in
     let here = inputsOf (found .inputs-here .result) in
-    commit-room (entry .args .me) (entry .args .t) here (found .inputs-here .ensures .0)
+    commit-room (entry .args .me) (entry .args .t) here (found .inputs-here .ensures .are)
     (now (entry .args .s)) _ (entry .pre .0) (destroyed .destroy .ensures) (entry .pre .1)
 
 returns : tie.Need-returns
@@ -26,7 +26,7 @@ returns c =
     let found : tie.After-inputs-here = search in
     let entry : tie.Start = search in
     let here = inputsOf (found .inputs-here .result) in
-    committed (entry .args .me) (entry .args .t) here (found .inputs-here .ensures .0)
+    committed (entry .args .me) (entry .args .t) here (found .inputs-here .ensures .are)
     (now (entry .args .s)) _ (entry .pre .0) (destroyed .destroy .ensures) _ (c .make .ensures)
 
 pub commit-here-spec : {M : Type 1} → statement M

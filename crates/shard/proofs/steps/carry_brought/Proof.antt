@@ -6,8 +6,8 @@ use Rattle.shard.proofs.steps.carry_brought.Tie as tie
 known-count-requires : tie.Need-known-count-requires
 known-count-requires c κs = search needs
 
-pledge-here-requires : tie.Need-pledge-here-requires
-pledge-here-requires c κs = search needs
+local-step-requires : tie.Need-local-step-requires
+local-step-requires c κs = search needs
 
 enter-requires : tie.Need-enter-requires
 enter-requires c κs = search bring-enters
@@ -21,4 +21,4 @@ returns c = search bring-carried
 pub carry-brought-spec : {M : Type 1} → statement M
 carry-brought-spec =
     tie.close
-    (tie.spec known-count-requires pledge-here-requires enter-requires fresh-vote-requires returns)
+    (tie.spec known-count-requires local-step-requires enter-requires fresh-vote-requires returns)

@@ -3,8 +3,8 @@ use borrow.Author.Needs.{needs}
 use Rattle.shard.proofs.steps.carry_registration.Statement.{statement}
 use Rattle.shard.proofs.steps.carry_registration.Tie as tie
 
-pledge-here-requires : tie.Need-pledge-here-requires
-pledge-here-requires c κs = search needs
+local-step-requires : tie.Need-local-step-requires
+local-step-requires c κs = search needs
 
 enter-requires : tie.Need-enter-requires
 enter-requires c κs = search entering
@@ -13,4 +13,4 @@ returns : tie.Need-returns
 returns c = search register-carried
 
 pub carry-registration-spec : {M : Type 1} → statement M
-carry-registration-spec = tie.close (tie.spec pledge-here-requires enter-requires returns)
+carry-registration-spec = tie.close (tie.spec local-step-requires enter-requires returns)

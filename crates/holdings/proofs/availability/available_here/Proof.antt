@@ -2,11 +2,12 @@ use Rattle.loops.proofs.Fours.{keep-by}
 use Rattle.transaction.specs.Tokens.{zeroInput}
 use Rattle.layout.specs.Layout.{ledgerOf}
 use Rattle.holdings.proofs.Long.{inputs-long}
+use Rattle.holdings.proofs.Local.{lists-available}
 use Rattle.model.specs.Steps.{available}
 use denote.Ref.{now}
 use borrow.Author.Needs.{needs}
-use Rattle.holdings.proofs.availability.available_of.Statement.{statement}
-use Rattle.holdings.proofs.availability.available_of.Tie as tie
+use Rattle.holdings.proofs.availability.available_here.Statement.{statement}
+use Rattle.holdings.proofs.availability.available_here.Tie as tie
 
 no-inputs-requires : tie.Need-no-inputs-requires
 no-inputs-requires c κs = search needs
@@ -51,10 +52,10 @@ returns c =
     (second .push-available2 .ensures .0)
     (third .push-available3 .ensures .0)
     (c .push-available4 .ensures .0) in
-    (kept, search needs)
+    λ me t. lists-available me (ledgerOf (now (entry .args .s)) .tokens) t (record { few = search needs; are = kept })
 
-pub available-of-spec : {M : Type 1} → statement M
-available-of-spec =
+pub available-here-spec : {M : Type 1} → statement M
+available-here-spec =
     tie.close
     (tie.spec
     no-inputs-requires
