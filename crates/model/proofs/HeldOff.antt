@@ -2,7 +2,7 @@
 -- here, its outputs hold nobody off; and a transaction whose inputs here are all made and free is never held off, and is voted yes.
 use Prim.Native.Nat.{ℕ}
 use native.Mathlib.Omega.{arith}
-use mathlib.Core.Path.{_≡_, refl, ap, sym, _∙_}
+use mathlib.Core.Path.{_≡_, refl, ap, sym, _∙_, subst}
 use mathlib.Core.Logic.{_≢_}
 use mathlib.Core.Bool.{Bool, true, false, cond, not, _&&_}
 use lib.Dec.{eqb}
@@ -17,7 +17,7 @@ use Rattle.model.specs.declared.Outcome.{Outcome}
 use Rattle.model.specs.declared.Outcome.the-variants.{Wait, Commit, Abort}
 use Rattle.model.specs.declared.Answer.{Answer}
 use Rattle.model.specs.declared.Answer.the-variants.{Refused, Registered, Brought}
-use Rattle.model.specs.Steps.{Limits, Ledger, names, inputsHere, available, vote, newlyKnown, outcomeOf, madeHere, afterRegister}
+use Rattle.model.specs.Steps.{Limits, Ledger, names, inputsHere, vote, newlyKnown, outcomeOf, madeHere, afterRegister}
 use Rattle.model.specs.Shard.{
   Call,
   register,
@@ -37,10 +37,11 @@ use Rattle.model.specs.Shard.{
 use Rattle.model.specs.Cluster.{ledgerAt, atShard, clusterStep}
 use Rattle.model.specs.Model.{Entry, Model, step, play}
 use Rattle.model.specs.Demand.{Value, tokenAt, outcomeAt}
-use Rattle.model.proofs.Basics.{both, not-yes, clash, any-at, any-no, all-at, some≢none, some-inj, orElse, never-answers, number-behind}
+use Rattle.model.proofs.Basics.{both, not-yes, clash, any-at, any-no, some≢none, some-inj, orElse, never-answers, number-behind}
 use Rattle.model.proofs.Entries.{look, mem-look}
-use Rattle.model.proofs.Holdings.{available-token, made-named}
+use Rattle.model.proofs.Holdings.{made-named}
 use Rattle.model.proofs.Invariant.{Core, made, gain, byCommit, onCommit, held-made}
+use Rattle.model.proofs.Local.{found-token, vote-same}
 use Rattle.model.proofs.Effects.{deliver-elim}
 use Rattle.model.proofs.Steps.{play-inv}
 use Rattle.model.proofs.Decisions.{knows, final-at}
@@ -136,14 +137,14 @@ Free limits calls p t = vote p (ledgerAt limits (play limits calls .shards) p .t
 -- then it is not held off
 pub free-passes : (limits : Limits) (calls : List Call) (p : ℕ) (t : Transaction) → Free limits calls p t
     → heldOff p (ledgerAt limits (play limits calls .shards) p .known) t ≡ false
-unfolding vote heldOff
+unfolding heldOff
 free-passes limits calls p t free =
     let ledger : Ledger = ledgerAt limits (play limits calls .shards) p in
     let ok = play-inv limits calls .at p in
     any-no (λ x. any (awaits p x) (ledger .known)) (inputsHere p t)
-    (λ x m e. clash e
-    (held-not-awaited (ok .core) x
-    (available-token (ledger .tokens) x (ok .no-twice) (all-at (available (ledger .tokens)) (inputsHere p t) free x m) .is-there)))
+    (λ x m e.
+    let there = subst (List·Memᴰ x) (sym (vote-same p (ledger .tokens) t .0 free)) m in
+    clash e (held-not-awaited (ok .core) x (found-token p (ledger .tokens) t (ok .no-twice) x there .is-there)))
 
 -- a transaction whose inputs here are all made and free when it is sent is not refused with 17, and where it is registered, it is voted yes; by a
 -- registration, and by a vote that brings it
