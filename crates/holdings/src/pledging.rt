@@ -38,8 +38,9 @@ fn pledge_if(s: &mut Words, number: u32, used: bool, x: Input)
     }
 }
 
-// Third, S pledges D(S, τ) to τ: the tokens of these inputs are pledged to the transaction of that number. Input after
-// input: a loop over the tokens has one name to compare.
+// Third, S pledges D(S, τ) to τ: the tokens of these inputs are pledged to the transaction of that number. Where D(S, τ) is
+// not all of I(S, τ), document 000 pledges nothing; document 01 pledges what is available, and decides. Input after input:
+// a loop over the tokens has one name to compare.
 pub fn pledge_all(s: &mut Words, number: u32, inputs: Inputs)
     requires { ⌜ Room (now s) ⌝ }
     ensures { λ _. ⌜ Changes (pledges number (inputsOf inputs)) (now (s .entry)) (now (s .exit)) ⌝ }

@@ -105,6 +105,7 @@ fn enter(s: &mut Words, verdict: bool, t: Transaction) -> Outcome
     decide_at(s, place)
 }
 
+// A registration that passes: the local step, then the transaction is known, and decided where the own vote is enough.
 pub(crate) fn carry_registration(s: &mut Words, t: Transaction) -> Answer
     requires { ⌜ Sound (now s) × (firstOf (registerRefusals house (number (now s)) (view (now s)) (number (now s)) t) ≡ 0) ⌝ }
     ensures { λ r. ⌜ Steps (now (s .entry)) (register (number (now (s .entry))) t) r (now (s .exit)) ⌝ }

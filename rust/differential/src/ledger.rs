@@ -8,7 +8,7 @@ use engine::{Call, State, Words, play, shards};
 use plankeeper::Ledger;
 use plankeeper::boundary::{ClusterMemory, Memory, ShardMemory, taken};
 use reference::{Answer, Cluster, LIMITS, Record, Refusal, Shard};
-use weeks::{Before, Case, Playable, changes_nothing};
+use weeks::{Before, Case, Playable, View, changes_nothing};
 
 /// What a call brought, the same for both.
 pub struct Played {
@@ -17,6 +17,15 @@ pub struct Played {
     /// What counts need of the receiving shard before the call, if there is
     /// such a shard.
     pub before: Option<Before>,
+}
+
+/// What of an engine's state is looked at without the reference.
+pub fn view(state: &State) -> View<'_> {
+    View {
+        tokens: &state.tokens,
+        known: &state.known,
+        turned: state.turned,
+    }
 }
 
 /// A week played on both from empty. The engine's memory serves for many

@@ -4,11 +4,11 @@
 use std::collections::BTreeMap;
 use std::{array, thread};
 
-use differential::{ClusterPlayer, Player};
+use differential::{ClusterPlayer, Player, view};
 use plankeeper::Cluster;
 use reference::Record;
 use weeks::{
-    Clauses, Giver, Scenario, Tally, View, carried_out, changes_nothing, label, never_given_by,
+    Clauses, Giver, Scenario, Tally, carried_out, changes_nothing, label, never_given_by,
     scenarios, share_out,
 };
 
@@ -47,11 +47,7 @@ fn follow(player: &mut ClusterPlayer, parts: [&[Record]; 2], tally: &mut Tally) 
         for record in records {
             let answer = player.call(record).answer;
             tally.add(label(answer));
-            let views = array::from_fn(|shard| View {
-                tokens: &player.states()[shard].tokens,
-                known: &player.states()[shard].known,
-                turned: player.states()[shard].turned,
-            });
+            let views = array::from_fn(|shard| view(&player.states()[shard]));
             clauses.step(record, answer.is_err(), &views);
             // A repeat adds nothing, and neither does a refused call.
             if !changes_nothing(answer) {

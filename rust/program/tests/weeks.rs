@@ -39,7 +39,7 @@ fn every_week_is_there_with_its_listing() {
         .iter()
         .map(|week| week.with_extension("listing"))
         .collect();
-    assert!(listings.len() >= 20, "{} weeks", listings.len());
+    assert!(listings.len() >= 21, "{} weeks", listings.len());
     assert_eq!(week_files("listing"), listings);
 }
 

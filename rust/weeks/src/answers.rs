@@ -238,6 +238,13 @@ pub fn carried_out() -> Vec<&'static str> {
     labels(|reply| reply.answer.is_ok() && reply.givers != NOBODY)
 }
 
+/// The labels of those among them that tell of a registration, by a call of its
+/// own or by a vote.
+pub fn registering() -> Vec<&'static str> {
+    let registers = |done| matches!(done, Done::Registered { .. } | Done::Brought { .. });
+    labels(|reply| reply.answer.is_ok_and(registers) && reply.givers != NOBODY)
+}
+
 fn labels(keep: impl Fn(&Reply) -> bool) -> Vec<&'static str> {
     let kept = replies().filter(|reply| keep(reply));
     kept.map(|reply| reply.label).collect()

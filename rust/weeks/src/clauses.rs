@@ -5,7 +5,9 @@
 use std::collections::btree_map::Entry as Place;
 use std::collections::{BTreeMap, BTreeSet};
 
-use reference::{Cluster, Known, Outcome, Record, SHARDS, SLOTS, Token, Transaction, Verdict};
+use reference::{Cluster, Input, Known, Outcome, Record, SHARDS, Token, Transaction, Verdict};
+
+use crate::local::{available_here, inputs_here};
 
 /// What the clauses look at in one shard.
 #[derive(Clone, Copy, Debug, PartialEq)]
@@ -33,7 +35,7 @@ struct Entry {
     shard: u8,
     transaction: Transaction,
     /// Which inputs there were available.
-    available: [bool; SLOTS],
+    available: Vec<Input>,
     /// Whether a vote has brought it.
     brought: bool,
 }
@@ -126,7 +128,7 @@ impl Clauses {
         self.log.push(Entry {
             shard,
             transaction: *transaction,
-            available: available(shard, transaction, &before.tokens),
+            available: available_here(&inputs_here(shard, transaction), &before.tokens),
             brought: matches!(record, Record::Vote { .. }),
         });
     }
@@ -278,17 +280,16 @@ impl Clauses {
     /// Whether each input was available when its shard registered the
     /// transaction.
     fn all_available(&self, transaction: &Transaction) -> bool {
-        (0..)
-            .zip(transaction.used_inputs())
-            .all(|(slot, input): (usize, _)| {
-                let mut log = self.log.iter();
-                let entry = log.find(|entry| {
-                    entry.shard == input.token.shard && entry.transaction == *transaction
-                });
-                entry
-                    .expect("all votes are heard, so all shards have registered")
-                    .available[slot]
-            })
+        transaction.used_inputs().iter().all(|input| {
+            let mut log = self.log.iter();
+            let entry = log.find(|entry| {
+                entry.shard == input.token.shard && entry.transaction == *transaction
+            });
+            entry
+                .expect("all votes are heard, so all shards have registered")
+                .available
+                .contains(input)
+        })
     }
 }
 
@@ -305,19 +306,6 @@ fn registered<'a>(record: &'a Record, before: &Kept) -> Option<&'a Transaction> 
         Record::Vote { transaction, .. } if !numbered(transaction.number) => Some(transaction),
         Record::Vote { .. } | Record::Mint { .. } | Record::Turn { .. } => None,
     }
-}
-
-fn available(shard: u8, transaction: &Transaction, tokens: &[Token]) -> [bool; SLOTS] {
-    let mut available = [false; SLOTS];
-    for (slot, input) in transaction.used_inputs().iter().enumerate() {
-        available[slot] = tokens.iter().any(|token| {
-            (shard, token.creator, token.index)
-                == (input.token.shard, input.token.creator, input.token.index)
-                && (token.owner, token.amount) == (input.owner, input.amount)
-                && token.pledge.is_none()
-        });
-    }
-    available
 }
 
 /// A token but for its pledge: creator, index, owner, amount.
@@ -413,7 +401,7 @@ fn check_agreement(receiver: usize, known: &Known, after: &[View; SHARDS]) {
 
 /// Document 02's decision: one no suffices for an abort, a commit needs every
 /// yes.
-fn outcome(known: &Known) -> Outcome {
+pub(crate) fn outcome(known: &Known) -> Outcome {
     let heard = |shard: u8| known.heard[usize::from(shard)];
     let mut shards = known.transaction.shards();
     if shards.any(|shard| heard(shard) == Some(Verdict::No)) {

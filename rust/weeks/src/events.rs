@@ -7,8 +7,9 @@ use reference::{
 
 use crate::answers::label;
 use crate::brought::Bringing;
+use crate::local::{available_here, inputs_here};
 use crate::tally::Tally;
-use crate::transactions::{is_all_heard, known, receiver};
+use crate::transactions::{held, inputs_at, is_all_heard, known, outputs_at, receiver};
 
 /// Kinds of events at a shard.
 pub const SHARD_EVENTS: [&str; 17] = [
@@ -280,15 +281,9 @@ impl Events<'_> {
     /// What a no has pledged: what was available, and at a turned shard it is
     /// free again in the same call.
     fn pledges_of_no(&mut self, call: &Carried) {
-        let here = call.shard.number();
-        let inputs = inputs_at(here, call.transaction);
-        let available = inputs.filter(|input| {
-            held(&call.before.tokens, input.token).is_some_and(|token| {
-                (token.owner, token.amount, token.pledge) == (input.owner, input.amount, None)
-            })
-        });
-        let available: Vec<TokenId> = available.map(|input| input.token).collect();
-        for &id in &available {
+        let inputs = inputs_here(call.shard.number(), call.transaction);
+        let available = available_here(&inputs, &call.before.tokens);
+        for &Input { token: id, .. } in &available {
             if held(call.shard.tokens(), id).is_some_and(|token| token.pledge.is_none()) {
                 self.tally.add("freed by its own no");
                 if call.is_brought() {
@@ -523,24 +518,6 @@ impl Carried<'_> {
             waits.is_some_and(|known| known.heard[usize::from(sender)].is_none())
         })
     }
-}
-
-/// The transaction's inputs at the shard of this number.
-fn inputs_at(number: u8, transaction: &Transaction) -> impl Iterator<Item = &Input> {
-    let inputs = transaction.used_inputs().iter();
-    inputs.filter(move |input| input.token.shard == number)
-}
-
-/// The transaction's outputs at the shard of this number, each with its index.
-fn outputs_at(number: u8, transaction: &Transaction) -> impl Iterator<Item = (u8, &Output)> {
-    let outputs = (0..).zip(transaction.used_outputs());
-    outputs.filter(move |(_, output)| output.shard == number)
-}
-
-/// The token of this shard among those that it holds.
-fn held(tokens: &[Token], id: TokenId) -> Option<&Token> {
-    let mut tokens = tokens.iter();
-    tokens.find(|token| (token.creator, token.index) == (id.creator, id.index))
 }
 
 /// The name of a token that the shard of this number holds.

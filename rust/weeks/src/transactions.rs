@@ -1,6 +1,8 @@
 //! Transactions and records to build weeks of.
 
-use reference::{Input, Known, MAX_AMOUNT, Output, Record, SLOTS, Shard, Transaction, cause};
+use reference::{
+    Input, Known, MAX_AMOUNT, Output, Record, SLOTS, Shard, Token, TokenId, Transaction, cause,
+};
 
 use crate::rng::Rng;
 
@@ -52,6 +54,27 @@ pub(crate) fn known<'a>(shard: &'a Shard, transaction: &Transaction) -> Option<&
 pub(crate) fn is_all_heard(known: &Known) -> bool {
     let mut shards = known.transaction.shards();
     shards.all(|shard| known.heard[usize::from(shard)].is_some())
+}
+
+/// The transaction's inputs at the shard of this number.
+pub(crate) fn inputs_at(number: u8, transaction: &Transaction) -> impl Iterator<Item = &Input> {
+    let inputs = transaction.used_inputs().iter();
+    inputs.filter(move |input| input.token.shard == number)
+}
+
+/// The transaction's outputs at the shard of this number, each with its index.
+pub(crate) fn outputs_at(
+    number: u8,
+    transaction: &Transaction,
+) -> impl Iterator<Item = (u8, &Output)> {
+    let outputs = (0..).zip(transaction.used_outputs());
+    outputs.filter(move |(_, output)| output.shard == number)
+}
+
+/// The token of this shard among those that it holds.
+pub(crate) fn held(tokens: &[Token], id: TokenId) -> Option<&Token> {
+    let mut tokens = tokens.iter();
+    tokens.find(|token| (token.creator, token.index) == (id.creator, id.index))
 }
 
 /// Adds an input, unless its token is among them.

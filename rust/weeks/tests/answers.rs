@@ -5,8 +5,8 @@ use std::collections::BTreeSet;
 
 use reference::Refusal;
 use weeks::{
-    ACCEPTED, CAUSES, DONE, Giver, carried_out, given_by, label, never_given_by, refused, replies,
-    shown_for,
+    ACCEPTED, CAUSES, DONE, Giver, carried_out, given_by, label, never_given_by, refused,
+    registering, replies, shown_for,
 };
 
 /// Rows are in the order of their numbers, and each row is told apart from all
@@ -93,4 +93,18 @@ fn givers() {
     }
     let others = never_given_by(&[Giver::Shard, Giver::Cluster]);
     assert_eq!(both.len() + others.len(), replies().count());
+}
+
+/// Those that tell of a registration, by hand from documents 01 and 02.
+#[test]
+fn registrations() {
+    let called = ["NO ABORT", "YES WAIT", "YES COMMIT"];
+    let brought = [
+        "brought NO ABORT",
+        "brought YES WAIT",
+        "brought YES COMMIT",
+        "brought YES ABORT",
+    ];
+    let both = called.iter().chain(&brought).copied();
+    assert!(registering().into_iter().eq(both), "{:?}", registering());
 }
