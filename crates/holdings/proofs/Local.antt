@@ -26,7 +26,7 @@ unfolding availableHere
 lists-available me tokens t f h = record { few = f .few; are = f .are ∙ ap (keep (available tokens)) (h .are) }
 
 -- as many as they are: the vote
-pub counts-vote : {here found : Inputs} (me : ℕ) (tokens : List Token) (t : Transaction) → length (here .list) ≡ 4
+pub counts-vote : (here found : Inputs) (me : ℕ) (tokens : List Token) (t : Transaction) → length (here .list) ≡ 4
     → length (found .list) ≡ 4 → Lists here (inputsHere me t) → Lists found (availableHere me tokens t)
     → eqb (found .count) (here .count) ≡ vote me tokens t
-counts-vote me tokens t lh lf h f = rw (count-is lh h, count-is lf f) (vote-counts me tokens t)
+counts-vote here found me tokens t lh lf h f = rw (count-is lh h, count-is lf f) (vote-counts me tokens t)
