@@ -1,5 +1,5 @@
 // The local step of a registration, as the text of document 000 goes (section 4): S is this shard and τ the transaction. What
-// each of the four parts yields is its own contract's to say; the ledger after all of them, and the verdict, are this one's.
+// each of the four parts yields is for its own contract to say.
 ghost use Rattle.holdings.specs.Held.{Room};
 ghost use Rattle.shard.specs.Parts.{Pledges};
 use holdings::availability::available_here;
@@ -10,6 +10,7 @@ use layout::Words;
 use layout::counts::own_number;
 use transaction::Transaction;
 
+// First the inputs here, then the available ones among them, then the pledges, then the message.
 pub(crate) fn local_step(s: &mut Words, t: Transaction) -> bool
     requires { ⌜ Room (now s) ⌝ }
     ensures { λ r. ⌜ Pledges t (now (s .entry)) r (now (s .exit)) ⌝ }
