@@ -1,5 +1,4 @@
 // The third part of the local step (document 000, section 4): the pledges.
-ghost use mathlib.Core.Path.{_≡_};
 ghost use mathlib.Core.List.{[], _∷_};
 ghost use Rattle.model.specs.Steps.{pledges};
 ghost use Rattle.loops.specs.Lists.{oneIf};

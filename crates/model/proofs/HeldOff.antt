@@ -2,7 +2,7 @@
 -- here, its outputs hold nobody off; and a transaction whose inputs here are all made and free is never held off, and is voted yes.
 use Prim.Native.Nat.{ℕ}
 use native.Mathlib.Omega.{arith}
-use mathlib.Core.Path.{_≡_, refl, ap, sym, _∙_, subst}
+use mathlib.Core.Path.{_≡_, refl, ap, sym, _∙_}
 use mathlib.Core.Logic.{_≢_}
 use mathlib.Core.Bool.{Bool, true, false, cond, not, _&&_}
 use lib.Dec.{eqb}
@@ -41,7 +41,7 @@ use Rattle.model.proofs.Basics.{both, not-yes, clash, any-at, any-no, s
 use Rattle.model.proofs.Entries.{look, mem-look}
 use Rattle.model.proofs.Holdings.{made-named}
 use Rattle.model.proofs.Invariant.{Core, made, gain, byCommit, onCommit, held-made}
-use Rattle.model.proofs.Local.{found-token, vote-same}
+use Rattle.model.proofs.Local.{found-token, yes-finds}
 use Rattle.model.proofs.Effects.{deliver-elim}
 use Rattle.model.proofs.Steps.{play-inv}
 use Rattle.model.proofs.Decisions.{knows, final-at}
@@ -143,8 +143,8 @@ free-passes limits calls p t free =
     let ok = play-inv limits calls .at p in
     any-no (λ x. any (awaits p x) (ledger .known)) (inputsHere p t)
     (λ x m e.
-    let there = subst (List·Memᴰ x) (sym (vote-same p (ledger .tokens) t .0 free)) m in
-    clash e (held-not-awaited (ok .core) x (found-token p (ledger .tokens) t (ok .no-twice) x there .is-there)))
+    let found = found-token p (ledger .tokens) t (ok .no-twice) x (yes-finds p (ledger .tokens) t free x m) in
+    clash e (held-not-awaited (ok .core) x (found .is-there)))
 
 -- a transaction whose inputs here are all made and free when it is sent is not refused with 17, and where it is registered, it is voted yes; by a
 -- registration, and by a vote that brings it

@@ -13,7 +13,7 @@ use Rattle.transaction.specs.Tokens.{usedInputs}
 use Rattle.model.specs.declared.Token.{Token}
 use Rattle.model.specs.Steps.{inputsHere, namedBy, available, availableHere, pledgedTo, namedIn, pledges, vote, noted}
 use Rattle.model.specs.Demand.{tokenAt}
-use Rattle.model.proofs.Basics.{eqb-eq, eqb-same, eqb-apart, both, some-inj, all-at, all-of, any-no, keep-in, keep-out, keep-all, all-kept}
+use Rattle.model.proofs.Basics.{eqb-eq, eqb-same, eqb-apart, both, some-inj, all-of, any-no, keep-in, keep-out, keep-all, all-kept}
 use Rattle.model.proofs.Holdings.{NoTwice, here-shard, in-here, tok-name, Available, available-token, tok-pledged, tok-unpledged}
 use Rattle.model.proofs.Invariant.{Pledged}
 
@@ -45,7 +45,7 @@ module _ (p : ℕ) (tokens : List Token) (t : Transaction) where
     }
 
     -- a token that is pledged is none of theirs
-    pub unnamed : (m i n : ℕ) → (n ≡ 0 → ⊥) → (b : Pledged tokens m i n) → namedIn (availableHere p tokens t) (b .token) ≡ false
+    unnamed : (m i n : ℕ) → (n ≡ 0 → ⊥) → (b : Pledged tokens m i n) → namedIn (availableHere p tokens t) (b .token) ≡ false
     unnamed m i n f b = any-no (namedBy (b .token)) (availableHere p tokens t) (λ x a y.
         let found = found-token once x a in
         let here = tok-name tokens m i (b .is-there) in
@@ -74,16 +74,20 @@ module _ (p : ℕ) (tokens : List Token) (t : Transaction) where
         sym (all-kept (available tokens) (inputsHere p t)) ∙ ap (λ (l : List Input). eqb (length l) here) e ∙ eqb-same here,
   )
 
-  -- so if D(S, τ) has as many as I(S, τ)
+  -- then each of I(S, τ) is in D(S, τ)
+  pub yes-finds : vote p tokens t ≡ true → (x : Input) → List·Memᴰ x (inputsHere p t) → List·Memᴰ x (availableHere p tokens t)
+  yes-finds e x m = subst (List·Memᴰ x) (sym (vote-same .0 e)) m
+
+  -- it is yes if D(S, τ) has as many as I(S, τ)
   pub vote-counts : eqb (length (availableHere p tokens t)) (length (inputsHere p t)) ≡ vote p tokens t
   unfolding availableHere vote
   vote-counts = all-kept (available tokens) (inputsHere p t)
 
-  -- and if each of I(S, τ) is in D(S, τ)
+  -- and, as it is noted, exactly if each of I(S, τ) is in D(S, τ)
   pub vote-says : (noted (vote p tokens t) ≡ 2) ↔ ((x : Input) → List·Memᴰ x (inputsHere p t) → List·Memᴰ x (availableHere p tokens t))
   unfolding vote
   vote-says = (
-    λ e x m. available-here x .1 (m, all-at (available tokens) (inputsHere p t) (yes-of (vote p tokens t) e) x m),
+    λ e. yes-finds (yes-of (vote p tokens t) e),
     λ h. ap noted (all-of (available tokens) (inputsHere p t) (λ x m. available-here x .0 (h x m) .1)),
   )
     where

@@ -27,7 +27,6 @@ use Rattle.model.specs.Steps.{
   emptyLedger,
   holding,
   genesisToken,
-  available,
   availableHere,
   pledges,
   vote,
