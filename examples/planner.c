@@ -18,7 +18,8 @@ static const char USAGE[] =
     "usage: planner [FILE]\n"
     "\n"
     "Plays a week's records, from FILE or from standard input where none is named,\n"
-    "and prints each answer, what each pantry then holds and knows, and the total.\n"
+    "and prints each answer, what each pantry then holds and knows, the inputs that\n"
+    "it found to spoil a swap, and the total.\n"
     "Exit status: 0; 1 if something cannot be read or written; 2 bad usage.\n";
 
 /* The causes of refusal in document 01's words, by number; one that is no refusal has none. */
@@ -41,11 +42,16 @@ static const char *const CAUSES[] = {
     "writer: lent bytes fewer than the record",
     "round, kind 2: sender has not given this vote on this swap",
     "kind 1 or 2: takes what an undecided swap is to make here",
-    "",
+    "findings: number not known at that pantry",
     "kind 4: this pantry is turned already",
 };
 
 static const char *const OUTCOMES[] = {"WAIT", "COMMIT", "ABORT"};
+
+/* What a pantry finds of an input, by number. */
+static const char *const FOUND[] = {
+    "", "available", "not held", "other household", "other portions", "pledged to swap",
+};
 
 static void fail(const char *what)
 {
@@ -122,6 +128,25 @@ static void print_token(const plankeeper *cluster, uint32_t shard, size_t place)
     putchar('\n');
 }
 
+/* The inputs there that were not available when the swap was registered, by their places among all
+ * its inputs. */
+static void print_spoilt(const plankeeper *cluster, uint32_t shard, const uint32_t *swap)
+{
+    uint32_t found[PLANKEEPER_FINDINGS_WORDS], finding = 0;
+    plankeeper_findings(cluster, shard, swap[PLANKEEPER_NUMBER], found);
+    for (uint32_t slot = 0; slot < swap[PLANKEEPER_INPUT_COUNT]; slot++) {
+        if (swap[PLANKEEPER_INPUT_SHARD(slot)] != shard)
+            continue;
+        uint32_t what = found[PLANKEEPER_FOUND_WHAT(finding)];
+        uint32_t pledge = found[PLANKEEPER_FOUND_PLEDGE(finding)];
+        finding++;
+        if (what == PLANKEEPER_PLEDGED)
+            printf("    input %" PRIu32 ": %s %" PRIu32 "\n", slot + 1, FOUND[what], pledge);
+        else if (what != PLANKEEPER_AVAILABLE)
+            printf("    input %" PRIu32 ": %s\n", slot + 1, FOUND[what]);
+    }
+}
+
 static void print_known(const plankeeper *cluster, uint32_t shard, size_t place)
 {
     uint32_t known[PLANKEEPER_KNOWN_WORDS];
@@ -133,6 +158,7 @@ static void print_known(const plankeeper *cluster, uint32_t shard, size_t place)
             printf(" %" PRIu32 " %s", sender, said == PLANKEEPER_SAID_YES ? "yes" : "no");
     }
     putchar('\n');
+    print_spoilt(cluster, shard, known);
 }
 
 static void print_shard(const plankeeper *cluster, uint32_t shard)

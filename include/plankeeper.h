@@ -8,6 +8,8 @@
  * vote brings its transaction to a shard that does not know it, so that it need not be registered
  * everywhere by a call. What an aborted transaction has pledged at a shard stays pledged, unless
  * the shard is turned: then it comes free. Each shard is turned by a call, when the caller likes.
+ * A shard keeps what it found of each input when it registered a transaction, and tells it: so one
+ * learns which token has spoiled it.
  * The functions are in the static library libengine.a; what each returns, and what it leaves in
  * memory, is proved for everything that it may be handed.
  *
@@ -84,14 +86,16 @@ typedef struct plankeeper_shard plankeeper_shard;
 /* ---- Sizes ---------------------------------------------------------------------------------- */
 
 /* Words of a cluster and of a lone shard: what plankeeper_words and plankeeper_shard_words say. */
-#define PLANKEEPER_WORDS 17184
-#define PLANKEEPER_SHARD_WORDS 2148
+#define PLANKEEPER_WORDS 19232
+#define PLANKEEPER_SHARD_WORDS 2404
 
-/* Words of a transaction, of a record that was read, of a token held, of a known transaction. */
+/* Words of a transaction, of a record that was read, of a token held, of a known transaction, and
+ * of what a shard has found of a transaction's inputs. */
 #define PLANKEEPER_TRANSACTION_WORDS 35
 #define PLANKEEPER_READING_WORDS 42
 #define PLANKEEPER_TOKEN_WORDS 5
 #define PLANKEEPER_KNOWN_WORDS 43
+#define PLANKEEPER_FINDINGS_WORDS 8
 
 /* Bytes of a record, by its kind. */
 #define PLANKEEPER_REGISTER_LENGTH 100
@@ -155,6 +159,22 @@ enum plankeeper_heard {
     PLANKEEPER_SAID_YES = 2
 };
 
+/* In findings, from 0 on: what was found of an input, and the number of the transaction that its
+ * token was pledged to, 0 unless that is what was found. Words behind the last finding are 0. */
+#define PLANKEEPER_FOUND_WHAT(finding) (2 * (finding))
+#define PLANKEEPER_FOUND_PLEDGE(finding) (1 + 2 * (finding))
+
+/* What a shard found of an input there when it registered the transaction, right before it pledged
+ * anything. Of the last four the first that fits counts. The shard has voted yes exactly where all
+ * inputs there were found available. */
+enum plankeeper_finding {
+    PLANKEEPER_AVAILABLE = 1,    /* held, with that owner and amount, and pledged to nothing */
+    PLANKEEPER_NOT_HELD = 2,     /* no token of that creator and index was held there */
+    PLANKEEPER_OTHER_OWNER = 3,  /* the token had another owner */
+    PLANKEEPER_OTHER_AMOUNT = 4, /* the token had another amount */
+    PLANKEEPER_PLEDGED = 5       /* the token was pledged, to a transaction known there before */
+};
+
 /* In a record that was read. A field that the record's kind does not have is 0. From
  * PLANKEEPER_READING_TRANSACTION on there are a transaction's words. */
 enum plankeeper_reading_word {
@@ -197,8 +217,8 @@ enum plankeeper_outcome {
 /* The causes of refusal. A call is refused with the first that fits, in this order: 1 to 6; then
  * a registration 7, 8, 9, 10, 17; a vote 16 (in a cluster only), and then, on a number that the
  * receiver knows, 7, 12, on one that it does not know 9, 10, 17, or 11 at a lone shard for its own
- * vote; a mint 13, 14; a turn 19. A writer looks for 3, 4, 5, 15. No bytes at all are 2. A refused
- * call changes nothing.
+ * vote; a mint 13, 14; a turn 19. A writer looks for 3, 4, 5, 15, a question for findings for 3,
+ * 18. No bytes at all are 2. A refused call changes nothing.
  *
  * A vote on a number that the receiver does not know brings its transaction, which is registered
  * there first. 9, 10 and 17 are about that, as they are about a registration: then the vote is not
@@ -213,30 +233,32 @@ enum plankeeper_outcome {
  * Two transactions that each take what the other is to make may wait for each other for good.
  *
  * Who gives it: r plankeeper_read; w the writers (plankeeper_write_...), of records that have the
- * field; m mint, g register, v votes (plankeeper_deliver, plankeeper_shard_hear), t turn, in a
- * cluster and at a lone shard. plankeeper_apply gives those of r and of the call that the record
- * is. At a lone shard 3 is also the answer to a call for another shard. 11 and 12 are given by
- * plankeeper_shard_hear alone, and 16 by plankeeper_deliver and plankeeper_apply alone.
+ * field; m mint, g register, v votes (plankeeper_deliver, plankeeper_shard_hear), t turn, f
+ * findings, in a cluster and at a lone shard. plankeeper_apply gives those of r and of the call
+ * that the record is. At a lone shard 3 is also the answer to a call for another shard, and to a
+ * question about one. 11 and 12 are given by plankeeper_shard_hear alone, and 16 by
+ * plankeeper_deliver and plankeeper_apply alone.
  *
- *    No.  Given by     Cause, in document 01's words
- *      1  r            kind not 1 to 4
- *      2  r            no bytes, or fewer than the kind's length
- *      3  r w m g v t  field or count outside its range; pantry above 7; unused slot not zero
- *      4  r w   g v    one token named twice
- *      5  r w   g v    sums differ
- *      6        g v    receiver or sender not among the swap's pantries
- *      7        g v    number known here for a different swap
- *      8        g      kind 1: this swap known here
- *      9        g v    kind 1 or 2: 32 swaps known
- *     10        g v    kind 1 or 2: tokens would pass 128
- *     11          v    kind 2: number unknown here
- *     12          v    kind 2: other verdict heard from this sender
- *     13      m        kind 3: a swap is known here
- *     14      m        kind 3: this opening position was given
- *     15    w          writer: lent bytes fewer than the record
- *     16          v    round, kind 2: sender has not given this vote on this swap
- *     17        g v    kind 1 or 2: takes what an undecided swap is to make here
- *     19            t  kind 4: this pantry is turned already
+ *    No.  Given by       Cause, in document 01's words
+ *      1  r              kind not 1 to 4
+ *      2  r              no bytes, or fewer than the kind's length
+ *      3  r w m g v t f  field or count outside its range; pantry above 7; unused slot not zero
+ *      4  r w   g v      one token named twice
+ *      5  r w   g v      sums differ
+ *      6        g v      receiver or sender not among the swap's pantries
+ *      7        g v      number known here for a different swap
+ *      8        g        kind 1: this swap known here
+ *      9        g v      kind 1 or 2: 32 swaps known
+ *     10        g v      kind 1 or 2: tokens would pass 128
+ *     11          v      kind 2: number unknown here
+ *     12          v      kind 2: other verdict heard from this sender
+ *     13      m          kind 3: a swap is known here
+ *     14      m          kind 3: this opening position was given
+ *     15    w            writer: lent bytes fewer than the record
+ *     16          v      round, kind 2: sender has not given this vote on this swap
+ *     17        g v      kind 1 or 2: takes what an undecided swap is to make here
+ *     18              f  findings: number not known at that pantry
+ *     19            t    kind 4: this pantry is turned already
  */
 enum plankeeper_refusal {
     PLANKEEPER_REFUSED_UNKNOWN_KIND = 1,
@@ -256,6 +278,7 @@ enum plankeeper_refusal {
     PLANKEEPER_REFUSED_BUFFER_TOO_SHORT = 15,
     PLANKEEPER_REFUSED_VOTE_NOT_GIVEN = 16,
     PLANKEEPER_REFUSED_HELD_OFF = 17,
+    PLANKEEPER_REFUSED_NO_SUCH_NUMBER = 18,
     PLANKEEPER_REFUSED_TURNED_ALREADY = 19
 };
 
@@ -291,18 +314,26 @@ enum plankeeper_answer {
     PLANKEEPER_BROUGHT_YES_ABORT = 612
 };
 
+/* The answer to a question for findings where there are none; with each finding it is one more, up
+ * to 704. */
+#define PLANKEEPER_FOUND 700
+
 /* What an answer says. */
 #define PLANKEEPER_IS_REFUSED(answer) ((answer) < 100u)
 #define PLANKEEPER_IS_REGISTERED(answer) ((answer) / 100u == 2u)
 #define PLANKEEPER_IS_HEARD(answer) ((answer) / 100u == 3u)
 #define PLANKEEPER_IS_AGAIN(answer) ((answer) / 100u == 4u)
 #define PLANKEEPER_IS_BROUGHT(answer) ((answer) / 100u == 6u)
+#define PLANKEEPER_IS_FOUND(answer) ((answer) / 100u == 7u)
 
 /* The shard's own verdict (PLANKEEPER_NO or PLANKEEPER_YES) in the answer to a registration or to
  * a vote that has brought its transaction, and the outcome (PLANKEEPER_WAIT, _COMMIT or _ABORT) in
  * that to a registration or to any vote. */
 #define PLANKEEPER_VERDICT(answer) ((answer) / 10u % 10u)
 #define PLANKEEPER_OUTCOME(answer) ((answer) % 10u)
+
+/* How many findings there are, 0 to 4, in the answer to a question for them. */
+#define PLANKEEPER_FOUND_COUNT(answer) ((answer) % 100u)
 
 /* A writer's answer: whether it is refused, and then the refusal's number. */
 #define PLANKEEPER_WRITE_REFUSED(answer) ((answer) >= 1000u)
@@ -311,7 +342,7 @@ enum plankeeper_answer {
 /* ---- A cluster ------------------------------------------------------------------------------ */
 
 /* How many words a cluster has, PLANKEEPER_WORDS: the caller provides that many, aligned for
- * uint32_t. Together they are less than 70,000 bytes. */
+ * uint32_t. Together they are less than 80,000 bytes. */
 size_t plankeeper_words(void);
 
 /* Makes a cluster of eight empty shards of the words, whatever they were. */
@@ -351,7 +382,8 @@ uint32_t plankeeper_deliver(plankeeper *cluster, uint32_t receiver, uint32_t sen
  * time later; one that is turned already refuses (19). Returns PLANKEEPER_TURNED, or a refusal. */
 uint32_t plankeeper_turn(plankeeper *cluster, uint32_t receiver);
 
-/* Queries change nothing in the cluster. A shard above 7 is an empty one to them. */
+/* Queries change nothing in the cluster. A shard above 7 is an empty one to them, but for
+ * plankeeper_findings, which refuses it. */
 
 /* The sum of the amounts held in all shards. */
 uint64_t plankeeper_total(const plankeeper *cluster);
@@ -384,10 +416,20 @@ uint32_t plankeeper_outcome_of(const plankeeper *cluster, uint32_t shard, uint32
 /* Whether the shard is turned: 1, or 0 where it is not. */
 uint32_t plankeeper_is_turned(const plankeeper *cluster, uint32_t shard);
 
+/* Tells which token has spoiled a transaction: what the shard found of each input there when it
+ * registered the transaction that it knows by that number, by a call of its own or by a vote.
+ * There is one finding for each of these inputs, in the order in which the transaction names them,
+ * and it stays what it was then, whatever becomes of the token: also after an abort, after a
+ * commit and after a turn. Fills in all words and returns PLANKEEPER_FOUND plus the number of
+ * findings, 700 to 704; or a refusal, 3 for a shard above 7 or number 0, and behind it 18 for a
+ * number that the shard does not know, and then the words keep their values. */
+uint32_t plankeeper_findings(const plankeeper *cluster, uint32_t shard, uint32_t number,
+                             uint32_t findings[PLANKEEPER_FINDINGS_WORDS]);
+
 /* ---- A lone shard --------------------------------------------------------------------------- */
 
 /* How many words a lone shard has, PLANKEEPER_SHARD_WORDS: the caller provides that many, aligned
- * for uint32_t. Together they are less than 9,000 bytes. */
+ * for uint32_t. Together they are less than 10,000 bytes. */
 size_t plankeeper_shard_words(void);
 
 /* Makes an empty shard of that number, 0 to 7, of the words, whatever they were. (A shard of
@@ -436,6 +478,10 @@ uint32_t plankeeper_shard_outcome_of(const plankeeper_shard *shard, uint32_t num
 
 /* As plankeeper_is_turned: 1, or 0 where the shard is not turned. */
 uint32_t plankeeper_shard_is_turned(const plankeeper_shard *shard);
+
+/* As plankeeper_findings; the number shard is this shard's, else it is refused (3). */
+uint32_t plankeeper_shard_findings(const plankeeper_shard *s, uint32_t shard, uint32_t number,
+                                   uint32_t findings[PLANKEEPER_FINDINGS_WORDS]);
 
 /* ---- Records -------------------------------------------------------------------------------- */
 

@@ -1,18 +1,23 @@
 -- DEMAND 3 ABOUT THE CODE. For every list of openings, registrations, vote deliveries and turns with any arguments, refused ones included, and the
 -- answers and clusters that the contracts of `new`, `mint_token`, `register_transaction`, `deliver_vote` and `turn_shard` fix, call after call: the
--- record `RunDemand` holds (crates/model/proofs/Bridge.antt), which has each clause of demand 3 as a field; and no answer is 11.
+-- record `RunDemand` holds (crates/model/proofs/Bridge.antt), which has each clause of demand 3 as a field; no answer is 11; and what `findings_of` reports
+-- after such a run is the true state of the tokens at the registration.
 --
 -- A contract is read off the function itself: `Asked` is what its `requires` asks of the arguments, `Learnt` what its `ensures` tells of the
 -- arguments, the result and the lent cluster afterwards, as the checker generates both from src/lib.rt. There is no second copy of a contract here, so
 -- that a contract that said less would break this proof.
 use Prim.Native.Nat.{ℕ}
+use mathlib.Core.Path.{_≡_, ap, sym, subst, _∙_}
 use mathlib.Core.List.{List, List·Memᴰ}
 use contract.Lifetimes.{Lfts}
+use Rattle.model.specs.declared.Report.{Report}
+use Rattle.model.specs.declared.Told.the-variants.{Findings}
 use Rattle.model.specs.declared.Answer.{Answer}
 use Rattle.model.specs.declared.Answer.the-variants.{Refused}
 use Rattle.model.specs.Steps.{house}
 use Rattle.model.specs.Shard.{Call, mint, register, deliver, turn}
-use Rattle.model.proofs.Bridge.{Engine, Run, RunDemand, run-demand-3, run-never-eleven}
+use Rattle.model.specs.Findings.{reported, TrueFindings}
+use Rattle.model.proofs.Bridge.{Engine, Run, RunDemand, run-demand-3, run-never-eleven, run-sound, run-true-findings}
 use Rattle.cluster.specs.View.{view, Sound, Fresh, Steps}
 use Rattle.cluster.proofs.References.{Place, refers}
 use Rattle.cluster.proofs.new.Reads as new
@@ -20,6 +25,7 @@ use Rattle.cluster.proofs.mint_token.Reads as mint-token
 use Rattle.cluster.proofs.register_transaction.Reads as register-transaction
 use Rattle.cluster.proofs.deliver_vote.Reads as deliver-vote
 use Rattle.cluster.proofs.turn_shard.Reads as turn-shard
+use Rattle.cluster.proofs.queries.findings_of.Reads as findings-of
 
 -- a cluster's words
 abbrev pub Cluster : Type 0
@@ -94,3 +100,18 @@ demand-3 c₀ starts run = run-demand-3 (code c₀ starts) run
 pub never-eleven : (c₀ : Cluster) (starts : Starts c₀) {c : Cluster} {calls : List Call} {replies : List Answer}
     → Run (code c₀ starts) c₀ calls replies c → List·Memᴰ (Refused 11) replies → ⊥
 never-eleven c₀ starts run = run-never-eleven (code c₀ starts) run
+
+-- `findings_of`, lent this cluster and handed a shard and a number, may have returned this report
+pub record Reports (c : Cluster) (p number : ℕ) (r : Report) : Type 0 where
+  pub at : Lent
+  pub kept : findings-of.Asked (at .lifetimes) (refers (at .place) c, (p, (number, tt)))
+      → findings-of.Learnt (at .lifetimes) (refers (at .place) c, (p, (number, tt))) r (refers (at .place) c, (p, (number, tt)))
+
+-- THEOREM: each finding that it reports, after every such run, is the true state of that token at that registration (document 02, 2)
+pub true-findings : (c₀ : Cluster) (starts : Starts c₀) {c : Cluster} {calls : List Call} {replies : List Answer}
+    → Run (code c₀ starts) c₀ calls replies c → {p number count : ℕ} {r : Report} → Reports c p number r
+    → r .answer ≡ Findings count → TrueFindings house calls p number (reported r)
+true-findings c₀ starts {c} {calls} run {p} {number} {count} {r} x e =
+    let is = x .kept (run-sound (code c₀ starts) (started starts .sound) run) in
+    subst (λ (y : Report). TrueFindings house calls p number (reported y)) (sym is)
+    (run-true-findings (code c₀ starts) run p number count (sym (ap (λ (y : Report). y .answer) is) ∙ e))

@@ -1,16 +1,20 @@
-// What can be asked of a cluster; nothing of it is changed. A shard above 7 is an empty one.
+// What can be asked of a cluster; nothing of it is changed. A shard above 7 is an empty one; where findings are asked for, it
+// is refused.
 ghost use mathlib.Core.Path.{_≡_};
 ghost use lib.ListN.{length};
 ghost use Rattle.model.specs.Steps.{house};
 ghost use Rattle.model.specs.Cluster.{ledgerAt};
+ghost use Rattle.model.specs.Findings.{reportAt};
 ghost use Rattle.shard.specs.Queries.{tokenAt, knownAt, outcomeAt, outcomeOfNumber};
 ghost use Rattle.cluster.specs.View.{view, Sound};
 ghost use Rattle.model.specs.Totals.{heldIn, totalHeld};
 use crate::Cluster;
 use model::Known;
+use model::Report;
 use shard::queries;
 use shard::queries::HeldToken;
 use shard::queries::KnownOutcome;
+use shard::reporting;
 
 // How many tokens the shard of that number holds.
 pub fn held_count(c: &Cluster, number: u8) -> usize
@@ -82,6 +86,19 @@ pub fn outcome_of(c: &Cluster, number: u8, transaction: u32) -> KnownOutcome
         return KnownOutcome::Unknown;
     }
     queries::outcome_of(&c[at], transaction)
+}
+
+// What it found about its inputs of the transaction of that number (document 02, 2): 3 for a shard above 7 and for the
+// number 0, 18 for a number that is not known there.
+pub fn findings_of(c: &Cluster, number: u8, transaction: u32) -> Report
+    requires { ⌜ Sound (now c) ⌝ }
+    ensures { λ r. ⌜ r ≡ reportAt house (view (now (c .entry))) number transaction ⌝ }
+{
+    let at = number as usize;
+    if 8 <= at {
+        return reporting::refused(3);
+    }
+    reporting::findings_of(&c[at], number, transaction)
 }
 
 // It has turned (document 02, 4).

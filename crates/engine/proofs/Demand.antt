@@ -1,17 +1,19 @@
 -- DEMAND 3 THROUGH THE LIBRARY'S DOOR. For every list of plankeeper_mint, _register, _deliver, _turn and _apply with any
 -- words and any bytes, refused ones included, on memory that plankeeper_new made a cluster of, and the numbers and clusters
 -- that the contracts of these exported functions fix, call after call: the numbers are the codes of the reference
--- model's answers to the calls asked for, and every clause of demand 3 holds of the ledgers.
+-- model's answers to the calls asked for, and every clause of demand 3 holds of the ledgers. What plankeeper_findings reports
+-- after such calls is the true state of the tokens at the registration.
 --
 -- As in crates/cluster/proofs/Demand.antt a contract is read off the function itself (`Asked`, `Learnt`), so that one
 -- that said less would break this proof.
-use Prim.Native.Nat.{ℕ}
+use Prim.Native.Nat.{ℕ, _+_, _≤_}
 use mathlib.Core.Path.{_≡_, refl, sym, ap, _∙_, subst}
 use mathlib.Core.Logic.{_≢_}
 use mathlib.Core.Bool.{Bool, true, false, cond}
 use mathlib.Core.List.{List, [], _∷_, List·Memᴰ, List·Memᴰ·head, List·Memᴰ·tail}
 use native.Mathlib.Omega.{arith}
 use lib.Dec.{eqb}
+use lib.ListN.{length}
 use contract.Lifetimes.{Lfts}
 use Rattle.transaction.specs.declared.Transaction.{Transaction}
 use Rattle.reader.specs.declared.Answer as reader
@@ -20,21 +22,32 @@ use Rattle.transaction.specs.Lists.{firstOf}
 use Rattle.transaction.specs.Checks.{houseGenesis, registerChecks, voteChecks, mintChecks, turnChecks}
 use Rattle.reader.specs.Layout.{byteAt, wordAt, transactionAt}
 use Rattle.reader.specs.Reading.{kindOf, headChecks, bodyChecks, readCause, recordAt, readingOf}
+use Rattle.model.specs.declared.Finding.{Finding}
+use Rattle.model.specs.declared.Told.{Told}
+use Rattle.model.specs.declared.Told.the-variants as told
+use Rattle.model.specs.declared.Report.{Report}
 use Rattle.model.specs.declared.Answer.{Answer}
 use Rattle.model.specs.declared.Answer.the-variants.{Refused, Minted, Registered, Heard, Again, Turned, Brought}
 use Rattle.model.specs.declared.Outcome.the-variants.{Wait}
 use Rattle.model.specs.Steps.{Ledger, house}
 use Rattle.model.specs.Shard.{Call}
+use Rattle.model.specs.Answers.{toldNumber}
 use Rattle.model.specs.Cluster.{ledgerAt, clusterStep}
+use Rattle.model.specs.Model.{play}
 use Rattle.model.specs.Demand.{outcomeIn}
 use Rattle.model.proofs.Basics.{number-behind, never-answers}
+use Rattle.model.specs.Findings.{reportRefusals, reportAt, reported, TrueFindings}
 use Rattle.model.proofs.Tables.{never-eleven}
+use Rattle.model.proofs.Findings.{report-number, report-small}
+use Rattle.model.proofs.TrueFindings.{true-findings, reported-count}
 use Rattle.model.proofs.Bridge as bridge
 use Rattle.model.proofs.Bridge.{reference, RunDemand, run-demand-3}
 use Rattle.cluster.specs.View.{view, Sound, Fresh}
 use Rattle.cluster.proofs.References.{Place, refers}
 use Rattle.cluster.proofs.Demand.{Cluster}
-use Rattle.engine.specs.Codes.{answerCode}
+use Rattle.engine.specs.Words.{byteOf}
+use Rattle.engine.specs.Codes.{answerCode, toldCode}
+use Rattle.engine.specs.Queries.{findingsWords, findingsAfter, TellsFindings}
 use Rattle.engine.specs.Calls.{clusterCalled, appliedAs, applied, ClusterDoes}
 use Rattle.engine.specs.Asks.{
   Ask,
@@ -58,6 +71,7 @@ use Rattle.engine.proofs.clusters.plankeeper_register.Reads as of-regis
 use Rattle.engine.proofs.clusters.plankeeper_deliver.Reads as of-deliver
 use Rattle.engine.proofs.clusters.plankeeper_turn.Reads as of-turn
 use Rattle.engine.proofs.clusters.plankeeper_apply.Reads as of-apply
+use Rattle.engine.proofs.cluster_queries.plankeeper_findings.Reads as of-findings
 
 -- how memory is lent: a cluster alone, or beside it what is read from
 pub record Lent : Type 0 where
@@ -266,3 +280,50 @@ planner-never-eleven {asks = asks} starts run m =
     let p = planner-demand-3 starts run in
     let among : List·Memᴰ (Refused 11) (p .replies) = told-eleven asks (p .replies) (subst (λ (l : List ℕ). List·Memᴰ 11 l) (p .told) m) in
     never-eleven house (callsOf (meantBy asks)) (subst (λ (l : List Answer). List·Memᴰ (Refused 11) l) (p .demand .answered) among)
+
+-- ---- The findings are true (document 02, 2)
+
+-- `plankeeper_findings`, lent this cluster, handed a shard and a number and lent words to write to, may have returned that number and left those words
+pub record Tells (c : Cluster) (shard number : ℕ) (before : List ℕ) (code : ℕ) (after : List ℕ) : Type 0 where
+  pub at : Lent
+  pub kept : of-findings.Asked (at .both) (refers (at .from) c, (shard, (number, (refers (at .to) before, tt))))
+      → of-findings.Learnt (at .both) (refers (at .from) c, (shard, (number, (refers (at .to) before, tt)))) code
+      (refers (at .from) c, (shard, (number, (refers (at .to) after, tt))))
+
+-- the number and the words are those of true findings
+pub record TrueWords (calls : List Call) (p number code : ℕ) (after : List ℕ) : Type 0 where
+  pub found : List Finding
+  pub true-found : TrueFindings house calls p number found
+  pub many : code ≡ 700 + length found
+  pub words : after ≡ findingsWords 4 found
+
+-- of what the model reports after the calls
+told-true : (calls : List Call) (p number : ℕ) {before : List ℕ} {code : ℕ} {after : List ℕ}
+    → TellsFindings (reportAt house (play house calls .shards) p number) before code after → 700 ≤ code → TrueWords calls p number code after
+unfolding toldCode findingsAfter
+told-true calls p number {before} {code} {after} tells h = go (r .answer) refl
+  where
+    r : Report
+    r = reportAt house (play house calls .shards) p number
+
+    go : (answer : Told) → r .answer ≡ answer → TrueWords calls p number code after
+    go (told.Refused cause) e =
+        let ledger = ledgerAt house (play house calls .shards) p in
+        let first : cause ≡ firstOf (reportRefusals p ledger p number) = sym (ap toldNumber e) ∙ report-number p ledger p number in
+        absurd (omega (arith, h, tells .answered ∙ ap toldCode e, first, report-small p ledger p number))
+    go (told.Findings count) e = record {
+      found = reported r;
+      true-found = true-findings house calls p number count e;
+      many = tells .answered ∙ ap toldCode e ∙ ap (λ (n : ℕ). 700 + n) (sym (reported-count house calls p number count e));
+      words = tells .filled ∙ ap (findingsAfter r before) e;
+    }
+
+-- THEOREM: whatever shard and number are asked for after every such run, where it is not refused the words are those of findings, each the true
+-- state of that token at that registration
+pub planner-true-findings : {c₀ c : Cluster} {asks : List Ask} {codes : List ℕ} → Starts c₀ → Run c₀ asks codes c
+    → {shard number : ℕ} {before : List ℕ} {code : ℕ} {after : List ℕ} → Tells c shard number before code after → 700 ≤ code
+    → TrueWords (callsOf (meantBy asks)) (byteOf shard) number code after
+planner-true-findings {c = c} {asks = asks} starts run {shard} {number} {before} {code} {after} x h =
+    let p = planner-demand-3 starts run in
+    told-true (callsOf (meantBy asks)) (byteOf shard) number
+    (subst (λ (l : List Ledger). TellsFindings (reportAt house l (byteOf shard) number) before code after) (p .demand .viewed) (x .kept (p .sound))) h

@@ -1,3 +1,4 @@
 pub mod Joins
 pub mod Promises
+pub mod Tells
 pub mod Demand

@@ -3,6 +3,8 @@ use Prim.Native.Nat.{ℕ, _+_, _*_}
 use mathlib.Core.Bool.{Bool, cond}
 use Rattle.model.specs.declared.Outcome.{Outcome}
 use Rattle.model.specs.declared.Outcome.the-variants.{Wait, Commit, Abort}
+use Rattle.model.specs.declared.Told.{Told}
+use Rattle.model.specs.declared.Told.the-variants as told
 use Rattle.model.specs.declared.Answer.{Answer}
 use Rattle.model.specs.declared.Answer.the-variants.{Refused, Minted, Registered, Heard, Again, Turned, Brought}
 
@@ -30,3 +32,8 @@ answerCode (Heard outcome) = 300 + outcomeCode outcome
 answerCode (Again outcome) = 400 + outcomeCode outcome
 answerCode Turned = 500
 answerCode (Brought verdict outcome) = 600 + votedCode verdict outcome
+
+-- The answer to the call for the findings: a refusal's own number; 700, and how many findings there are.
+unfoldable pub toldCode : Told → ℕ
+toldCode (told.Refused number) = number
+toldCode (told.Findings count) = 700 + count

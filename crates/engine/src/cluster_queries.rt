@@ -1,16 +1,18 @@
 // What can be asked of a cluster: exported functions. Nothing is changed but the words lent for the answer. A shard
-// above 7 is an empty one.
+// above 7 is an empty one; where findings are asked for, it is refused.
 ghost use mathlib.Core.Path.{_≡_};
 ghost use lib.ListN.{length};
 ghost use Rattle.model.specs.Steps.{house};
 ghost use Rattle.model.specs.Cluster.{ledgerAt};
+ghost use Rattle.model.specs.Findings.{reportAt};
 ghost use Rattle.shard.specs.Queries.{outcomeOfNumber};
 ghost use Rattle.cluster.specs.View.{view, Sound};
 ghost use Rattle.model.specs.Totals.{heldIn, totalHeld};
 ghost use Rattle.engine.specs.Words.{byteOf};
 ghost use Rattle.engine.specs.Codes.{yes};
-ghost use Rattle.engine.specs.Queries.{knownCode, TellsToken, TellsKnown};
+ghost use Rattle.engine.specs.Queries.{knownCode, TellsToken, TellsKnown, TellsFindings};
 use crate::codes::flag;
+use crate::findings::tell;
 use crate::ledgers::held_code;
 use crate::ledgers::known_code;
 use crate::ledgers::known_words;
@@ -80,6 +82,23 @@ pub extern "C" fn plankeeper_outcome_of(c: &Cluster, shard: u32, number: u32) ->
         (outcomeOfNumber (ledgerAt house (view (now (c .entry))) (byteOf shard) .known) number) ⌝ }
 {
     known_code(queries::outcome_of(c, narrow(shard), number))
+}
+
+// What it found about its inputs of the transaction of that number (document 02, 2): 700 + how many findings, and their
+// words; or refused with 3 or 18.
+#[no_mangle]
+pub extern "C" fn plankeeper_findings(
+    c: &Cluster,
+    shard: u32,
+    number: u32,
+    findings: &mut [u32; 8],
+) -> u32
+    requires { ⌜ Sound (now c) ⌝ }
+    ensures { λ r. ⌜ TellsFindings (reportAt house (view (now (c .entry))) (byteOf shard) number)
+        (now (findings .entry)) r (now (findings .exit)) ⌝ }
+{
+    let report = queries::findings_of(c, narrow(shard), number);
+    tell(report, findings)
 }
 
 // 1 if it has turned, 0 if not.

@@ -32,6 +32,10 @@
 //   a known one  the outcome, and its 43 words: the transaction's 35 and the verdict heard from each shard (0 none, 1 no, 2 yes);
 //                3 and zeros behind the last
 //   turned       1 for a shard that has turned, 0 for one that has not
+//   findings     700 + how many there are, one for each input at that shard of the known transaction of that number, in input order; and
+//                8 words: for each what was found (1 available, 2 not held, 3 another owner, 4 another amount, 5 pledged) and the number
+//                of the pledging transaction (0: none), zeros behind the last. Or refused with 3 (a shard above 7, at a lone shard any
+//                but its own; the number 0) or 18 (a number that is not known there), and the words stay as they were
 //
 // include/plankeeper.h says the same to a compiler of C, rust/plankeeper to one of Rust. proofs/Demand.antt has the theorem about every list of
 // these calls (planner-demand-3; its words are in specs/Asks.antt).
@@ -44,8 +48,9 @@ pub mod words; // a transaction as 35 words, both ways; internal, and public onl
 mod codes; // an answer as a number
 mod fields; // what was read of a record, as 42 words
 mod ledgers; // a held token as 5 words, a known transaction as 43
+mod findings; // what was found about its inputs, as 8
 pub mod records; // records read and written: plankeeper_read, _taken, _write_register, _write_vote, _write_mint, _write_turn
 pub mod clusters; // a cluster: plankeeper_words, _new, _apply, _mint, _register, _deliver, _turn
-pub mod cluster_queries; // plankeeper_held_count, _token_at, _known_count, _known_at, _outcome_of, _is_turned, _total_at, _total
+pub mod cluster_queries; // plankeeper_held_count, _token_at, _known_count, _known_at, _outcome_of, _findings, _is_turned, _total_at, _total
 pub mod shards; // a lone shard: plankeeper_shard_words, _shard_new, _shard_mint, _shard_register, _shard_hear, _shard_turn
-pub mod shard_queries; // plankeeper_shard_held_count, _shard_token_at, _shard_known_count, _shard_known_at, _shard_outcome_of, _shard_is_turned, _shard_total
+pub mod shard_queries; // plankeeper_shard_held_count, _shard_token_at, _shard_known_count, _shard_known_at, _shard_outcome_of, _shard_findings, _shard_is_turned, _shard_total

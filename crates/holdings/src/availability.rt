@@ -1,18 +1,24 @@
 // The first two parts of the local step (document 000, section 4): the inputs at this shard, I(S, τ), then the available
-// ones among them, D(S, τ). What there is to find about an input is found in the second, before anything is pledged.
+// ones among them, D(S, τ), by what was found about each of them.
 ghost use mathlib.Core.Path.{_≡_};
 ghost use mathlib.Core.Bool.{_&&_};
-ghost use mathlib.Core.List.{[], _++_};
+ghost use mathlib.Core.List.{List, [], _++_};
 ghost use Prim.Native.Nat.{ℕ, _+_, _≤_, _<_};
+ghost use lib.ListN.{length};
+ghost use Rattle.transaction.specs.declared.Input.{Input};
 ghost use Rattle.transaction.specs.declared.Transaction.{Transaction};
-ghost use Rattle.model.specs.Steps.{names, freeFor, available, inputsHere, availableHere};
+ghost use Rattle.model.specs.declared.Token.{Token};
+ghost use Rattle.model.specs.Answers.{isAvailable};
+ghost use Rattle.model.specs.Steps.{names, freeFor, available, inputsHere, availableHere, findings, keeping};
 ghost use Rattle.loops.specs.Lists.{oneIf};
 ghost use Rattle.layout.specs.Layout.{tokenSlots, shardOf, ledgerOf};
 ghost use Rattle.holdings.specs.Held.{inputsOf, Lists};
 use crate::Inputs;
+use crate::finding::was_available;
 use layout::Words;
 use layout::counts::held;
 use layout::tokens::token_at;
+use model::Found;
 use model::Token;
 use transaction::Input;
 use transaction::TokenId;
@@ -38,7 +44,7 @@ fn is_free_for(x: Input, token: Token) -> bool
 }
 
 // The shard holds such a token.
-fn is_available(s: &Words, x: Input) -> bool
+pub(crate) fn is_available(s: &Words, x: Input) -> bool
     requires { ⌜ shardOf (now s) .held ≤ tokenSlots ⌝ }
     ensures { λ r. ⌜ r ≡ available (ledgerOf (now (s .entry)) .tokens) x ⌝ }
 {
@@ -105,28 +111,30 @@ pub fn inputs_here(me: u8, t: Transaction) -> Inputs
     push_if(three, (3 < n) & (d.token.shard == me), d)
 }
 
-fn push_available(s: &Words, so_far: Inputs, used: bool, x: Input) -> Inputs
-    requires { ⌜ («so_far» .count < 4) × (shardOf (now s) .held ≤ tokenSlots) ⌝ }
-    ensures { λ r. ⌜ (inputsOf r ≡ inputsOf «so_far» ++ oneIf (used && available (ledgerOf (now (s .entry)) .tokens) x) x)
-        × (r .count ≤ «so_far» .count + 1) ⌝ }
+// How many they are, of whichever list.
+pub fn count_of(here: Inputs) -> u8
+    requires { ⌜ here .count ≤ 4 ⌝ }
+    ensures { λ r. ⌜ ((inputs : List Input) → Lists here inputs → r ≡ length inputs) ⌝ }
 {
-    if !used {
-        return so_far;
-    }
-    let wanted = is_available(s, x);
-    push_if(so_far, wanted, x)
+    here.count as u8
 }
 
-// Second, D(S, τ) ⊆ I(S, τ): the available ones among the inputs here, of whichever shard and transaction those are.
-pub fn available_here(s: &Words, here: Inputs) -> Inputs
-    requires { ⌜ shardOf (now s) .held ≤ tokenSlots ⌝ }
-    ensures { λ r. ⌜ ((me : ℕ) (t : Transaction) → Lists here (inputsHere me t)
-        → Lists r (availableHere me (ledgerOf (now (s .entry)) .tokens) t)) ⌝ }
+fn push_found(so_far: Inputs, used: bool, found: Found, x: Input) -> Inputs
+    requires { ⌜ «so_far» .count < 4 ⌝ }
+    ensures { λ r. ⌜ (inputsOf r ≡ inputsOf «so_far» ++ oneIf (used && isAvailable (found .finding)) x) × (r .count ≤ «so_far» .count + 1) ⌝ }
+{
+    push_if(so_far, used & was_available(found), x)
+}
+
+// Second, D(S, τ) ⊆ I(S, τ): those of the inputs here that were found available, of whichever shard, tokens and transaction.
+pub fn available_here(here: Inputs, found: [Found; 4]) -> Inputs
+    ensures { λ r. ⌜ ((me : ℕ) (tokens : List Token) (t : Transaction) → Lists here (inputsHere me t)
+        → found ≡ keeping (findings me tokens t) → Lists r (availableHere me tokens t)) ⌝ }
 {
     let n = here.count;
     let x = here.list;
-    let one = push_available(s, no_inputs(), 0 < n, x[0]);
-    let two = push_available(s, one, 1 < n, x[1]);
-    let three = push_available(s, two, 2 < n, x[2]);
-    push_available(s, three, 3 < n, x[3])
+    let one = push_found(no_inputs(), 0 < n, found[0], x[0]);
+    let two = push_found(one, 1 < n, found[1], x[1]);
+    let three = push_found(two, 2 < n, found[2], x[2]);
+    push_found(three, 3 < n, found[3], x[3])
 }

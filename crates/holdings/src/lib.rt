@@ -3,6 +3,7 @@
 use transaction::Input;
 
 pub mod availability; // the inputs at a shard, and the available ones among them
+pub mod finding; // what is found about each input here
 pub mod pledging; // the pledges
 pub mod voting; // the message
 pub mod committing; // tokens destroyed and made

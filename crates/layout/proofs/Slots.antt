@@ -9,6 +9,7 @@ use Rattle.transaction.specs.declared.Input.{Input}
 use Rattle.transaction.specs.declared.Output.{Output}
 use Rattle.transaction.specs.declared.Transaction.{Transaction}
 use Rattle.transaction.specs.Tokens.{zeroInput, zeroOutput}
+use Rattle.model.specs.declared.Found.{Found}
 use Rattle.layout.specs.Layout.{
   tokenSlots,
   knownSlots,
@@ -19,6 +20,8 @@ use Rattle.layout.specs.Layout.{
   inputsOffset,
   outputsOffset,
   heardOffset,
+  foundSize,
+  findingsOffset,
   knownSize,
   entryPlace,
   word,
@@ -31,6 +34,8 @@ use Rattle.layout.specs.Layout.{
   outputsIn,
   transactionIn,
   heardIn,
+  foundIn,
+  findingsIn,
   knownIn,
   tokenAt,
   knownAt,
@@ -111,11 +116,11 @@ heard-at ws k sender h l = rw (known-get ws k h) (heard-get ws (entryPlace k + h
 pub heard-above : (ws : List ℕ) (k sender : ℕ) → k < knownSlots → 8 ≤ sender → getD (slotKnown ws k .heard) sender 0 ≡ 0
 heard-above ws k sender h l = rw (known-get ws k h) (heard-none ws (entryPlace k + heardOffset) sender l)
 
--- from its two parts
-pub known-parts : (ws : List ℕ) (k : ℕ) → k < knownSlots → {t : Transaction} {heard : List ℕ}
-    → t ≡ slotKnown ws k .transaction
-    → heard ≡ heardIn ws (entryPlace k + heardOffset) → record { transaction = t; heard = heard } ≡ slotKnown ws k
-known-parts ws k h et eh = rw (et, eh, known-get ws k h) refl
+-- from its three parts
+pub known-parts : (ws : List ℕ) (k : ℕ) → k < knownSlots → {t : Transaction} {heard : List ℕ} {findings : List Found}
+    → t ≡ slotKnown ws k .transaction → heard ≡ heardIn ws (entryPlace k + heardOffset) → findings ≡ slotKnown ws k .findings
+    → record { transaction = t; heard = heard; findings = findings } ≡ slotKnown ws k
+known-parts ws k h et eh ef = rw (et, eh, ef, known-get ws k h) refl
 
 -- ---- All slots are there
 
@@ -192,11 +197,25 @@ module _ (ws vs : List ℕ) where
           output-same (i + 3 * outputSize) (omega arith) (omega arith),
         )
 
-    heard-same : (i : ℕ) → b ≤ i → i + 8 ≤ f → heardIn vs i ≡ heardIn ws i
+    pub heard-same : (i : ℕ) → b ≤ i → i + 8 ≤ f → heardIn vs i ≡ heardIn ws i
     unfolding heardIn
     heard-same i l h =
         tab-same 8 (λ (k : ℕ). byte ws (i + k)) (λ (k : ℕ). byte vs (i + k))
         (λ k m. ap (λ (w : ℕ). w % 256) (at (i + k) (omega arith) (omega arith)))
+
+    found-same : (i : ℕ) → b ≤ i → i + foundSize ≤ f → foundIn vs i ≡ foundIn ws i
+    unfolding foundIn
+    found-same i l h = rw (at i (omega arith) (omega arith), at (i + 1) (omega arith) (omega arith))
+
+    pub findings-same : (i : ℕ) → b ≤ i → i + 4 * foundSize ≤ f → findingsIn vs i ≡ findingsIn ws i
+    unfolding findingsIn
+    findings-same i l h =
+        rw (
+          found-same i (omega arith) (omega arith),
+          found-same (i + foundSize) (omega arith) (omega arith),
+          found-same (i + 2 * foundSize) (omega arith) (omega arith),
+          found-same (i + 3 * foundSize) (omega arith) (omega arith),
+        )
 
     pub transaction-same : (i : ℕ) → b ≤ i → i + heardOffset ≤ f → transactionIn vs i ≡ transactionIn ws i
     transaction-same i l h =
@@ -210,7 +229,11 @@ module _ (ws vs : List ℕ) where
 
     known-same : (i : ℕ) → b ≤ i → i + knownSize ≤ f → knownIn vs i ≡ knownIn ws i
     known-same i l h =
-        rw (transaction-same i (omega arith) (omega arith), heard-same (i + heardOffset) (omega arith) (omega arith))
+        rw (
+          transaction-same i (omega arith) (omega arith),
+          heard-same (i + heardOffset) (omega arith) (omega arith),
+          findings-same (i + findingsOffset) (omega arith) (omega arith),
+        )
 
 pub token-local : Local tokenIn tokenSize
 token-local ws vs i s =
@@ -230,3 +253,6 @@ input-local ws vs i s = input-same ws vs i (i + inputSize) s i (omega arith) (om
 
 pub output-local : Local outputIn outputSize
 output-local ws vs i s = output-same ws vs i (i + outputSize) s i (omega arith) (omega arith)
+
+pub found-local : Local foundIn foundSize
+found-local ws vs i s = found-same ws vs i (i + foundSize) s i (omega arith) (omega arith)

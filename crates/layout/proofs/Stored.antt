@@ -14,7 +14,11 @@ use Rattle.transaction.specs.declared.Output.{Output}
 use Rattle.transaction.specs.Tokens.{zeroInput, zeroOutput}
 use Rattle.transaction.proofs.Slots.{four}
 use Rattle.model.specs.declared.Token.{Token}
+use Rattle.model.specs.declared.Finding.{Finding}
+use Rattle.model.specs.declared.Finding.the-variants.{Available, NotHeld, OtherOwner, OtherAmount, Pledged}
+use Rattle.model.specs.declared.Found.{Found}
 use Rattle.model.specs.declared.Known.{Known}
+use Rattle.model.specs.Answers.{findingNumber, pledgingNumber}
 use Rattle.model.specs.Steps.{pledgedTo, withSaid}
 use Rattle.layout.specs.Layout.{
   tokenSlots,
@@ -26,6 +30,8 @@ use Rattle.layout.specs.Layout.{
   inputsOffset,
   outputsOffset,
   heardOffset,
+  foundSize,
+  findingsOffset,
   knownSize,
   numberPlace,
   heldPlace,
@@ -46,6 +52,9 @@ use Rattle.layout.specs.Layout.{
   outputsIn,
   transactionIn,
   heardIn,
+  findingFrom,
+  foundIn,
+  findingsIn,
   knownIn,
   tokenAt,
   knownAt,
@@ -70,6 +79,7 @@ use Rattle.layout.specs.Layout.{
   turnedPlace,
   withTurned,
   flag,
+  noFinding,
 }
 use Rattle.layout.proofs.Regions.{
   length-tab,
@@ -91,11 +101,14 @@ use Rattle.layout.proofs.Slots.{
   known-get,
   inputs-same,
   outputs-same,
+  heard-same,
+  findings-same,
   transaction-same,
   token-local,
   known-local,
   input-local,
   output-local,
+  found-local,
 }
 
 -- ---- What a change leaves
@@ -287,7 +300,10 @@ heard-put ws k sender said h m q long =
     tab-change 8 sender (λ (j : ℕ). byte ws (b + heardOffset + j)) (λ (j : ℕ). byte vs (b + heardOffset + j)) m
     (λ j x ne. ap (λ (w : ℕ). w % 256) (one .rest (b + heardOffset + j) (λ y z. ne (omega arith))))
     ∙ ap (set (tab 8 (λ (j : ℕ). byte ws (b + heardOffset + j))) sender) (ap (λ (w : ℕ). w % 256) there ∙ mod-eq-of-lt q) in
-    let entry : knownAt vs k ≡ withSaid sender said (knownAt ws k) = rw (same, noted) refl in
+    let found : findingsIn vs (b + findingsOffset) ≡ findingsIn ws (b + findingsOffset) =
+    findings-same ws vs (b + findingsOffset) (b + knownSize) (apart one (b + findingsOffset) (b + knownSize) (λ j x y z w. omega arith))
+    (b + findingsOffset) (omega arith) (omega arith) in
+    let entry : knownAt vs k ≡ withSaid sender said (knownAt ws k) = rw (same, noted, found) refl in
     record {
       is =
           known-stored ws vs k h (wider i (i + 1) b (b + knownSize) (omega arith) (omega arith) one)
@@ -383,6 +399,15 @@ token-put ws k t h long i =
       long = r .within .long ∙ long;
     }
 
+-- a finding is that of its numbers
+finding-back : (found : Finding) → findingFrom (findingNumber found) (pledgingNumber found) ≡ found
+unfolding findingFrom
+finding-back Available = refl
+finding-back NotHeld = refl
+finding-back OtherOwner = refl
+finding-back OtherAmount = refl
+finding-back (Pledged number) = refl
+
 -- an input's five words, an output's three, a number and two counts
 pub input-put : (ws : List ℕ) (b : ℕ) (x : Input) → b + 5 ≤ length ws → x .token .shard < 256 → x .token .index < 256
     → let vs = five ws b (x .token .shard) (x .token .creator) (x .token .index) (x .owner) (x .amount) in
@@ -425,6 +450,17 @@ head-put ws b number inputs outputs h p q =
         outs = rw (r .so 2 (omega arith)) (mod-eq-of-lt q);
       },
     )
+
+-- a finding's two words
+pub found-put : (ws : List ℕ) (b : ℕ) (x : Found) {number pledging : ℕ} → b + 2 ≤ length ws
+    → number ≡ findingNumber (x .finding) → pledging ≡ pledgingNumber (x .finding)
+    → let vs = set (set ws b number) (b + 1) pledging in
+    Within b (b + 2) ws vs × (foundIn vs b ≡ x)
+unfolding foundIn
+found-put ws b x {number} {pledging} h en ep =
+    let xs = number ∷ pledging ∷ [] in
+    let r = run-more b xs ws 1 (set ws b number) pledging (run-first b xs ws number (omega arith) refl) (omega arith) refl in
+    (r .within, rw (run-at b xs ws r (omega arith), r .so 1 (omega arith), en, ep, finding-back (x .finding)) refl)
 
 -- ---- Four slots stored one behind the other
 
@@ -492,6 +528,16 @@ module _ (b : ℕ) (v w x y z : List ℕ) where
       let f = four-put outputIn outputSize output-local b v w x y z _ _ _ _ p q r s in
       (f .within, rw (f .first, f .second, f .third, f .fourth) (four zeroOutput l long))
 
+  pub findings-put : (l : List Found) → length l ≡ 4 → Puts foundIn foundSize b (getD l 0 noFinding) v w
+      → Puts foundIn foundSize (b + foundSize) (getD l 1 noFinding) w x
+      → Puts foundIn foundSize (b + 2 * foundSize) (getD l 2 noFinding) x y
+      → Puts foundIn foundSize (b + 3 * foundSize) (getD l 3 noFinding) y z
+      → Within b (b + 4 * foundSize) v z × (findingsIn z b ≡ l)
+  unfolding findingsIn
+  findings-put l long p q r s =
+      let f = four-put foundIn foundSize found-local b v w x y z _ _ _ _ p q r s in
+      (f .within, rw (f .first, f .second, f .third, f .fourth) (four noFinding l long))
+
 -- ---- The verdicts stored one by one: i of them so far
 
 pub record Noting (b : ℕ) (heard ws vs : List ℕ) (i : ℕ) : Type 0 where
@@ -531,7 +577,7 @@ module _ (b : ℕ) (heard ws : List ℕ) where
 
 -- ---- A whole known transaction
 
-module _ (k : ℕ) (v w x y z : List ℕ) (t : Known) (h : k < knownSlots) (long : length v ≡ shardWords) where
+module _ (k : ℕ) (v w x y z u : List ℕ) (t : Known) (h : k < knownSlots) (long : length v ≡ shardWords) where
   pub known-put : (let b = entryPlace k in
       Within b (b + 3) v w
       × Headed w b (t .transaction .number) (t .transaction .«input_count») (t .transaction .«output_count»)
@@ -539,33 +585,39 @@ module _ (k : ℕ) (v w x y z : List ℕ) (t : Known) (h : k < knownSlots) (long
       → Within (b + outputsOffset) (b + outputsOffset + 12) x y
       × (outputsIn y (b + outputsOffset) ≡ t .transaction .outputs)
       → Within (b + heardOffset) (b + heardOffset + 8) y z × (heardIn z (b + heardOffset) ≡ t .heard)
-      → PutsKnown v k t z)
-  known-put hp hq hr hs =
+      → Within (b + findingsOffset) (b + findingsOffset + 8) z u × (findingsIn u (b + findingsOffset) ≡ t .findings)
+      → PutsKnown v k t u)
+  known-put hp hq hr hs hf =
       let b = entryPlace k in
       let e = b + knownSize in
       let i = b + inputsOffset in
       let o = b + outputsOffset in
       let g = b + heardOffset in
+      let f = b + findingsOffset in
+      let zu : Within f e z u = wider f (f + 8) f e (omega arith) (omega arith) (hf .0) in
       let yz : Within g e y z = wider g (g + 8) g e (omega arith) (omega arith) (hs .0) in
+      let yu : Within g e y u = and-then yz (wider f e g e (omega arith) (omega arith) zu) in
       let xy : Within o e x y = wider o (o + 12) o e (omega arith) (omega arith) (hr .0) in
-      let xz : Within o e x z = and-then xy (wider g e o e (omega arith) (omega arith) yz) in
+      let xu : Within o e x u = and-then xy (wider g e o e (omega arith) (omega arith) yu) in
       let wx : Within i e w x = wider i (i + 20) i e (omega arith) (omega arith) (hq .0) in
-      let wz : Within i e w z = and-then wx (wider o e i e (omega arith) (omega arith) xz) in
-      let vz : Within b e v z =
+      let wu : Within i e w u = and-then wx (wider o e i e (omega arith) (omega arith) xu) in
+      let vu : Within b e v u =
       and-then (wider b (b + 3) b e (omega arith) (omega arith) (hp .0))
-      (wider i e b e (omega arith) (omega arith) wz) in
-      let number : word z b ≡ t .transaction .number = wz .rest b (λ g m. omega arith) ∙ hp .1 .numbered in
-      let ins : byte z (b + 1) ≡ t .transaction .«input_count» =
-      ap (λ (c : ℕ). c % 256) (wz .rest (b + 1) (λ g m. omega arith)) ∙ hp .1 .ins in
-      let outs : byte z (b + 2) ≡ t .transaction .«output_count» =
-      ap (λ (c : ℕ). c % 256) (wz .rest (b + 2) (λ g m. omega arith)) ∙ hp .1 .outs in
-      let inputs : inputsIn z i ≡ t .transaction .inputs =
-      inputs-same x z i o (apart xz i o (λ j a c d f. omega arith)) i (omega arith) (omega arith) ∙ hq .1 in
-      let outputs : outputsIn z o ≡ t .transaction .outputs =
-      outputs-same y z o g (apart yz o g (λ j a c d f. omega arith)) o (omega arith) (omega arith) ∙ hr .1 in
+      (wider i e b e (omega arith) (omega arith) wu) in
+      let number : word u b ≡ t .transaction .number = wu .rest b (λ g m. omega arith) ∙ hp .1 .numbered in
+      let ins : byte u (b + 1) ≡ t .transaction .«input_count» =
+      ap (λ (c : ℕ). c % 256) (wu .rest (b + 1) (λ g m. omega arith)) ∙ hp .1 .ins in
+      let outs : byte u (b + 2) ≡ t .transaction .«output_count» =
+      ap (λ (c : ℕ). c % 256) (wu .rest (b + 2) (λ g m. omega arith)) ∙ hp .1 .outs in
+      let inputs : inputsIn u i ≡ t .transaction .inputs =
+      inputs-same x u i o (apart xu i o (λ j a c d f. omega arith)) i (omega arith) (omega arith) ∙ hq .1 in
+      let outputs : outputsIn u o ≡ t .transaction .outputs =
+      outputs-same y u o g (apart yu o g (λ j a c d f. omega arith)) o (omega arith) (omega arith) ∙ hr .1 in
+      let heard : heardIn u g ≡ t .heard =
+      heard-same z u g f (apart zu g f (λ j a c d f. omega arith)) g (omega arith) (omega arith) ∙ hs .1 in
       record {
-        is = known-stored v z k h vz (rw (number, ins, outs, inputs, outputs, hs .1) refl);
-        long = vz .long ∙ long;
+        is = known-stored v u k h vu (rw (number, ins, outs, inputs, outputs, heard, hf .1) refl);
+        long = vu .long ∙ long;
       }
 
 -- ---- All words 0

@@ -1,7 +1,7 @@
 -- What stands where in a shard's words, and the shard that the words stand for. A word more is one line among the
 -- places; a field more is one line there and one in the reading.
 use Prim.Native.Nat.{ℕ, zero, suc, _+_, _*_, _%_, _≤_, _<_}
-use mathlib.Core.Bool.{Bool, not}
+use mathlib.Core.Bool.{Bool, cond, not}
 use mathlib.Core.Path.{_≡_}
 use mathlib.Core.List.{List, [], _∷_}
 use lib.Dec.{eqb}
@@ -10,6 +10,9 @@ use Rattle.transaction.specs.declared.Input.{Input}
 use Rattle.transaction.specs.declared.Output.{Output}
 use Rattle.transaction.specs.declared.Transaction.{Transaction}
 use Rattle.model.specs.declared.Token.{Token}
+use Rattle.model.specs.declared.Finding.{Finding}
+use Rattle.model.specs.declared.Finding.the-variants.{Available, NotHeld, OtherOwner, OtherAmount, Pledged}
+use Rattle.model.specs.declared.Found.{Found}
 use Rattle.model.specs.declared.Known.{Known}
 use Rattle.model.specs.Steps.{Ledger}
 
@@ -44,12 +47,19 @@ inputsOffset = 3
 abbrev pub outputsOffset : ℕ
 outputsOffset = inputsOffset + 4 * inputSize
 
--- a known transaction: the transaction, then the verdict heard from each of the eight shards
+-- a finding: its number, and that of the pledging transaction
+abbrev pub foundSize : ℕ
+foundSize = 2
+
+-- a known transaction: the transaction, then the verdict heard from each of the eight shards, then four findings
 abbrev pub heardOffset : ℕ
 heardOffset = outputsOffset + 4 * outputSize
 
+abbrev pub findingsOffset : ℕ
+findingsOffset = heardOffset + 8
+
 abbrev pub knownSize : ℕ
-knownSize = heardOffset + 8
+knownSize = findingsOffset + 4 * foundSize
 
 -- ---- Places
 
@@ -145,8 +155,29 @@ transactionIn ws b =
 unfoldable pub heardIn : List ℕ → ℕ → List ℕ
 heardIn ws b = tab 8 (λ (i : ℕ). byte ws (b + i))
 
+-- the finding of a number (document 02, 2); any other number is that of an input that was available
+unfoldable pub findingFrom : ℕ → ℕ → Finding
+findingFrom number pledging =
+    cond (eqb number 2) NotHeld
+    (cond (eqb number 3) OtherOwner
+    (cond (eqb number 4) OtherAmount
+    (cond (eqb number 5) (Pledged pledging) Available)))
+
+unfoldable pub foundIn : List ℕ → ℕ → Found
+foundIn ws b = record { finding = findingFrom (word ws b) (word ws (b + 1)) }
+
+-- the findings
+unfoldable pub findingsIn : List ℕ → ℕ → List Found
+findingsIn ws b =
+    foundIn ws b ∷ foundIn ws (b + foundSize) ∷ foundIn ws (b + 2 * foundSize) ∷ foundIn ws (b + 3 * foundSize) ∷ []
+
 abbrev pub knownIn : List ℕ → ℕ → Known
-knownIn ws b = record { transaction = transactionIn ws b; heard = heardIn ws (b + heardOffset) }
+knownIn ws b =
+    record {
+      transaction = transactionIn ws b;
+      heard = heardIn ws (b + heardOffset);
+      findings = findingsIn ws (b + findingsOffset);
+    }
 
 abbrev pub tokenAt : List ℕ → ℕ → Token
 tokenAt ws k = tokenIn ws (tokenPlace k)
@@ -252,6 +283,9 @@ noToken = tokenIn [] 0
 
 abbrev pub noKnown : Known
 noKnown = knownIn [] 0
+
+abbrev pub noFinding : Found
+noFinding = record { finding = Available }
 
 -- the token and the known transaction in a slot
 abbrev pub slotToken : List ℕ → ℕ → Token

@@ -4,6 +4,7 @@ ghost use Prim.Native.Nat.{_+_, _≤_, _<_};
 ghost use lib.ListN.{getD};
 ghost use Rattle.transaction.specs.Tokens.{zeroInput, zeroOutput};
 ghost use Rattle.layout.specs.Layout.{shardWords, knownSlots, slotKnown, inputIn, outputIn, inputsIn, outputsIn, heardIn};
+use crate::FINDINGS_OFFSET;
 use crate::HEARD_OFFSET;
 use crate::INPUT_SIZE;
 use crate::INPUTS_OFFSET;
@@ -13,6 +14,8 @@ use crate::OUTPUTS_OFFSET;
 use crate::TRANSACTIONS_PLACE;
 use crate::Words;
 use crate::counts::byte;
+use crate::findings::findings_in;
+use model::Found;
 use model::Known;
 use transaction::Input;
 use transaction::Output;
@@ -101,15 +104,25 @@ pub fn transaction_at(s: &Words, k: usize) -> Transaction
     }
 }
 
+// What was found about its inputs at its registration.
+pub fn findings_at(s: &Words, k: usize) -> [Found; 4]
+    requires { ⌜ k < knownSlots ⌝ }
+    ensures { λ r. ⌜ r ≡ slotKnown (now (s .entry)) k .findings ⌝ }
+{
+    findings_in(s, TRANSACTIONS_PLACE + k * KNOWN_SIZE + FINDINGS_OFFSET)
+}
+
 pub fn known_at(s: &Words, k: usize) -> Known
     requires { ⌜ k < knownSlots ⌝ }
     ensures { λ r. ⌜ r ≡ slotKnown (now (s .entry)) k ⌝ }
 {
     let t = transaction_at(s, k);
     let heard = heard_in(s, TRANSACTIONS_PLACE + k * KNOWN_SIZE + HEARD_OFFSET);
+    let findings = findings_at(s, k);
     Known {
         transaction: t,
         heard: heard,
+        findings: findings,
     }
 }
 

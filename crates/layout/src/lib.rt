@@ -4,6 +4,7 @@
 pub mod counts; // the number, the counts, the flags, and an empty shard
 pub mod tokens; // the tokens held
 pub mod entries; // the known transactions, read
+pub mod findings; // what is found about inputs, read and stored
 pub mod stores; // the known transactions, stored
 
 // Slots.
@@ -20,13 +21,17 @@ pub const INPUT_SIZE: usize = 5;
 
 pub const OUTPUT_SIZE: usize = 3;
 
+pub const FOUND_SIZE: usize = 2;
+
 pub const INPUTS_OFFSET: usize = 3;
 
 pub const OUTPUTS_OFFSET: usize = INPUTS_OFFSET + 4 * INPUT_SIZE;
 
 pub const HEARD_OFFSET: usize = OUTPUTS_OFFSET + 4 * OUTPUT_SIZE;
 
-pub const KNOWN_SIZE: usize = HEARD_OFFSET + 8;
+pub const FINDINGS_OFFSET: usize = HEARD_OFFSET + 8;
+
+pub const KNOWN_SIZE: usize = FINDINGS_OFFSET + 4 * FOUND_SIZE;
 
 // Places.
 pub const NUMBER_PLACE: usize = 0;

@@ -5,6 +5,7 @@ ghost use lib.ListN.{length};
 ghost use Rattle.model.specs.Steps.{withSaid};
 ghost use Rattle.layout.specs.Layout.{shardWords, knownSlots, slotKnown, PutsKnown};
 ghost use Rattle.layout.specs.Layout.{inputIn, outputIn, inputsIn, outputsIn, heardIn, Within, Headed};
+use crate::FINDINGS_OFFSET;
 use crate::HEARD_OFFSET;
 use crate::INPUT_SIZE;
 use crate::INPUTS_OFFSET;
@@ -13,6 +14,7 @@ use crate::OUTPUT_SIZE;
 use crate::OUTPUTS_OFFSET;
 use crate::TRANSACTIONS_PLACE;
 use crate::Words;
+use crate::findings::put_findings;
 use model::Known;
 use transaction::Input;
 use transaction::Output;
@@ -104,8 +106,10 @@ pub fn put_known(s: &mut Words, k: usize, x: Known)
     let inputs = t.inputs;
     let outputs = t.outputs;
     let heard = x.heard;
+    let findings = x.findings;
     put_head(s, b, t.number, t.input_count, t.output_count);
     put_inputs(s, b + INPUTS_OFFSET, inputs);
     put_outputs(s, b + OUTPUTS_OFFSET, outputs);
     put_verdicts(s, b + HEARD_OFFSET, heard);
+    put_findings(s, b + FINDINGS_OFFSET, findings);
 }

@@ -13,14 +13,17 @@ use Rattle.model.specs.declared.Outcome.{Outcome}
 use Rattle.model.specs.declared.Outcome.the-variants.{Wait, Commit}
 use Rattle.model.specs.declared.Answer.{Answer}
 use Rattle.model.specs.declared.Answer.the-variants.{Refused}
+use Rattle.model.specs.declared.Told.the-variants.{Findings}
 use Rattle.model.specs.Lists.{mapOption}
 use Rattle.model.specs.Steps.{Limits, Ledger}
 use Rattle.model.specs.Shard.{Call}
 use Rattle.model.specs.Cluster.{emptyShards, ledgerAt, clusterStep}
 use Rattle.model.specs.Model.{Model, emptyModel, step, after, answers, play, playAnswers}
+use Rattle.model.specs.Findings.{reportAt, reported, TrueFindings}
 use Rattle.model.specs.Demand.{outcomeIn, heardAllIn, WasAvailable, commits, committed, tokenAt, tokenValue, Demand3}
 use Rattle.model.proofs.Theorem.{demand-3}
 use Rattle.model.proofs.Tables.{never-eleven}
+use Rattle.model.proofs.TrueFindings.{true-findings}
 
 -- the model's step is the cluster's step, with the model's notes
 pub step-cluster : (limits : Limits) (place : ℕ) (model : Model) (call : Call)
@@ -154,6 +157,19 @@ module _ {limits : Limits} (engine : Engine limits) where
     where
       shown : play limits calls .shards ≡ engine .view s
       shown = sym (played x .viewed)
+
+  -- a state that a run has led to is sound
+  pub run-sound : {s s′ : State} {calls : List Call} {replies : List Answer} → engine .Sound s → Run s calls replies s′ → engine .Sound s′
+  run-sound g done = g
+  run-sound {s = s} g (then {s′ = s₁} {c = c} {a = a} x rest) = run-sound (engine .keeps s s₁ c a g x) rest
+
+  -- and the findings that it reports are true (document 02, 2)
+  pub run-true-findings : {s : State} {calls : List Call} {replies : List Answer} → Run (engine .first) calls replies s → (p number count : ℕ)
+      → reportAt limits (engine .view s) p number .answer ≡ Findings count
+      → TrueFindings limits calls p number (reported (reportAt limits (engine .view s) p number))
+  run-true-findings {calls = calls} x p number count = subst
+      (λ (l : List Ledger). reportAt limits l p number .answer ≡ Findings count → TrueFindings limits calls p number (reported (reportAt limits l p number)))
+      (sym (played x .viewed)) (true-findings limits calls p number count)
 
   -- and in every run 11 is never answered
   pub run-never-eleven : {s : State} {calls : List Call} {replies : List Answer} → Run (engine .first) calls replies s

@@ -12,6 +12,10 @@ use Rattle.transaction.specs.declared.Transaction.{Transaction}
 use Rattle.transaction.specs.Tokens.{zeroInput, zeroOutput, takesPart, sameToken, sameInput, sameOutput, sameTransaction}
 use Rattle.transaction.specs.Checks.{indexFits, valueFits, inputFits, outputFits, countsFit, fieldsFit, sameName, namedTwice, balanced, mintFits}
 use Rattle.model.specs.declared.Token.{Token}
+use Rattle.model.specs.declared.Finding.{Finding}
+use Rattle.model.specs.declared.Finding.the-variants.{Available, NotHeld, OtherOwner, OtherAmount, Pledged}
+use Rattle.model.specs.declared.Told.{Told}
+use Rattle.model.specs.declared.Told.the-variants as told
 use Rattle.model.specs.declared.Outcome.the-variants.{Wait, Commit, Abort}
 use Rattle.model.specs.declared.Answer.the-variants.{Refused, Minted, Registered, Heard, Again, Turned, Brought}
 use Rattle.model.specs.Lists.{andThen}
@@ -21,6 +25,9 @@ use Rattle.model.specs.Steps.{
   inputsHere,
   available,
   availableHere,
+  finding,
+  findings,
+  keeping,
   pledges,
   vote,
   newlyKnown,
@@ -71,6 +78,7 @@ use Rattle.model.specs.Demand.{
   serialRun,
   lastPlace,
 }
+use Rattle.model.specs.Findings.{report, reportAt, reported}
 
 -- ---- Small transactions
 
@@ -191,6 +199,22 @@ onward-to number = make number (input 0 5 1 20 2 ∷ []) (output 1 11 2 ∷ [])
 -- document 01's, registered at shard 0 alone, and its vote delivered to shard 1
 brought : List Call
 brought = mint 0 0 10 3 ∷ mint 1 0 20 2 ∷ register 0 both ∷ deliver 1 0 1 both ∷ []
+
+-- the findings that a shard reports after the calls, of the transaction of that number
+asked : List Call → ℕ → ℕ → List Finding
+asked calls shard number = reported (reportAt house (play house calls .shards) shard number)
+
+-- and its answer
+answered : List Call → ℕ → ℕ → Told
+answered calls shard number = reportAt house (play house calls .shards) shard number .answer
+
+-- a transaction of that number and these inputs, for a token of their amount at shard 1
+claims : ℕ → List Input → ℕ → Transaction
+claims number inputs amount = make number inputs (output 1 11 amount ∷ [])
+
+-- shard 0 holds three tokens of owner 10 and amount 3, the third pledged to transaction 9, when it registers the transaction
+claimed : Transaction → List Call
+claimed t = mint 0 0 10 3 ∷ mint 0 1 10 3 ∷ mint 0 2 10 3 ∷ register 0 (claims 9 (input 0 0 2 10 3 ∷ []) 3) ∷ register 0 t ∷ []
 
 -- limits of two tokens and two transactions
 small : Limits
@@ -407,15 +431,41 @@ pub record Examples : Type 0 where
   -- at a lone shard: its own vote on an unknown number is 11, another shard's brings its transaction
   lone-11 : shardStep house 0 (ledgerAt house (play house [] .shards) 0) (deliver 0 0 1 both) .1 ≡ Refused 11
   lone-brings : shardStep house 0 (ledgerAt house (play house [] .shards) 0) (deliver 0 1 1 both) .1 ≡ Brought false Abort
+  -- each finding: available, not held, another owner, another amount, pledged with its number
+  found-each : asked (claimed (claims 6 (input 0 0 0 10 3 ∷ input 0 0 7 10 3 ∷ input 0 0 1 99 3 ∷ input 0 0 2 10 3 ∷ []) 12)) 0 6
+      ≡ Available ∷ NotHeld ∷ OtherOwner ∷ Pledged 9 ∷ []
+  found-amount : asked (claimed (claims 6 (input 0 0 1 10 2 ∷ []) 2)) 0 6 ≡ OtherAmount ∷ []
+  -- the first that fits: of a pledged token another owner before another amount, and this before the pledge
+  found-owner-first : asked (claimed (claims 6 (input 0 0 2 99 2 ∷ []) 2)) 0 6 ≡ OtherOwner ∷ []
+  found-amount-first : asked (claimed (claims 6 (input 0 0 2 10 2 ∷ []) 2)) 0 6 ≡ OtherAmount ∷ []
+  -- in input order, past an input of another shard; where there are outputs only, none
+  found-here : asked (mint 0 0 10 3 ∷ mint 0 1 10 3 ∷ register 0 mixed ∷ []) 0 6 ≡ Available ∷ OtherAmount ∷ []
+  found-none : answered (register 2 mixed ∷ []) 2 6 ≡ told.Findings 0
+  -- a vote that brings its transaction finds alike: a token that is there, and one that is not
+  found-brought : asked brought 1 5 ≡ Available ∷ []
+  found-brought-no : asked (mint 0 0 10 3 ∷ register 0 torn ∷ deliver 1 0 1 torn ∷ []) 1 8 ≡ NotHeld ∷ []
+  -- findings stay as they were: once a vote is heard, and where a commit has destroyed the token since, or a turn has freed it
+  found-heard : asked torn-apart 1 8 ≡ NotHeld ∷ []
+  found-commits : asked (known-at-both ++ votes) 0 5 ≡ Available ∷ []
+  found-turns : asked (torn-apart ++ (register 0 (alone 1) ∷ turn 0 ∷ [])) 0 1 ≡ Pledged 8 ∷ []
+  -- no such shard, and number 0: 3, which goes first; a number that the shard does not know, though another may: 18; a refused call reports nothing
+  report-shard : answered known-at-both 8 5 ≡ told.Refused 3
+  report-zero : answered known-at-both 0 0 ≡ told.Refused 3
+  report-unknown : answered known-at-both 0 6 ≡ told.Refused 18
+  report-elsewhere : answered known-at-both 2 5 ≡ told.Refused 18
+  report-nothing : asked known-at-both 0 6 ≡ []
+  -- at a lone shard: another shard is 3
+  lone-report : report 0 (ledgerAt house (play house known-at-both .shards) 0) 1 5 .answer ≡ told.Refused 3
 
 -- each of them by computation
 pub examples : Examples
 unfolding input output make tokensAfter token entry both known-at-both votes alone alone-second wrong half two-held mixed other5 near5 pass torn torn-apart
-    onward crossed onward-to brought three known-at-three early small takesPart sameToken sameInput sameOutput sameTransaction indexFits valueFits inputFits
-    outputFits countsFit fieldsFit sameName namedTwice balanced mintFits inputsHere available availableHere pledges vote newlyKnown decide outputsHere
-    madeHere commit freeing afterMint afterRegister afterVote afterTurn placeOf entryOf reservedBy reserved heldOff mintRefusals registerRefusals
-    deliverForm deliverRefusals turnRefusals hear bring shardStep gave notGiven atShard clusterStep logAfter mintedAfter step after answers play
-    playAnswers outcomeIn heardAllIn committed serialFrom serialValue genesisLedger takeInputs addOutputs spend serialRun
+    onward crossed onward-to brought three known-at-three early asked answered claims claimed small takesPart sameToken sameInput sameOutput sameTransaction
+    indexFits valueFits inputFits outputFits countsFit fieldsFit sameName namedTwice balanced mintFits inputsHere available availableHere finding findings
+    keeping pledges vote newlyKnown decide outputsHere madeHere commit freeing afterMint afterRegister afterVote afterTurn placeOf entryOf reservedBy
+    reserved heldOff mintRefusals registerRefusals deliverForm deliverRefusals turnRefusals hear bring shardStep gave notGiven atShard clusterStep
+    logAfter mintedAfter step after answers play playAnswers outcomeIn heardAllIn committed serialFrom serialValue genesisLedger takeInputs addOutputs
+    spend serialRun report
 examples = record {
   seven-answers = refl;
   seven-0 = refl;
@@ -489,4 +539,21 @@ examples = record {
   brings-unturned = refl;
   lone-11 = refl;
   lone-brings = refl;
+  found-each = refl;
+  found-amount = refl;
+  found-owner-first = refl;
+  found-amount-first = refl;
+  found-here = refl;
+  found-none = refl;
+  found-brought = refl;
+  found-brought-no = refl;
+  found-heard = refl;
+  found-commits = refl;
+  found-turns = refl;
+  report-shard = refl;
+  report-zero = refl;
+  report-unknown = refl;
+  report-elsewhere = refl;
+  report-nothing = refl;
+  lone-report = refl;
 }

@@ -3,7 +3,8 @@
 -- of the local step yields), Steps (every list of calls).
 -- Demand 3: Decisions, Spending and Serial (the serial ledger), Order, and whole in Theorem; Bridge carries it to code.
 -- Further laws: Votes (how many bring a decision), OneNo (the abort that one no brings), Turned (aborts that free tokens), Capacity (the limits),
--- Laws, HeldOff (17), Tables (refusals), Brought (a vote that brings its transaction).
+-- Laws, HeldOff (17), Tables (refusals), Brought (a vote that brings its transaction), Findings and TrueFindings (what a shard
+-- reports of the inputs of a known transaction).
 -- Examples plays cases of the papers.
 pub mod Basics
 pub mod Lookups
@@ -20,7 +21,6 @@ pub mod Spending
 pub mod Serial
 pub mod Order
 pub mod Theorem
-pub mod Bridge
 pub mod Votes
 pub mod Capacity
 pub mod Laws
@@ -29,4 +29,7 @@ pub mod Turned
 pub mod Tables
 pub mod Brought
 pub mod HeldOff
+pub mod Findings
+pub mod TrueFindings
+pub mod Bridge
 pub mod Examples

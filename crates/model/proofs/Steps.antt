@@ -31,6 +31,8 @@ use Rattle.model.specs.Steps.{
   pledges,
   vote,
   noted,
+  findings,
+  keeping,
   knownWith,
   newlyKnown,
   heardFrom,
@@ -268,7 +270,7 @@ module _ {limits : Limits} {log : List Entry} {p : ℕ} {genesis : ℕ → ℕ �
 
   -- the transaction as it becomes known
   abbrev k : Known
-  k = knownWith p (vote p (l .tokens) t) t
+  k = knownWith p (keeping (findings p (l .tokens) t)) (vote p (l .tokens) t) t
 
   -- the tokens with the pledges
   abbrev tokens₁ : List Token

@@ -28,6 +28,8 @@ use Rattle.model.specs.Steps.{
   namedIn,
   pledges,
   vote,
+  findings,
+  keeping,
   knownWith,
   newlyKnown,
   heardFrom,
@@ -154,7 +156,7 @@ unturned-vote me ledger sender verdict t e =
 -- ---- Where a pledge comes from
 
 -- a pledge to another number was there before a change of pledges
-when-back : (n : ℕ) (f : Token → Bool) (tokens : List Token) (m i c : ℕ) → (c ≡ n → ⊥) → Pledged (map (pledgeWhen n f) tokens) m i c → Pledged tokens m i c
+pub when-back : (n : ℕ) (f : Token → Bool) (tokens : List Token) (m i c : ℕ) → (c ≡ n → ⊥) → Pledged (map (pledgeWhen n f) tokens) m i c → Pledged tokens m i c
 when-back n f tokens m i c apart b = go (tokenAt tokens m i) refl (sym (tok-when n f tokens m i) ∙ b .is-there)
   where
     go : (o : Option Token) → tokenAt tokens m i ≡ o → mapOption (pledgeWhen n f) o ≡ some (b .token) → Pledged tokens m i c
@@ -166,7 +168,7 @@ when-back n f tokens m i c apart b = go (tokenAt tokens m i) refl (sym (tok-when
         cut false z = record { token = t; is-there = e; is-pledged = ap (λ (u : Token). u .pledge) z ∙ b .is-pledged }
 
 -- a token that is still pledged was not freed
-freeing-back : (f : Token → Bool) (tokens : List Token) (m i c : ℕ) → (c ≡ 0 → ⊥) → Pledged (freeing f tokens) m i c
+pub freeing-back : (f : Token → Bool) (tokens : List Token) (m i c : ℕ) → (c ≡ 0 → ⊥) → Pledged (freeing f tokens) m i c
     → (t : Token) × (tokenAt tokens m i ≡ some t) × (t .pledge ≡ c) × (f t ≡ false)
 unfolding freeing
 freeing-back f tokens m i c positive b = go (tokenAt tokens m i) refl (sym (tok-when 0 f tokens m i) ∙ b .is-there)
@@ -183,7 +185,7 @@ freeing-back f tokens m i c positive b = go (tokenAt tokens m i) refl (sym (tok-
         cut false y z = (t, e, ap (λ (u : Token). u .pledge) z ∙ b .is-pledged, y)
 
 -- a pledge was there before the outcome
-settle-back : (o : Outcome) (p : ℕ) (t : Transaction) (tokens : List Token) (m i c : ℕ) → (c ≡ 0 → ⊥)
+pub settle-back : (o : Outcome) (p : ℕ) (t : Transaction) (tokens : List Token) (m i c : ℕ) → (c ≡ 0 → ⊥)
     → Pledged (settle o p t tokens) m i c → Pledged tokens m i c
 settle-back Wait p t tokens m i c positive b = b
 settle-back Abort p t tokens m i c positive b = b
@@ -198,7 +200,7 @@ settle-back Commit p t tokens m i c positive b = go (taken p t m i) (tokenAt tok
     go false (some u) e q = record { token = b .token; is-there = e ∙ q; is-pledged = b .is-pledged }
 
 -- and before the end of pledges
-ended-back : (turned : Bool) (o : Outcome) (number : ℕ) (tokens : List Token) (m i c : ℕ) → (c ≡ 0 → ⊥)
+pub ended-back : (turned : Bool) (o : Outcome) (number : ℕ) (tokens : List Token) (m i c : ℕ) → (c ≡ 0 → ⊥)
     → Pledged (ended turned o number tokens) m i c → Pledged tokens m i c
 ended-back turned Wait number tokens m i c positive b = b
 ended-back turned Commit number tokens m i c positive b = b
@@ -257,7 +259,7 @@ module _ {limits : Limits} {log : List Entry} {p : ℕ} {genesis : ℕ → ℕ �
   register-clear t positive unknown c y =
       let here = availableHere p (l .tokens) t in
       let tokens₁ : List Token = pledges (t .number) here (l .tokens) in
-      let k : Known = knownWith p (vote p (l .tokens) t) t in
+      let k : Known = knownWith p (keeping (findings p (l .tokens) t)) (vote p (l .tokens) t) t in
       subst (λ (b : Bool). Clear (l .known ++ (k ∷ [])) (concluded b (outcomeOf k) p t tokens₁)) (sym y)
       (subst (λ (known : List Known). Clear known (concluded true (outcomeOf k) p t tokens₁)) (sym (append-put k (l .known) unknown))
       (clear-enter p (l .known) k (l .tokens) tokens₁ positive (o .core .number) (when-back (t .number) (namedIn here) (l .tokens)) (c y)))

@@ -12,9 +12,10 @@ use lib.Seq.{getD-set-same, getD-set-other}
 use Rattle.transaction.specs.declared.Transaction.{Transaction}
 use Rattle.transaction.specs.Tokens.{shardsOf, takesPart}
 use Rattle.model.specs.declared.Token.{Token}
+use Rattle.model.specs.declared.Found.{Found}
 use Rattle.model.specs.declared.Known.{Known}
 use Rattle.model.specs.declared.Outcome.the-variants.{Wait, Commit, Abort}
-use Rattle.model.specs.Steps.{vote, noted, knownWith, newlyKnown, heardFrom, hearing, isHeard, isYes, heardAll, outcomeOf}
+use Rattle.model.specs.Steps.{findings, keeping, vote, noted, knownWith, newlyKnown, heardFrom, hearing, isHeard, isYes, heardAll, outcomeOf}
 use Rattle.model.proofs.Basics.{
   eqb-eq,
   eqb-same,
@@ -44,22 +45,22 @@ noted-heard true = refl
 noted-heard false = refl
 
 -- the own vote is heard by the registration
-own-said : (p : ℕ) (verdict : Bool) (t : Transaction) → p < 8 → heardFrom p (knownWith p verdict t) ≡ noted verdict
-own-said p verdict t h = getD-set-same (replicate 8 0) p (noted verdict) 0 h
+own-said : (p : ℕ) (found : List Found) (verdict : Bool) (t : Transaction) → p < 8 → heardFrom p (knownWith p found verdict t) ≡ noted verdict
+own-said p found verdict t h = getD-set-same (replicate 8 0) p (noted verdict) 0 h
 
 -- the own no suffices, however many shards there are
 pub own-no : (p : ℕ) (tokens : List Token) (t : Transaction) → p < 8 → List·Memᴰ p (shardsOf t) → vote p tokens t ≡ false
     → outcomeOf (newlyKnown p tokens t) ≡ Abort
 unfolding newlyKnown
 own-no p tokens t h member refused =
-    let said = own-said p (vote p tokens t) t h ∙ ap noted refused in
-    no-abort (knownWith p (vote p tokens t) t) (record { sender = p; takes-part = member; said = said })
+    let said = own-said p (keeping (findings p tokens t)) (vote p tokens t) t h ∙ ap noted refused in
+    no-abort (knownWith p (keeping (findings p tokens t)) (vote p tokens t) t) (record { sender = p; takes-part = member; said = said })
 
 -- and the own yes aborts nothing: no other vote is heard then
 pub own-yes : (p : ℕ) (tokens : List Token) (t : Transaction) → p < 8 → vote p tokens t ≡ true → outcomeOf (newlyKnown p tokens t) ≢ Abort
 unfolding newlyKnown
 own-yes p tokens t h yes-here e =
-    let own : Known = knownWith p (vote p tokens t) t in
+    let own : Known = knownWith p (keeping (findings p tokens t)) (vote p tokens t) t in
     let n = outcome-no own e in
     let noted-yes : noted (vote p tokens t) ≡ 1 → ⊥ = λ z. one≢two (sym z ∙ ap noted yes-here) in
     set-elim (λ q c. c ≡ 1 → ⊥) (replicate 8 0) 0 p (noted (vote p tokens t)) h noted-yes
@@ -72,11 +73,11 @@ unfolding newlyKnown
 one-shard p tokens t h member only = go (vote p tokens t) refl
   where
     k : Known
-    k = knownWith p (vote p tokens t) t
+    k = knownWith p (keeping (findings p tokens t)) (vote p tokens t) t
 
     go : (b : Bool) → vote p tokens t ≡ b → outcomeOf k ≡ cond b Commit Abort
     go true e = outcome-commit k (all-of (isYes (k .heard)) (shardsOf t) (λ q m.
-        eqb-yes (ap (λ (a : ℕ). heardFrom a k) (only q m) ∙ own-said p (vote p tokens t) t h ∙ ap noted e)))
+        eqb-yes (ap (λ (a : ℕ). heardFrom a k) (only q m) ∙ own-said p (keeping (findings p tokens t)) (vote p tokens t) t h ∙ ap noted e)))
     go false e = own-no p tokens t h member e
 
 -- ---- k shards
@@ -130,7 +131,7 @@ missing-registered p tokens t h part = let a = here in let b = count in let c = 
     own = noted (vote p tokens t)
 
     k : Known
-    k = knownWith p (vote p tokens t) t
+    k = knownWith p (keeping (findings p tokens t)) (vote p tokens t) t
 
     and-yes : (b : Bool) → b && true ≡ b
     and-yes true = refl

@@ -4,6 +4,10 @@ use mathlib.Core.Bool.{Bool, true, false, cond}
 use mathlib.Core.List.{List, [], _∷_}
 use Rattle.model.specs.declared.Outcome.{Outcome}
 use Rattle.model.specs.declared.Outcome.the-variants.{Wait, Commit, Abort}
+use Rattle.model.specs.declared.Finding.{Finding}
+use Rattle.model.specs.declared.Finding.the-variants.{Available, NotHeld, OtherOwner, OtherAmount, Pledged}
+use Rattle.model.specs.declared.Told.{Told}
+use Rattle.model.specs.declared.Told.the-variants as told
 use Rattle.model.specs.declared.Answer.{Answer}
 use Rattle.model.specs.declared.Answer.the-variants.{Refused, Minted, Registered, Heard, Again, Turned, Brought}
 
@@ -57,3 +61,46 @@ answerWords (Heard outcome) = (72 ∷ 69 ∷ 65 ∷ 82 ∷ 68 ∷ []) ∷ outcom
 answerWords (Again outcome) = (65 ∷ 71 ∷ 65 ∷ 73 ∷ 78 ∷ []) ∷ outcomeWord outcome ∷ []
 answerWords Turned = (84 ∷ 85 ∷ 82 ∷ 78 ∷ 69 ∷ 68 ∷ []) ∷ []
 answerWords (Brought verdict outcome) = verdictWord verdict ∷ outcomeWord outcome ∷ []
+
+-- ---- Findings (document 02, 2)
+
+-- a finding's number
+abbrev pub findingNumber : Finding → ℕ
+findingNumber Available = 1
+findingNumber NotHeld = 2
+findingNumber OtherOwner = 3
+findingNumber OtherAmount = 4
+findingNumber (Pledged number) = 5
+
+-- the number of the pledging transaction, 0 where the finding is another
+abbrev pub pledgingNumber : Finding → ℕ
+pledgingNumber Available = 0
+pledgingNumber NotHeld = 0
+pledgingNumber OtherOwner = 0
+pledgingNumber OtherAmount = 0
+pledgingNumber (Pledged number) = number
+
+-- its words, one by one: available; not held; other household; other portions; pledged
+abbrev pub findingWords : Finding → List (List ℕ)
+findingWords Available = (97 ∷ 118 ∷ 97 ∷ 105 ∷ 108 ∷ 97 ∷ 98 ∷ 108 ∷ 101 ∷ []) ∷ []
+findingWords NotHeld = (110 ∷ 111 ∷ 116 ∷ []) ∷ (104 ∷ 101 ∷ 108 ∷ 100 ∷ []) ∷ []
+findingWords OtherOwner = (111 ∷ 116 ∷ 104 ∷ 101 ∷ 114 ∷ []) ∷ (104 ∷ 111 ∷ 117 ∷ 115 ∷ 101 ∷ 104 ∷ 111 ∷ 108 ∷ 100 ∷ []) ∷ []
+findingWords OtherAmount = (111 ∷ 116 ∷ 104 ∷ 101 ∷ 114 ∷ []) ∷ (112 ∷ 111 ∷ 114 ∷ 116 ∷ 105 ∷ 111 ∷ 110 ∷ 115 ∷ []) ∷ []
+findingWords (Pledged number) = (112 ∷ 108 ∷ 101 ∷ 100 ∷ 103 ∷ 101 ∷ 100 ∷ []) ∷ []
+
+-- is it 'available'
+abbrev pub isAvailable : Finding → Bool
+isAvailable Available = true
+isAvailable NotHeld = false
+isAvailable OtherOwner = false
+isAvailable OtherAmount = false
+isAvailable (Pledged number) = false
+
+-- what the call for the findings answers: a refusal's number, and how many findings there are
+abbrev pub toldNumber : Told → ℕ
+toldNumber (told.Refused number) = number
+toldNumber (told.Findings count) = 0
+
+abbrev pub toldCount : Told → ℕ
+toldCount (told.Refused number) = 0
+toldCount (told.Findings count) = count

@@ -43,9 +43,13 @@ pub data Call : Type 0 where
   deliver : ℕ → ℕ → ℕ → Transaction → Call
   turn : ℕ → Call
 
--- has the known transaction this number
+-- has the known transaction that number
+abbrev pub isNumbered : ℕ → Known → Bool
+isNumbered number k = eqb (k .transaction .number) number
+
+-- has it this transaction's number
 abbrev pub hasNumber : Transaction → Known → Bool
-hasNumber t k = eqb (k .transaction .number) (t .number)
+hasNumber t k = isNumbered (t .number) k
 
 -- an unknown number: no known transaction has it
 abbrev pub isUnknown : Transaction → List Known → Bool

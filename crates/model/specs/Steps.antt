@@ -2,6 +2,7 @@
 -- `me` is the shard's own number. Registration goes in document 000's order, in four definitions.
 use Prim.Native.Nat.{ℕ, suc, _+_}
 use mathlib.Core.Bool.{Bool, true, false, cond, not, _&&_}
+use mathlib.Core.Option.{Option, none, some}
 use mathlib.Core.List.{List, [], _∷_, _++_, map}
 use lib.Dec.{eqb}
 use lib.ListN.{getD, set, replicate}
@@ -11,10 +12,13 @@ use Rattle.transaction.specs.declared.Transaction.{Transaction}
 use Rattle.transaction.specs.Lists.{any, all}
 use Rattle.transaction.specs.Tokens.{usedInputs, usedOutputs, shardsOf, sameTransaction, blankTransaction}
 use Rattle.model.specs.declared.Token.{Token}
+use Rattle.model.specs.declared.Finding.{Finding}
+use Rattle.model.specs.declared.Finding.the-variants.{Available, NotHeld, OtherOwner, OtherAmount, Pledged}
+use Rattle.model.specs.declared.Found.{Found}
 use Rattle.model.specs.declared.Known.{Known}
 use Rattle.model.specs.declared.Outcome.{Outcome}
 use Rattle.model.specs.declared.Outcome.the-variants.{Wait, Commit, Abort}
-use Rattle.model.specs.Lists.{keep, find}
+use Rattle.model.specs.Lists.{keep, find, lookup}
 
 -- How many tokens a shard holds, how many transactions it knows, and how many genesis indices (opening positions) it has.
 pub record Limits : Type 0 where
@@ -87,6 +91,30 @@ available tokens x = any (freeFor x) tokens
 unfoldable pub availableHere : ℕ → List Token → Transaction → List Input
 availableHere me tokens t = keep (available tokens) (inputsHere me t)
 
+-- what is found about each input here (document 02, 2): where it is not available, what stands in the way, by the token held of its name; the first that fits
+abbrev pub obstacle : Input → Option Token → Finding
+obstacle x none = NotHeld
+obstacle x (some token) =
+    cond (not (eqb (token .owner) (x .owner))) OtherOwner
+    (cond (not (eqb (token .amount) (x .amount))) OtherAmount
+    (Pledged (token .pledge)))
+
+-- the finding about an input here
+unfoldable pub finding : List Token → Input → Finding
+finding tokens x = cond (available tokens x) Available (obstacle x (lookup (names x) tokens))
+
+-- the findings of a registration: one for each input here, in input order
+unfoldable pub findings : ℕ → List Token → Transaction → List Finding
+findings me tokens t = map (finding tokens) (inputsHere me t)
+
+-- the finding at a place as it is kept; nobody asks for one behind the last
+abbrev pub foundAt : List Finding → ℕ → Found
+foundAt found place = record { finding = getD found place Available }
+
+-- as they are kept with the known transaction, which has at most four inputs
+unfoldable pub keeping : List Finding → List Found
+keeping found = foundAt found 0 ∷ foundAt found 1 ∷ foundAt found 2 ∷ foundAt found 3 ∷ []
+
 -- the token with its pledge
 abbrev pub pledgedTo : ℕ → Token → Token
 pledgedTo number token =
@@ -116,21 +144,21 @@ vote me tokens t = all (available tokens) (inputsHere me t)
 abbrev pub noted : Bool → ℕ
 noted verdict = cond verdict 2 1
 
--- a transaction of which no vote is heard
-abbrev pub unheard : Transaction → Known
-unheard t = record { transaction = t; heard = replicate 8 0 }
+-- a transaction of which no vote is heard, with what was found about its inputs here
+abbrev pub unheard : List Found → Transaction → Known
+unheard found t = record { transaction = t; heard = replicate 8 0; findings = found }
 
 -- the known transaction with that noted for a sender
 abbrev pub withSaid : ℕ → ℕ → Known → Known
-withSaid sender said k = record { transaction = k .transaction; heard = set (k .heard) sender said }
+withSaid sender said k = record { transaction = k .transaction; heard = set (k .heard) sender said; findings = k .findings }
 
--- the transaction as it becomes known with this vote, which counts as heard from this shard
-abbrev pub knownWith : ℕ → Bool → Transaction → Known
-knownWith me verdict t = withSaid me (noted verdict) (unheard t)
+-- the transaction as it becomes known with these findings and this vote, which counts as heard from this shard
+abbrev pub knownWith : ℕ → List Found → Bool → Transaction → Known
+knownWith me found verdict t = withSaid me (noted verdict) (unheard found t)
 
 -- as it becomes known by its registration
 unfoldable pub newlyKnown : ℕ → List Token → Transaction → Known
-newlyKnown me tokens t = knownWith me (vote me tokens t) t
+newlyKnown me tokens t = knownWith me (keeping (findings me tokens t)) (vote me tokens t) t
 
 -- ---- Vote: it is noted for its sender
 
@@ -254,7 +282,7 @@ isFor t k = sameTransaction (k .transaction) t
 
 -- the known transaction and its place; nobody asks for one that is not known
 abbrev pub nothingKnown : Known
-nothingKnown = record { transaction = blankTransaction; heard = [] }
+nothingKnown = record { transaction = blankTransaction; heard = []; findings = [] }
 
 -- its place among the known ones
 unfoldable pub placeOf : Transaction → List Known → ℕ

@@ -13,10 +13,28 @@ pub struct Token {
     pub pledge: u32,
 }
 
-// A known transaction with the verdicts heard, by sender: 0 not heard, 1 no, 2 yes.
+// What a shard finds about an input at its registration (document 02, 2): it is available; no token of its creator and
+// index is held; the token has another owner (household); it has another amount (portions); it is pledged to the
+// transaction of that number. The first that fits.
+pub enum Finding {
+    Available,
+    NotHeld,
+    OtherOwner,
+    OtherAmount,
+    Pledged(u32),
+}
+
+// A finding as it is kept.
+pub struct Found {
+    pub finding: Finding,
+}
+
+// A known transaction with the verdicts heard, by sender: 0 not heard, 1 no, 2 yes; and with what was found at its
+// registration about its inputs at this shard, in input order: as many findings as there are such inputs.
 pub struct Known {
     pub transaction: Transaction,
     pub heard: [u8; 8],
+    pub findings: [Found; 4],
 }
 
 pub enum Outcome {
@@ -36,4 +54,16 @@ pub enum Answer {
     Again(Outcome),
     Turned,
     Brought(bool, Outcome),
+}
+
+// What the call for the findings answers: refused with the table's number, or so many findings.
+pub enum Told {
+    Refused(u8),
+    Findings(u8),
+}
+
+// The answer, with the findings beside it.
+pub struct Report {
+    pub answer: Told,
+    pub findings: [Found; 4],
 }

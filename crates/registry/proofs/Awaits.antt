@@ -18,12 +18,12 @@ use Rattle.model.specs.declared.Token.{Token}
 use Rattle.model.specs.declared.Known.{Known}
 use Rattle.model.specs.Lists.{find}
 use Rattle.model.specs.Steps.{inputHere, inputsHere, names, outputHere, tokenOf, tokensFrom, madeHere, outcomeOf, nothingKnown}
-use Rattle.model.specs.Shard.{isUndecided, awaits, heldOff}
+use Rattle.model.specs.Shard.{isNumbered, isUndecided, awaits, heldOff}
 use Rattle.model.proofs.Basics.{any-keep}
 use Rattle.model.proofs.Holdings.{made-named}
 use Rattle.layout.specs.Layout.{knownSlots, shardOf, ledgerOf, slotKnown}
 use Rattle.layout.proofs.Ledgers.{known-length, known-entry}
-use Rattle.registry.specs.Numbers.{isNumbered, OneEach}
+use Rattle.registry.specs.Numbers.{OneEach}
 use Rattle.registry.specs.Made.{makesHere}
 use Rattle.registry.proofs.Finds.{AsksNumber, none-passes, passes-there, is-numbered}
 

@@ -14,13 +14,13 @@ use Rattle.transaction.proofs.Slots.{and-left}
 use Rattle.model.specs.declared.Known.{Known}
 use Rattle.model.specs.Lists.{find}
 use Rattle.model.specs.Steps.{isFor, nothingKnown, heardFrom}
-use Rattle.model.specs.Shard.{hasNumber, isOther}
+use Rattle.model.specs.Shard.{isNumbered, hasNumber, isOther}
 use Rattle.model.specs.Cluster.{hasGiven, gave}
 use Rattle.model.proofs.Basics.{find-at}
 use Rattle.model.proofs.Capacity.{find-below}
 use Rattle.layout.specs.Layout.{knownSlots, shardOf, ledgerOf, slotKnown}
 use Rattle.layout.proofs.Ledgers.{known-length, known-entry}
-use Rattle.registry.specs.Numbers.{isNumbered, numberAt, OneEach}
+use Rattle.registry.specs.Numbers.{numberAt, OneEach}
 
 -- one passes exactly where the first that passes stands within the list
 pub any-found : {A : Type 0} (f : A → Bool) (l : List A) → find f l < length l → any f l ≡ true

@@ -1,16 +1,10 @@
 -- Known transactions by their numbers.
 use Prim.Native.Nat.{ℕ, _<_}
 use mathlib.Core.Path.{_≡_}
-use mathlib.Core.Bool.{Bool}
 use mathlib.Core.List.{List}
-use lib.Dec.{eqb}
 use lib.ListN.{length, getD}
 use Rattle.model.specs.declared.Known.{Known}
 use Rattle.model.specs.Steps.{nothingKnown}
-
--- the known transaction has that number (document 01: the swap's number)
-abbrev pub isNumbered : ℕ → Known → Bool
-isNumbered number k = eqb (k .transaction .number) number
 
 -- the number of the known transaction at a place
 abbrev pub numberAt : List Known → ℕ → ℕ

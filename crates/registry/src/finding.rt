@@ -3,10 +3,11 @@
 ghost use mathlib.Core.Path.{_≡_};
 ghost use Prim.Native.Nat.{_≤_, _<_};
 ghost use Rattle.model.specs.Lists.{find};
+ghost use Rattle.model.specs.Shard.{isNumbered};
 ghost use Rattle.model.specs.Steps.{isFor};
 ghost use Rattle.model.specs.Cluster.{gave};
 ghost use Rattle.layout.specs.Layout.{knownSlots, shardOf, ledgerOf, slotKnown};
-ghost use Rattle.registry.specs.Numbers.{isNumbered, OneEach};
+ghost use Rattle.registry.specs.Numbers.{OneEach};
 use layout::Words;
 use layout::counts::known_count;
 use layout::entries::heard_at;

@@ -36,6 +36,7 @@ use Rattle.model.specs.Steps.{
   afterTurn,
 }
 use Rattle.model.specs.Shard.{
+  isNumbered,
   Call,
   mint,
   register,
@@ -78,8 +79,8 @@ use Rattle.model.proofs.Refusals.{
 use Rattle.layout.specs.Layout.{tokenSlots, knownSlots, genesisSlots, shardOf, slotKnown}
 use Rattle.layout.proofs.Ledgers.{held-length, known-length}
 use Rattle.holdings.proofs.Tokens.{turn-room, pledges-in-turn}
-use Rattle.registry.specs.Numbers.{isNumbered}
 use Rattle.shard.specs.View.{number, view, Sound, Steps}
+use Rattle.shard.specs.declared.local.Own.{Own}
 use Rattle.shard.specs.Parts.{Leaves, Pledges, entryFor, enteredLedger, Entering, Entered, heardLedger, FreshVote, FreshDone, TurnedOver}
 use Rattle.shard.proofs.Ledgers.{leaves-then, holds-leaves}
 use Rattle.shard.proofs.Once.{once-step}
@@ -223,21 +224,18 @@ module _ {ws : List ℕ} (sound : Sound ws) (t : Transaction)
   pledged = pledges (t .number) (availableHere me tokens t) tokens
 
   -- after the pledges
-  module _ {vs : List ℕ} {verdict : Bool} (pledged-here : Pledges t ws verdict vs) where
-    ev : verdict ≡ vote me tokens t
-    ev = pledged-here .1
-
+  module _ {vs : List ℕ} {own : Own} (step : Pledges t ws own vs) where
     same : Leaves ws (holding (view ws) pledged (view ws .known)) (shardOf ws .known) vs
-    same = holds-leaves ws vs (pledged-here .0)
+    same = holds-leaves ws vs (step .pledged)
 
-    entered-is : enteredLedger verdict t vs ≡ afterRegister me (view ws) t
+    entered-is : enteredLedger own t vs ≡ afterRegister me (view ws) t
     unfolding afterRegister newlyKnown
-    entered-is = rw (same .seen, same .numbered, ev) refl
+    entered-is = rw (same .seen, same .numbered, step .votes, step .finds) refl
 
-    pub entering : Entering verdict t vs
+    pub entering : Entering own t vs
     entering = record {
       room =
-          turn-room (pledges-in-turn (t .number)) ws vs (record { long = sound .long; held = sound .held }) (pledged-here .0);
+          turn-room (pledges-in-turn (t .number)) ws vs (record { long = sound .long; held = sound .held }) (step .pledged);
       me = rw (same .numbered) (shard-below me (passes .form .receiver-fits));
       free = rw (same .knows) known-free;
       fits =
@@ -245,17 +243,17 @@ module _ {ws : List ℕ} (sound : Sound ws) (t : Transaction)
           (room-left sound (register me t) register-step);
     }
 
-    entry-is : entryFor verdict t vs ≡ newlyKnown me tokens t
+    entry-is : entryFor own t vs ≡ newlyKnown me tokens t
     unfolding newlyKnown
-    entry-is = rw (same .numbered, ev) refl
+    entry-is = rw (same .numbered, step .votes, step .finds) refl
 
-    pub register-carried : {us : List ℕ} {decided : Outcome} → Entered verdict t vs decided us
-        → Steps ws (register me t) (Registered verdict decided) us
+    pub register-carried : {us : List ℕ} {decided : Outcome} → Entered own t vs decided us
+        → Steps ws (register me t) (Registered (own .verdict) decided) us
     register-carried {us} {decided} e =
         let d : decided ≡ outcomeOf (newlyKnown me tokens t) = e .decides ∙ ap outcomeOf entry-is in
-        let step : stepped ws (register me t) ≡ (afterRegister me (view ws) t, Registered verdict decided) =
-        register-step ∙ rw (ev, d) refl in
-        goes-on sound (register me t) step (omega (arith, same .knows, known-free)) (leaves-then same (e .leaves) entered-is)
+        let done : stepped ws (register me t) ≡ (afterRegister me (view ws) t, Registered (own .verdict) decided) =
+        register-step ∙ rw (step .votes, d) refl in
+        goes-on sound (register me t) done (omega (arith, same .knows, known-free)) (leaves-then same (e .leaves) entered-is)
 
 -- ---- A vote that passes, on the known transaction whose number stands at a place
 
@@ -351,11 +349,11 @@ module _ {ws : List ℕ} (sound : Sound ws) (sender verdict : ℕ) (t : Transact
   brought = bring-passes house mine (view ws) mine sender verdict t pass unknown
 
   -- the pledges, and the transaction entered
-  pub bring-enters : {vs : List ℕ} {own : Bool} → Pledges t ws own vs → Entering own t vs
+  pub bring-enters : {vs : List ℕ} {own : Own} → Pledges t ws own vs → Entering own t vs
   bring-enters p = entering sound t (brought .registers) p
 
-  module _ {vs us : List ℕ} {own : Bool} {first : Outcome} (p : Pledges t ws own vs) (e : Entered own t vs first us) where
-    before : Steps ws (register mine t) (Registered own first) us
+  module _ {vs us : List ℕ} {own : Own} {first : Outcome} (p : Pledges t ws own vs) (e : Entered own t vs first us) where
+    before : Steps ws (register mine t) (Registered (own .verdict) first) us
     before = register-carried sound t (brought .registers) p e
 
     left-is : view us ≡ registered
@@ -412,14 +410,13 @@ module _ {ws : List ℕ} (sound : Sound ws) (sender verdict : ℕ) (t : Transact
         second : shardStep house mine registered vote-of ≡ (shardStep house mine (view ws) vote-of .0, Heard outcome)
         second = brings-then house mine (view ws) mine sender verdict t voted outcome answer-is
 
-        pub bring-carried : Steps ws vote-of (Brought own decided) xs
+        pub bring-carried : Steps ws vote-of (Brought (own .verdict) decided) xs
         bring-carried =
-            let own-is : own ≡ voted = p .1 in
             let heard : Heard decided ≡ Heard outcome =
             after .answered ∙ rw (left-is, before .numbered) (ap (λ (x : Ledger × Answer). x .1) second) in
             let decided-is : decided ≡ outcome = cc in
             record {
-              answered = rw (own-is, decided-is) (sym answer-is);
+              answered = rw (p .votes, decided-is) (sym answer-is);
               ledger = after .ledger ∙ rw (left-is, before .numbered) (ap (λ (x : Ledger × Answer). x .0) second);
               numbered = after .numbered ∙ before .numbered;
               sound = after .sound;

@@ -9,6 +9,7 @@ use lib.ListN.{length, getD, take, set, replicate, length-append}
 use lib.Seq.{getD-set-same, take-set-lt}
 use Rattle.transaction.specs.declared.Transaction.{Transaction}
 use Rattle.model.specs.declared.Token.{Token}
+use Rattle.model.specs.declared.Found.{Found}
 use Rattle.model.specs.declared.Known.{Known}
 use Rattle.model.specs.declared.Outcome.{Outcome}
 use Rattle.model.specs.Steps.{
@@ -23,6 +24,8 @@ use Rattle.model.specs.Steps.{
   outcomeOf,
   inputsHere,
   availableHere,
+  findings,
+  keeping,
   pledges,
   vote,
   concluded,
@@ -65,6 +68,7 @@ use Rattle.layout.proofs.Slots.{length-tokens, length-known}
 use Rattle.layout.proofs.Ledgers.{held-length}
 use Rattle.holdings.specs.declared.Inputs.{Inputs}
 use Rattle.holdings.specs.Held.{inputsOf, Lists, Holds, Changes, Settling, Settles, settledAt}
+use Rattle.shard.specs.declared.local.Own.{Own}
 use Rattle.shard.specs.View.{number, view, Fresh}
 use Rattle.shard.specs.Parts.{Pledges, Leaves, Minted, Grows, decidedOn, entryFor, Entering, Entered, heardIn, FreshVote, FreshDone}
 
@@ -173,29 +177,29 @@ pub told-settles : {told is : Outcome} (place : ℕ) (ws : List ℕ) {vs : List 
 told-settles place ws {vs} e s = (e, subst (λ (o : Outcome). Settles o place ws vs) e s)
 
 -- a transaction entered
-module _ {verdict : Bool} {t : Transaction} {ws : List ℕ} (pre : Entering verdict t ws) {vs : List ℕ} {k : Known}
-    {me place : ℕ} (em : me ≡ number ws) (ep : place ≡ shardOf ws .known) (ek : k ≡ knownWith me verdict t) (g : Grows ws k vs) where
-  is-entry : k ≡ entryFor verdict t ws
+module _ {own : Own} {t : Transaction} {ws : List ℕ} (pre : Entering own t ws) {vs : List ℕ} {k : Known}
+    {me place : ℕ} (em : me ≡ number ws) (ep : place ≡ shardOf ws .known) (ek : k ≡ knownWith me (own .findings) (own .verdict) t) (g : Grows ws k vs) where
+  is-entry : k ≡ entryFor own t ws
   is-entry = ek ∙ rw em refl
 
-  grows-to : Leaves ws (holding (view ws) (view ws .tokens) (view ws .known ++ (entryFor verdict t ws ∷ [])))
+  grows-to : Leaves ws (holding (view ws) (view ws .tokens) (view ws .known ++ (entryFor own t ws ∷ [])))
       (shardOf ws .known + 1) vs
   grows-to = rw is-entry at (grows-leaves ws vs k g (pre .room .held) (pre .free))
 
-  entry-there : slotKnown vs place ≡ entryFor verdict t ws
+  entry-there : slotKnown vs place ≡ entryFor own t ws
   entry-there = rw ep (grows-entry ws vs k g (pre .room .held) (pre .free)) ∙ is-entry
 
   pub enter-decides : Settling (outcomeOf (slotKnown vs place)) place vs
   enter-decides =
-      can-decide ws vs _ _ place (entryFor verdict t ws) grows-to entry-there
+      can-decide ws vs _ _ place (entryFor own t ws) grows-to entry-there
       (omega (arith, held-length ws (pre .room .held), pre .room .held)) (omega (arith, pre .free)) (pre .fits)
 
   pub entered : {us : List ℕ} {decided : Outcome}
       → (decided ≡ outcomeOf (slotKnown vs place)) × Settles (outcomeOf (slotKnown vs place)) place vs us
-      → Entered verdict t ws decided us
+      → Entered own t ws decided us
   entered {us} d = record {
     decides = d .0 ∙ ap outcomeOf entry-there;
-    leaves = decided-leaves ws vs _ _ place (entryFor verdict t ws) grows-to entry-there us (d .1);
+    leaves = decided-leaves ws vs _ _ place (entryFor own t ws) grows-to entry-there us (d .1);
   }
 
 -- a vote noted
@@ -283,14 +287,18 @@ module _ {ws : List ℕ} {me : ℕ} (c : Cleared me ws) where
 
 -- ---- The local step, from what each of its four parts yields
 
-pub stepped-here : (ws : List ℕ) (t : Transaction) {me : ℕ} {here found : Inputs} → me ≡ number ws → Lists here (inputsHere me t)
-    → ((me : ℕ) (t : Transaction) → Lists here (inputsHere me t) → Lists found (availableHere me (view ws .tokens) t))
+pub stepped-here : (ws : List ℕ) (t : Transaction) {me : ℕ} {here found : Inputs} {kept : List Found} → me ≡ number ws → Lists here (inputsHere me t)
+    → ((me : ℕ) (t : Transaction) → Lists here (inputsHere me t) → kept ≡ keeping (findings me (view ws .tokens) t))
+    → ((me : ℕ) (tokens : List Token) (t : Transaction) → Lists here (inputsHere me t) → kept ≡ keeping (findings me tokens t)
+    → Lists found (availableHere me tokens t))
     → {vs : List ℕ} → Changes (pledges (t .number) (inputsOf found)) ws vs
     → {verdict : Bool}
     → ((me : ℕ) (tokens : List Token) (t : Transaction) → Lists here (inputsHere me t) → Lists found (availableHere me tokens t)
     → verdict ≡ vote me tokens t)
-    → Pledges t ws verdict vs
-stepped-here ws t {me} {here} em first second third fourth =
+    → Pledges t ws (record { verdict = verdict; findings = kept }) vs
+stepped-here ws t {me} {here} em first finds second third fourth =
+    let tokens = view ws .tokens in
     let inputs : Lists here (inputsHere (number ws) t) = subst (λ (m : ℕ). Lists here (inputsHere m t)) em first in
-    let found = second (number ws) t inputs in
-    (rw (found .are) at third, fourth (number ws) (view ws .tokens) t inputs found)
+    let kept = finds (number ws) t inputs in
+    let found = second (number ws) tokens t inputs kept in
+    record { pledged = rw (found .are) at third; votes = fourth (number ws) tokens t inputs found; finds = kept }

@@ -4,3 +4,4 @@ pub mod Calls
 pub mod Tables
 pub mod Asked
 pub mod Freed
+pub mod Reports

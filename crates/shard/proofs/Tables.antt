@@ -13,12 +13,11 @@ use Rattle.transaction.proofs.Tables.{numbered, table-stands, table-behind}
 use Rattle.model.specs.declared.Known.{Known}
 use Rattle.model.specs.Lists.{find}
 use Rattle.model.specs.Steps.{house, isFor, placeOf, entryOf, nothingKnown, heardFrom, outputsHere}
-use Rattle.model.specs.Shard.{hasNumber, isOther, otherVerdict, tooFull, reserved, isUnknown}
+use Rattle.model.specs.Shard.{isNumbered, isOther, otherVerdict, tooFull, reserved}
 use Rattle.model.proofs.Capacity.{find-below}
 use Rattle.model.proofs.Entries.{known-number}
 use Rattle.layout.specs.Layout.{tokenSlots, knownSlots, shardOf, slotKnown}
 use Rattle.layout.proofs.Ledgers.{held-length, known-length, known-entry}
-use Rattle.registry.specs.Numbers.{isNumbered}
 use Rattle.registry.proofs.Finds.{none-passes, passes-there, found-there, known-there, is-numbered, none-found, asks-for, asks-other}
 use Rattle.registry.proofs.Decisions.{reserved-most}
 use Rattle.shard.specs.View.{number, view, Sound}
@@ -94,7 +93,23 @@ module _ {ws : List ℕ} (sound : Sound ws) {count : ℕ} (ec : count ≡ shardO
   pub all-known : leb knownSlots count ≡ leb (house .transactions) (length (view ws .known))
   all-known = rw count-is refl
 
--- ---- The tests that go by the place of the number: whether it is known, 7 and 8
+-- ---- The tests that go by the place of the number: whether it is known (18), 7 and 8
+
+module _ {ws : List ℕ} (sound : Sound ws) (number : ℕ) {place count : ℕ}
+    (found : place ≡ find (isNumbered number) (view ws .known)) (ec : count ≡ shardOf ws .known) where
+  pub unknown-is : leb count place ≡ not (any (isNumbered number) (view ws .known))
+  unknown-is = go (leb count place) refl
+    where
+      among : List Known
+      among = view ws .known
+
+      go : (b : Bool) → leb count place ≡ b → leb count place ≡ not (any (isNumbered number) among)
+      go true e =
+          let beyond : length among ≤ place = omega (arith, leb-true count place e, count-is sound ec) in
+          e ∙ ap not (sym (none-found (isNumbered number) among (rw (← found) beyond)))
+      go false e =
+          let within : place < length among = omega (arith, leb-false count place e, count-is sound ec) in
+          e ∙ ap not (sym (known-there among (sound .once) number found within))
 
 module _ {ws : List ℕ} (sound : Sound ws) (t : Transaction) {place count : ℕ}
     (found : place ≡ find (isNumbered (t .number)) (view ws .known)) (ec : count ≡ shardOf ws .known) where
@@ -109,9 +124,6 @@ module _ {ws : List ℕ} (sound : Sound ws) (t : Transaction) {place count : ℕ
     beyond : length known ≤ place
     beyond = omega (arith, length-is)
 
-    no-number : any (hasNumber t) known ≡ false
-    no-number = none-found (hasNumber t) known (rw (← found) beyond)
-
     pub no-other : false ≡ any (isOther t) known
     no-other = sym (none-passes known (sound .once) (t .number) found beyond (isOther t) (asks-other t))
 
@@ -124,16 +136,6 @@ module _ {ws : List ℕ} (sound : Sound ws) (t : Transaction) {place count : ℕ
 
     pub known-passes : {number found : ℕ} {rest : Table} → Says rest found → Says ((any (isFor t) (view ws .known), number) ∷ rest) found
     known-passes s = past {told = false} not-known refl s
-
-  -- whether it is, either way
-  pub unknown-is : leb count place ≡ isUnknown t known
-  unknown-is = go (leb count place) refl
-    where
-      go : (b : Bool) → leb count place ≡ b → leb count place ≡ isUnknown t known
-      go true e = e ∙ ap not (sym (no-number (leb-true count place e)))
-      go false e =
-          let within : place < length known = omega (arith, leb-false count place e, length-is) in
-          e ∙ ap not (sym (known-there known (sound .once) (t .number) found within))
 
   -- it is known, for this transaction or for another
   module _ (h : place < count) {same : Bool} (es : same ≡ isFor t (slotKnown ws place)) where

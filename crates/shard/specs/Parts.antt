@@ -8,15 +8,33 @@ use Rattle.transaction.specs.declared.Transaction.{Transaction}
 use Rattle.model.specs.declared.Token.{Token}
 use Rattle.model.specs.declared.Known.{Known}
 use Rattle.model.specs.declared.Outcome.{Outcome}
-use Rattle.model.specs.Steps.{Ledger, holding, availableHere, pledges, vote, knownWith, hearing, outcomeOf, afterMint, concluded, isAbortedFor, afterTurn}
+use Rattle.model.specs.Steps.{
+  Ledger,
+  holding,
+  availableHere,
+  findings,
+  keeping,
+  pledges,
+  vote,
+  knownWith,
+  hearing,
+  outcomeOf,
+  afterMint,
+  concluded,
+  isAbortedFor,
+  afterTurn,
+}
 use Rattle.layout.specs.Layout.{shardWords, tokenSlots, knownSlots, shardOf, withKnown, withTransactions, slotKnown, Becomes}
 use Rattle.holdings.specs.Held.{Room, Changes}
+use Rattle.shard.specs.declared.local.Own.{Own}
 use Rattle.shard.specs.View.{number, view}
 
--- the tokens of the available inputs here are pledged, and nothing else is changed; the verdict is the vote
-abbrev pub Pledges : Transaction → List ℕ → Bool → List ℕ → Type 0
-Pledges t ws verdict vs =
-    Changes (pledges (t .number) (availableHere (number ws) (view ws .tokens) t)) ws vs × (verdict ≡ vote (number ws) (view ws .tokens) t)
+-- the local step: the tokens of the available inputs here are pledged, and nothing else is changed; the verdict is the vote, and each input here
+-- was found as it was before that
+pub record Pledges (t : Transaction) (ws : List ℕ) (own : Own) (vs : List ℕ) : Type 0 where
+  pub pledged : Changes (pledges (t .number) (availableHere (number ws) (view ws .tokens) t)) ws vs
+  pub votes : own .verdict ≡ vote (number ws) (view ws .tokens) t
+  pub finds : own .findings ≡ keeping (findings (number ws) (view ws .tokens) t)
 
 -- what a step leaves: this ledger, in words whose counts are known
 pub record Leaves (ws : List ℕ) (ledger : Ledger) (count : ℕ) (vs : List ℕ) : Type 0 where
@@ -47,23 +65,23 @@ abbrev pub decidedOn : ℕ → Ledger → Known → List Known → Ledger
 decidedOn me ledger k known = holding ledger (concluded (ledger .turned) (outcomeOf k) me (k .transaction) (ledger .tokens)) known
 
 -- the transaction as it is entered, and the ledger after it
-abbrev pub entryFor : Bool → Transaction → List ℕ → Known
-entryFor verdict t ws = knownWith (number ws) verdict t
+abbrev pub entryFor : Own → Transaction → List ℕ → Known
+entryFor own t ws = knownWith (number ws) (own .findings) (own .verdict) t
 
-abbrev pub enteredLedger : Bool → Transaction → List ℕ → Ledger
-enteredLedger verdict t ws = decidedOn (number ws) (view ws) (entryFor verdict t ws) (view ws .known ++ (entryFor verdict t ws ∷ []))
+abbrev pub enteredLedger : Own → Transaction → List ℕ → Ledger
+enteredLedger own t ws = decidedOn (number ws) (view ws) (entryFor own t ws) (view ws .known ++ (entryFor own t ws ∷ []))
 
 -- a transaction can be entered: a slot is free, and the tokens after the decision fit
-pub record Entering (verdict : Bool) (t : Transaction) (ws : List ℕ) : Type 0 where
+pub record Entering (own : Own) (t : Transaction) (ws : List ℕ) : Type 0 where
   pub room : Room ws
   pub me : number ws < 8
   pub free : shardOf ws .known < knownSlots
-  pub fits : length (enteredLedger verdict t ws .tokens) ≤ tokenSlots
+  pub fits : length (enteredLedger own t ws .tokens) ≤ tokenSlots
 
 -- it is entered
-pub record Entered (verdict : Bool) (t : Transaction) (ws : List ℕ) (decided : Outcome) (vs : List ℕ) : Type 0 where
-  pub decides : decided ≡ outcomeOf (entryFor verdict t ws)
-  pub leaves : Leaves ws (enteredLedger verdict t ws) (shardOf ws .known + 1) vs
+pub record Entered (own : Own) (t : Transaction) (ws : List ℕ) (decided : Outcome) (vs : List ℕ) : Type 0 where
+  pub decides : decided ≡ outcomeOf (entryFor own t ws)
+  pub leaves : Leaves ws (enteredLedger own t ws) (shardOf ws .known + 1) vs
 
 -- the known transaction in a slot with the vote noted, and the ledger after it
 abbrev pub heardIn : ℕ → ℕ → ℕ → List ℕ → Known

@@ -1,15 +1,15 @@
 -- What can be asked of a shard, of its ledger.
 use Prim.Native.Nat.{ℕ}
 use mathlib.Core.Bool.{Bool, cond, _&&_}
-use mathlib.Core.List.{List}
+use mathlib.Core.List.{List, []}
 use lib.Dec.{eqb, ltb}
 use lib.ListN.{length, getD}
 use Rattle.transaction.specs.Tokens.{blankTransaction}
 use Rattle.model.specs.declared.Token.{Token}
 use Rattle.model.specs.declared.Known.{Known}
 use Rattle.model.specs.Lists.{find}
-use Rattle.model.specs.Steps.{genesisToken, unheard, outcomeOf}
-use Rattle.registry.specs.Numbers.{isNumbered}
+use Rattle.model.specs.Shard.{isNumbered}
+use Rattle.model.specs.Steps.{genesisToken, unheard, keeping, outcomeOf}
 use Rattle.shard.specs.declared.queries.HeldToken.{HeldToken}
 use Rattle.shard.specs.declared.queries.HeldToken.the-variants.{Held, NotHeld}
 use Rattle.shard.specs.declared.queries.KnownOutcome.{KnownOutcome}
@@ -29,7 +29,7 @@ tokenOfId tokens creator index = tokenAt tokens (find (hasId creator index) toke
 
 -- no known transaction (document 01: swap)
 abbrev pub blankKnown : Known
-blankKnown = unheard blankTransaction
+blankKnown = unheard (keeping []) blankTransaction
 
 -- the known transaction at a place (document 01: of a pantry's known swaps)
 abbrev pub knownAt : List Known → ℕ → Known

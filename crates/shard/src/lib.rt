@@ -1,14 +1,13 @@
 // One shard's ledger (document 01: a pantry's), in place: each call is lent the shard's words, changes them and answers.
-// The interface: `new`, `mint_token`, `register_transaction`, `hear_vote`, `turn_shard`, `has_given_vote`, and all of `queries`.
+// The interface: `new`, `mint_token`, `register_transaction`, `hear_vote`, `turn_shard`, `has_given_vote`, and all of `queries` and `reporting`.
 // Internal, and public only because the crate `cluster` calls them: `hear_formed` and `refusals::deliver_form`.
 ghost use mathlib.Core.Path.{_≡_};
 ghost use mathlib.Core.Bool.{true, false};
 ghost use Rattle.transaction.specs.Lists.{firstOf};
 ghost use Rattle.model.specs.Lists.{find};
 ghost use Rattle.model.specs.Steps.{house};
-ghost use Rattle.model.specs.Shard.{mint, register, deliver, turn, isUnknown, deliverForm};
+ghost use Rattle.model.specs.Shard.{isNumbered, mint, register, deliver, turn, isUnknown, deliverForm};
 ghost use Rattle.model.specs.Cluster.{gave};
-ghost use Rattle.registry.specs.Numbers.{isNumbered};
 ghost use Rattle.shard.specs.View.{number, view, Sound, Fresh, Steps};
 use layout::Words;
 use layout::counts::own_number;
@@ -22,6 +21,7 @@ mod local; // the local step of a registration
 mod steps; // the steps that a call that passes takes
 mod turning; // the step of a turn
 pub mod queries; // what can be asked of a shard
+pub mod reporting; // what it found about the inputs of a known transaction
 
 // An empty shard of that number, whatever the words were.
 pub fn new(s: &mut Words, me: u8)
@@ -73,7 +73,7 @@ pub fn hear_formed(s: &mut Words, sender: u8, verdict: u8, t: Transaction) -> An
     ensures { λ r. ⌜ Steps (now (s .entry)) (deliver (number (now (s .entry))) sender verdict t) r (now (s .exit)) ⌝ }
 {
     let place = place_of_number(s, t.number);
-    if rows::is_unknown(s, place, t) {
+    if rows::is_unknown(s, place, t.number) {
         return bring(s, sender, verdict, t);
     }
     hear(s, place, sender, verdict, t)

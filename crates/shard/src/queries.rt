@@ -3,10 +3,11 @@ ghost use mathlib.Core.Path.{_≡_};
 ghost use mathlib.Core.Bool.{false};
 ghost use Prim.Native.Nat.{_≤_, _<_};
 ghost use lib.ListN.{getD, length};
-ghost use Rattle.model.specs.Lists.{find};
 ghost use Rattle.shard.specs.View.{view, Sound};
 ghost use Rattle.model.specs.Totals.{totalAmount};
-ghost use Rattle.shard.specs.Queries.{tokenAt, hasId, tokenOfId, blankKnown, knownAt, outcomeAt, outcomeOfNumber};
+ghost use Rattle.shard.specs.Queries.{tokenAt, tokenOfId, blankKnown, knownAt, outcomeAt, outcomeOfNumber};
+use holdings::finding::nothing_found;
+use holdings::finding::place_of_token;
 use layout::Words;
 use layout::counts;
 use layout::entries;
@@ -54,22 +55,6 @@ pub fn token_at(s: &Words, place: usize) -> HeldToken
     HeldToken::NotHeld
 }
 
-// The place of the token of that id; the count where it is not held.
-fn place_of_token(s: &Words, creator: u32, index: u8) -> usize
-    requires { ⌜ Sound (now s) ⌝ }
-    ensures { λ r. ⌜ r ≡ find (hasId creator index) (view (now (s .entry)) .tokens) ⌝ }
-{
-    let n = counts::held(s);
-    let mut i = 0;
-    while i < n {
-        if tokens::is_token(s, i, creator, index) {
-            return i;
-        }
-        i += 1;
-    }
-    i
-}
-
 // The held token of that id.
 pub fn find_token(s: &Words, creator: u32, index: u8) -> HeldToken
     requires { ⌜ Sound (now s) ⌝ }
@@ -83,9 +68,12 @@ pub fn find_token(s: &Words, creator: u32, index: u8) -> HeldToken
 pub fn blank_known() -> Known
     ensures { λ r. ⌜ r ≡ blankKnown ⌝ }
 {
+    let blank = transaction::parts::blank();
+    let nothing = nothing_found();
     Known {
-        transaction: transaction::parts::blank(),
+        transaction: blank,
         heard: [0; 8],
+        findings: nothing,
     }
 }
 

@@ -7,8 +7,7 @@ ghost use lib.ListN.{length, getD};
 ghost use Rattle.transaction.specs.Lists.{any};
 ghost use Rattle.model.specs.Lists.{find};
 ghost use Rattle.model.specs.Steps.{house, isFor, entryOf, heardFrom};
-ghost use Rattle.model.specs.Shard.{isUnknown, isOther, otherVerdict, tooFull, heldOff};
-ghost use Rattle.registry.specs.Numbers.{isNumbered};
+ghost use Rattle.model.specs.Shard.{isNumbered, isOther, otherVerdict, tooFull, heldOff};
 ghost use Rattle.shard.specs.View.{number, view, Sound};
 use layout::GENESIS_SLOTS;
 use layout::KNOWN_SLOTS;
@@ -45,10 +44,11 @@ pub(crate) fn was_given(s: &Words, index: u8) -> bool
     false
 }
 
-// The number is not known here: 11 for the shard's own vote, and another shard's brings its transaction.
-pub(crate) fn is_unknown(s: &Words, place: usize, t: Transaction) -> bool
-    requires { ⌜ Sound (now s) × (place ≡ find (isNumbered (t .number)) (view (now s) .known)) ⌝ }
-    ensures { λ r. ⌜ r ≡ isUnknown t (view (now (s .entry)) .known) ⌝ }
+// The number is not known here: 18 where its findings are asked for; 11 for the shard's own vote, and another shard's
+// brings its transaction.
+pub(crate) fn is_unknown(s: &Words, place: usize, number: u32) -> bool
+    requires { ⌜ Sound (now s) × (place ≡ find (isNumbered number) (view (now s) .known)) ⌝ }
+    ensures { λ r. ⌜ r ≡ not (any (isNumbered number) (view (now (s .entry)) .known)) ⌝ }
 {
     known_count(s) <= place
 }

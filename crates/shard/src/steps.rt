@@ -6,12 +6,12 @@ ghost use lib.ListN.{length};
 ghost use Rattle.transaction.specs.Lists.{firstOf};
 ghost use Rattle.model.specs.Lists.{find};
 ghost use Rattle.model.specs.Steps.{house, noted, knownWith, outcomeOf};
-ghost use Rattle.model.specs.Shard.{registerRefusals, isUnknown, deliverRefusals, register, deliver};
+ghost use Rattle.model.specs.Shard.{isNumbered, registerRefusals, isUnknown, deliverRefusals, register, deliver};
 ghost use Rattle.layout.specs.Layout.{shardWords, tokenSlots, knownSlots, genesisSlots, shardOf, slotKnown};
 ghost use Rattle.holdings.specs.Held.{Settling, Settles};
-ghost use Rattle.registry.specs.Numbers.{isNumbered};
 ghost use Rattle.shard.specs.View.{number, view, Sound, Steps};
 ghost use Rattle.shard.specs.Parts.{Minted, Grows, Entering, Entered, FreshVote, FreshDone};
+use crate::local::Own;
 use crate::local::local_step;
 use holdings::committing::settle_at;
 use layout::Words;
@@ -59,16 +59,18 @@ fn note(verdict: bool) -> u8
 }
 
 // The transaction as it becomes known: the own vote counts as heard.
-fn newly_known(me: u8, verdict: bool, t: Transaction) -> Known
+fn newly_known(me: u8, own: Own, t: Transaction) -> Known
     requires { ⌜ me < 8 ⌝ }
-    ensures { λ r. ⌜ r ≡ knownWith me verdict t ⌝ }
+    ensures { λ r. ⌜ r ≡ knownWith me (own .findings) (own .verdict) t ⌝ }
 {
     let at = me as usize;
     let mut heard = [0u8; 8];
-    heard[at] = note(verdict);
+    heard[at] = note(own.verdict);
+    let findings = own.findings;
     Known {
         transaction: t,
         heard: heard,
+        findings: findings,
     }
 }
 
@@ -93,14 +95,15 @@ fn decide_at(s: &mut Words, place: usize) -> Outcome
     decided
 }
 
-// The transaction becomes known with the shard's verdict, and is decided if that is no or was the only vote missing.
-fn enter(s: &mut Words, verdict: bool, t: Transaction) -> Outcome
-    requires { ⌜ Entering verdict t (now s) ⌝ }
-    ensures { λ r. ⌜ Entered verdict t (now (s .entry)) r (now (s .exit)) ⌝ }
+// The transaction becomes known with the shard's verdict and findings, and is decided if the verdict is no or was the
+// only vote missing.
+fn enter(s: &mut Words, own: Own, t: Transaction) -> Outcome
+    requires { ⌜ Entering own t (now s) ⌝ }
+    ensures { λ r. ⌜ Entered own t (now (s .entry)) r (now (s .exit)) ⌝ }
 {
     let me = own_number(s);
     let place = known_count(s);
-    let k = newly_known(me, verdict, t);
+    let k = newly_known(me, own, t);
     add_known(s, k);
     decide_at(s, place)
 }
@@ -110,9 +113,9 @@ pub(crate) fn carry_registration(s: &mut Words, t: Transaction) -> Answer
     requires { ⌜ Sound (now s) × (firstOf (registerRefusals house (number (now s)) (view (now s)) (number (now s)) t) ≡ 0) ⌝ }
     ensures { λ r. ⌜ Steps (now (s .entry)) (register (number (now (s .entry))) t) r (now (s .exit)) ⌝ }
 {
-    let verdict = local_step(s, t);
-    let decided = enter(s, verdict, t);
-    Answer::Registered(verdict, decided)
+    let own = local_step(s, t);
+    let decided = enter(s, own, t);
+    Answer::Registered(own.verdict, decided)
 }
 
 // A fresh vote on the known transaction in a slot: it is noted, and what it decides is done.
@@ -156,5 +159,5 @@ pub(crate) fn carry_brought(s: &mut Words, sender: u8, verdict: u8, t: Transacti
     let own = local_step(s, t);
     enter(s, own, t);
     let decided = fresh_vote(s, place, sender, verdict);
-    Answer::Brought(own, decided)
+    Answer::Brought(own.verdict, decided)
 }

@@ -1,7 +1,7 @@
 //! Time for a call on a cluster by its kind.
 //!
 //! A call that changes something cannot be repeated where it stands, and
-//! putting the state back takes longer than the call: a cluster has 68,736
+//! putting the state back takes longer than the call: a cluster has 76,928
 //! bytes. So calls are timed where they stand: a week is cut into runs of calls
 //! of one kind (all first mints are one run, most other runs are a call or
 //! two), and the clock is read before and after each run. A clock may go in

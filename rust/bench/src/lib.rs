@@ -1,9 +1,10 @@
 //! The benchmarks' loops with the reference, for comparison with the engine's
 //! own: here its reader; in [`ledgers`] and [`kinds`] the calls on shards and
-//! clusters, for both.
+//! clusters, for both, and in [`findings`] the questions for findings.
 
 #![forbid(unsafe_code)]
 
+pub mod findings;
 pub mod kinds;
 pub mod ledgers;
 

@@ -1,6 +1,7 @@
 //! The benchmark's loops over shards and clusters give one fold, and every call
 //! is of one kind.
 
+use bench::findings::findings;
 use bench::kinds::kinds;
 use bench::ledgers::{Week, engine_run, reference_run};
 use engine::answer_code;
@@ -64,4 +65,25 @@ fn kinds_of_calls() {
     // Other answers are noticed.
     weeks[0].calls.rotate_left(1);
     assert!(kinds(&weeks, 1).is_none());
+}
+
+/// Every transaction that is known at the end of a week is asked for.
+#[test]
+fn questions_for_findings() {
+    let mut weeks: Vec<Week> = (0..20)
+        .map(|week| Week::new(None, cluster_week(&mut Rng::new(SEED, week))))
+        .collect();
+    let asked = findings(&weeks, 2).expect("the answers agree");
+    let known = weeks.iter().map(|week| {
+        let mut cluster = Cluster::new(LIMITS);
+        for record in &week.records {
+            let _ = cluster.play(record);
+        }
+        let shards = cluster.shards().iter();
+        shards.map(|shard| shard.known().len()).sum::<usize>()
+    });
+    assert_eq!(asked.calls, known.sum::<usize>());
+    // Other findings are noticed.
+    weeks[0].calls.clear();
+    assert!(findings(&weeks, 1).is_none());
 }

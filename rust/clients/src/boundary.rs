@@ -51,8 +51,8 @@ pub fn declared(source: &str, definitions: &str) -> Vec<Prototype> {
     let mut source = source.to_owned();
     for (name, words) in word_types(definitions) {
         let referent = match words.as_str() {
-            "17184" => "Cluster".into(),
-            "2148" => "Words".into(),
+            "19232" => "Cluster".into(),
+            "2404" => "Words".into(),
             words => format!("[u32; {words}]"),
         };
         source = source.replace(&format!("&{name}"), &format!("&{referent}"));
@@ -89,18 +89,38 @@ fn prototype(source: &str) -> Prototype {
         Some(result) => scalar(result.trim()).unwrap_or_else(|| unknown(name, result)),
         None => "void",
     };
+    let parameters = parameters.split(',').map(str::trim);
+    let parameters = parameters.filter(|parameter| !parameter.is_empty());
+    let parameters: Vec<(&str, &str)> = parameters
+        .map(|parameter| parameter.split_once(": ").expect("it has a type"))
+        .collect();
     Prototype {
         name: name.into(),
         result: result.into(),
-        parameters: parameters
-            .split(',')
-            .map(str::trim)
-            .filter(|parameter| !parameter.is_empty())
-            .flat_map(|parameter| {
-                let (parameter, kind) = parameter.split_once(": ").expect("it has a type");
+        parameters: (0..parameters.len())
+            .flat_map(|place| {
+                let (_, kind) = parameters[place];
+                let parameter = name_in_c(place, &parameters);
                 translated(parameter, kind).unwrap_or_else(|| unknown(name, kind))
             })
             .collect(),
+    }
+}
+
+/// The parameter's name in C: that of memory which the engine made says what it
+/// is, unless another parameter is called so.
+fn name_in_c<'a>(place: usize, parameters: &[(&'a str, &'a str)]) -> &'a str {
+    let (name, kind) = parameters[place];
+    let memory = match kind {
+        "&Cluster" | "&mut Cluster" => "cluster",
+        "&Words" | "&mut Words" => "shard",
+        _ => return name,
+    };
+    let mut others = parameters.iter().enumerate();
+    if others.any(|(other, (name, _))| other != place && *name == memory) {
+        name
+    } else {
+        memory
     }
 }
 
@@ -120,8 +140,8 @@ fn scalar(kind: &str) -> Option<&'static str> {
     })
 }
 
-/// The parameters in C. Memory that the engine made has a name of its own
-/// there, and a slice's length a parameter.
+/// The parameters in C. Memory that the engine made has a type of its own there,
+/// and a slice's length a parameter.
 fn translated(name: &str, kind: &str) -> Option<Vec<Parameter>> {
     if let Some(kind) = scalar(kind) {
         return Some(vec![Parameter::new(kind, name)]);
@@ -132,8 +152,8 @@ fn translated(name: &str, kind: &str) -> Option<Vec<Parameter>> {
     };
     let one = |kind: &str, name: &str| Parameter::new(&format!("{constant}{kind}"), name);
     Some(match referent {
-        "Cluster" => vec![one("plankeeper *", "cluster")],
-        "Words" => vec![one("plankeeper_shard *", "shard")],
+        "Cluster" => vec![one("plankeeper *", name)],
+        "Words" => vec![one("plankeeper_shard *", name)],
         "[u8]" => vec![one("uint8_t *", name), Parameter::new("size_t", "length")],
         words => {
             let length = words.strip_prefix("[u32; ")?.strip_suffix(']')?;

@@ -2,11 +2,12 @@
 
 use std::fmt::Write;
 
-use reference::{Cluster, Known, LIMITS, Outcome, Shard, Token, Verdict, read};
+use reference::{Cluster, Finding, Known, LIMITS, Outcome, Shard, Token, Verdict, read};
 use weeks::CAUSES;
 
 /// The text for these records, whose listing is given: its lines, each refusal
-/// with its sentence, then what the shards hold and know, then its total.
+/// with its sentence, then what the shards hold and know, with the inputs that
+/// were not available, then its total.
 pub fn planner_text(bytes: &[u8], listing: &str) -> String {
     let (answers, total) = listing.split_at(listing.rfind("TOTAL").expect("it has a total"));
     let mut text = String::new();
@@ -54,6 +55,7 @@ fn put_shard(text: &mut String, shard: &Shard) -> std::fmt::Result {
     }
     for known in known {
         put_known(text, known)?;
+        put_spoilt(text, number, known)?;
     }
     Ok(())
 }
@@ -95,4 +97,22 @@ fn put_known(text: &mut String, known: &Known) -> std::fmt::Result {
         }
     }
     writeln!(text)
+}
+
+/// The inputs here that were not available, by their places among all inputs.
+fn put_spoilt(text: &mut String, shard: u8, known: &Known) -> std::fmt::Result {
+    let inputs = (1..).zip(known.transaction.used_inputs());
+    let here = inputs.filter(|(_, input)| input.token.shard == shard);
+    for ((place, _), finding) in here.zip(known.findings.iter().flatten()) {
+        match finding {
+            Finding::Available => {}
+            Finding::NotHeld => writeln!(text, "    input {place}: not held")?,
+            Finding::OtherOwner => writeln!(text, "    input {place}: other household")?,
+            Finding::OtherAmount => writeln!(text, "    input {place}: other portions")?,
+            Finding::Pledged(number) => {
+                writeln!(text, "    input {place}: pledged to swap {number}")?;
+            }
+        }
+    }
+    Ok(())
 }

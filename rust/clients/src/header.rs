@@ -156,7 +156,7 @@ fn cause(line: &str) -> Option<Cause> {
     let row = line.strip_prefix(" *")?;
     Some(Cause {
         number: row.get(..7)?.trim().parse().ok()?,
-        givers: row.get(7..22)?.replace(' ', ""),
-        sentence: row.get(22..)?.into(),
+        givers: row.get(7..24)?.replace(' ', ""),
+        sentence: row.get(24..)?.into(),
     })
 }

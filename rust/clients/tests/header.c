@@ -41,6 +41,7 @@ static const struct {
     uint32_t (*known_at)(const plankeeper *, uint32_t, size_t, uint32_t *);
     uint32_t (*outcome_of)(const plankeeper *, uint32_t, uint32_t);
     uint32_t (*is_turned)(const plankeeper *, uint32_t);
+    uint32_t (*findings)(const plankeeper *, uint32_t, uint32_t, uint32_t *);
     size_t (*shard_words)(void);
     void (*shard_make)(plankeeper_shard *, uint32_t);
     uint32_t (*shard_mint)(plankeeper_shard *, uint32_t, uint32_t, uint32_t, uint32_t);
@@ -54,6 +55,7 @@ static const struct {
     uint32_t (*shard_known_at)(const plankeeper_shard *, size_t, uint32_t *);
     uint32_t (*shard_outcome_of)(const plankeeper_shard *, uint32_t);
     uint32_t (*shard_is_turned)(const plankeeper_shard *);
+    uint32_t (*shard_findings)(const plankeeper_shard *, uint32_t, uint32_t, uint32_t *);
     uint32_t (*read)(const uint8_t *, size_t, uint32_t *);
     size_t (*taken)(const uint8_t *, size_t);
     uint64_t (*write_register)(uint32_t, const uint32_t *, uint8_t *, size_t);
@@ -68,13 +70,14 @@ static const struct {
     plankeeper_total_at,          plankeeper_held_count,
     plankeeper_token_at,          plankeeper_known_count,
     plankeeper_known_at,          plankeeper_outcome_of,
-    plankeeper_is_turned,         plankeeper_shard_words,
-    plankeeper_shard_new,         plankeeper_shard_mint,
-    plankeeper_shard_register,    plankeeper_shard_hear,
-    plankeeper_shard_turn,        plankeeper_shard_total,
-    plankeeper_shard_held_count,  plankeeper_shard_token_at,
-    plankeeper_shard_known_count, plankeeper_shard_known_at,
-    plankeeper_shard_outcome_of,  plankeeper_shard_is_turned,
+    plankeeper_is_turned,         plankeeper_findings,
+    plankeeper_shard_words,       plankeeper_shard_new,
+    plankeeper_shard_mint,        plankeeper_shard_register,
+    plankeeper_shard_hear,        plankeeper_shard_turn,
+    plankeeper_shard_total,       plankeeper_shard_held_count,
+    plankeeper_shard_token_at,    plankeeper_shard_known_count,
+    plankeeper_shard_known_at,    plankeeper_shard_outcome_of,
+    plankeeper_shard_is_turned,   plankeeper_shard_findings,
     plankeeper_read,              plankeeper_taken,
     plankeeper_write_register,    plankeeper_write_vote,
     plankeeper_write_mint,        plankeeper_write_turn,
@@ -372,6 +375,66 @@ static void play_brought(void)
     EQUAL(plankeeper_total_at(cluster, 1), 1);
 }
 
+/* ---- What was found of the inputs */
+
+/* A finding: what was found, and the pledging transaction. */
+static void check_found(const uint32_t *found, uint32_t place, uint32_t what, uint32_t pledge)
+{
+    EQUAL(found[PLANKEEPER_FOUND_WHAT(place)], what);
+    EQUAL(found[PLANKEEPER_FOUND_PLEDGE(place)], pledge);
+}
+
+/* Of transaction 2, whose inputs at shard 0 are four. */
+static void check_all_found(const plankeeper *cluster)
+{
+    uint32_t found[PLANKEEPER_FINDINGS_WORDS];
+    uint32_t answer = plankeeper_findings(cluster, 0, 2, found);
+    EQUAL(answer, PLANKEEPER_FOUND + 4);
+    EQUAL(PLANKEEPER_FOUND_COUNT(answer), PLANKEEPER_SLOTS);
+    check_found(found, 0, PLANKEEPER_OTHER_AMOUNT, 0);
+    check_found(found, 1, PLANKEEPER_PLEDGED, 1);
+    check_found(found, 2, PLANKEEPER_NOT_HELD, 0);
+    check_found(found, 3, PLANKEEPER_OTHER_OWNER, 0);
+}
+
+/* Shard 0 finds four causes in one transaction, and keeps them behind its turn, with which what
+ * was pledged to transaction 1 comes free. To the shards 1 and 2 votes bring transaction 1: shard 2
+ * has not the token that it takes there, and shard 1 has outputs only. */
+static void play_findings(void)
+{
+    plankeeper *cluster = fresh_cluster();
+    uint32_t found[PLANKEEPER_FINDINGS_WORDS], place;
+    transaction first, second;
+    move(first, 1, 2, 0, 1);
+    take(first, 0, 0, 9, 1);
+    give(first, 1, 9, 1);
+    begin(second, 2);
+    take(second, 0, 1, 9, 2);
+    take(second, 0, 0, 9, 1);
+    take(second, 0, 5, 9, 1);
+    take(second, 0, 2, 8, 1);
+    give(second, 3, 9, 5);
+    for (place = 0; place < 3; place++)
+        EQUAL(plankeeper_mint(cluster, 0, place, 9, 1), PLANKEEPER_OPENED);
+    EQUAL(plankeeper_register(cluster, 0, first), PLANKEEPER_YES_WAIT);
+    EQUAL(plankeeper_register(cluster, 0, second), PLANKEEPER_NO_ABORT);
+    check_all_found(cluster);
+    EQUAL(plankeeper_deliver(cluster, 2, 0, YES, first), PLANKEEPER_BROUGHT_NO_ABORT);
+    EQUAL(plankeeper_deliver(cluster, 0, 2, NO, first), PLANKEEPER_HEARD_ABORT);
+    EQUAL(plankeeper_turn(cluster, 0), PLANKEEPER_TURNED);
+    EQUAL(pledge_at(cluster, 0), 0);
+    check_all_found(cluster);
+    EQUAL(plankeeper_findings(cluster, 2, 1, found), PLANKEEPER_FOUND + 1);
+    check_found(found, 0, PLANKEEPER_NOT_HELD, 0);
+    EQUAL(plankeeper_findings(cluster, 0, 1, found), PLANKEEPER_FOUND + 1);
+    check_found(found, 0, PLANKEEPER_AVAILABLE, 0);
+    for (place = 1; place < PLANKEEPER_SLOTS; place++)
+        check_found(found, place, 0, 0);
+    EQUAL(plankeeper_deliver(cluster, 1, 0, YES, first), PLANKEEPER_BROUGHT_YES_WAIT);
+    EQUAL(plankeeper_findings(cluster, 1, 1, found), PLANKEEPER_FOUND);
+    check_found(found, 0, 0, 0);
+}
+
 /* ---- Refusals: each by its name, and nothing is changed */
 
 static void refused(uint32_t answer, uint32_t expected, int line)
@@ -487,6 +550,27 @@ static void refuse_turned(void)
     REFUSES(plankeeper_turn(cluster, 256 + 6), OUT_OF_RANGE);
 }
 
+/* 3 goes before 18, and the words keep their values. */
+static void refuse_to_find(void)
+{
+    plankeeper *cluster = fresh_cluster();
+    uint32_t found[PLANKEEPER_FINDINGS_WORDS], lent[PLANKEEPER_FINDINGS_WORDS];
+    transaction t;
+    exchange(t);
+    example(cluster, t);
+    memset(found, 0xA5, sizeof found);
+    memcpy(lent, found, sizeof found);
+    memcpy(cluster_copy, cluster_words, sizeof cluster_words);
+    REFUSES(plankeeper_findings(cluster, PLANKEEPER_SHARDS, 5, found), OUT_OF_RANGE);
+    REFUSES(plankeeper_findings(cluster, 256, 5, found), OUT_OF_RANGE);
+    REFUSES(plankeeper_findings(cluster, PLANKEEPER_SHARDS, 6, found), OUT_OF_RANGE);
+    REFUSES(plankeeper_findings(cluster, 0, 0, found), OUT_OF_RANGE);
+    REFUSES(plankeeper_findings(cluster, 0, 6, found), NO_SUCH_NUMBER);
+    REFUSES(plankeeper_findings(cluster, 2, 5, found), NO_SUCH_NUMBER);
+    EQUAL(memcmp(found, lent, sizeof found) == 0, 1);
+    EQUAL(plankeeper_findings(cluster, 0, 5, found), PLANKEEPER_FOUND + 1);
+}
+
 /* ---- A lone shard */
 
 static void check_shard(const plankeeper_shard *shard, const uint32_t *t)
@@ -508,6 +592,18 @@ static void check_shard(const plankeeper_shard *shard, const uint32_t *t)
     EQUAL(plankeeper_shard_outcome_of(shard, 5), PLANKEEPER_COMMIT);
     EQUAL(plankeeper_shard_outcome_of(shard, 6), PLANKEEPER_UNKNOWN);
     EQUAL(plankeeper_shard_total(shard), 3);
+}
+
+/* Shard 1 knows transaction 5 and no other, and was asked about itself. */
+static void check_shard_findings(const plankeeper_shard *shard)
+{
+    uint32_t found[PLANKEEPER_FINDINGS_WORDS];
+    EQUAL(plankeeper_shard_findings(shard, 1, 5, found), PLANKEEPER_FOUND + 1);
+    check_found(found, 0, PLANKEEPER_AVAILABLE, 0);
+    EQUAL(plankeeper_shard_findings(shard, 0, 5, found), PLANKEEPER_REFUSED_OUT_OF_RANGE);
+    EQUAL(plankeeper_shard_findings(shard, 1, 0, found), PLANKEEPER_REFUSED_OUT_OF_RANGE);
+    EQUAL(plankeeper_shard_findings(shard, 1, 6, found), PLANKEEPER_REFUSED_NO_SUCH_NUMBER);
+    check_found(found, 0, PLANKEEPER_AVAILABLE, 0);
 }
 
 static void play_shard(void)
@@ -534,11 +630,13 @@ static void play_shard(void)
     EQUAL(plankeeper_shard_turn(shard, 1), PLANKEEPER_REFUSED_TURNED_ALREADY);
     EQUAL(plankeeper_shard_is_turned(shard), 1);
     check_shard(shard, t);
+    check_shard_findings(shard);
     /* The vote of shard 0 brings it to another one that is like it. */
     shard = fresh_shard(1);
     EQUAL(plankeeper_shard_mint(shard, 1, 0, 20, 2), PLANKEEPER_OPENED);
     EQUAL(plankeeper_shard_hear(shard, 1, 0, YES, t), PLANKEEPER_BROUGHT_YES_COMMIT);
     check_shard(shard, t);
+    check_shard_findings(shard);
     EQUAL(plankeeper_shard_words(), PLANKEEPER_SHARD_WORDS);
     EQUAL(FUNCTIONS.words(), PLANKEEPER_WORDS);
     EQUAL(PLANKEEPER_WORDS, PLANKEEPER_SHARDS * PLANKEEPER_SHARD_WORDS);
@@ -675,7 +773,7 @@ static void refuse_to_write(void)
 
 /* ---- Answers taken apart */
 
-enum { REFUSED, OPENED, REGISTERED, HEARD, AGAIN, TURNED, BROUGHT };
+enum { REFUSED, OPENED, REGISTERED, HEARD, AGAIN, TURNED, BROUGHT, FOUND };
 
 static void check_kind(uint32_t answer, int kind)
 {
@@ -684,6 +782,7 @@ static void check_kind(uint32_t answer, int kind)
     EQUAL(PLANKEEPER_IS_HEARD(answer), kind == HEARD);
     EQUAL(PLANKEEPER_IS_AGAIN(answer), kind == AGAIN);
     EQUAL(PLANKEEPER_IS_BROUGHT(answer), kind == BROUGHT);
+    EQUAL(PLANKEEPER_IS_FOUND(answer), kind == FOUND);
 }
 
 static void take_answers_apart(void)
@@ -702,6 +801,10 @@ static void take_answers_apart(void)
         check_kind(number, REFUSED);
     check_kind(PLANKEEPER_OPENED, OPENED);
     check_kind(PLANKEEPER_TURNED, TURNED);
+    for (number = 0; number <= PLANKEEPER_SLOTS; number++) {
+        check_kind(PLANKEEPER_FOUND + number, FOUND);
+        EQUAL(PLANKEEPER_FOUND_COUNT(PLANKEEPER_FOUND + number), number);
+    }
     for (row = 0; row < 6; row++)
         for (outcome = PLANKEEPER_WAIT; outcome <= PLANKEEPER_ABORT; outcome++) {
             check_kind(NAMED[row][outcome], KINDS[row]);
@@ -717,10 +820,12 @@ int main(void)
     play_others();
     play_turned();
     play_brought();
+    play_findings();
     refuse_in_the_example();
     refuse_when_full();
     refuse_close_behind();
     refuse_turned();
+    refuse_to_find();
     play_shard();
     write_records();
     write_every_slot();

@@ -64,13 +64,14 @@ fn refusals() -> impl Iterator<Item = (String, u64)> {
         .map(|cause| (format!("REFUSED_{}", cause.name), cause.reply.code.into()))
 }
 
-const SIZES: [(&str, u64); 16] = [
-    ("WORDS", 8 * 2148),
-    ("SHARD_WORDS", 4 + 128 + 128 * 5 + 32 * 43),
+const SIZES: [(&str, u64); 17] = [
+    ("WORDS", 8 * 2404),
+    ("SHARD_WORDS", 4 + 128 + 128 * 5 + 32 * (43 + 8)),
     ("TRANSACTION_WORDS", 3 + 4 * 5 + 4 * 3),
     ("READING_WORDS", 7 + 35),
     ("TOKEN_WORDS", 5),
     ("KNOWN_WORDS", 35 + 8),
+    ("FINDINGS_WORDS", 4 * 2),
     ("REGISTER_LENGTH", 2 + 98),
     ("VOTE_LENGTH", 4 + 98),
     ("MINT_LENGTH", 11),
@@ -84,7 +85,7 @@ const SIZES: [(&str, u64); 16] = [
 ];
 
 /// Names whose numbers count up, from the first one's on.
-const ROWS: [(u64, &str); 7] = [
+const ROWS: [(u64, &str); 9] = [
     (0, "NUMBER INPUT_COUNT OUTPUT_COUNT"),
     (
         0,
@@ -99,6 +100,8 @@ const ROWS: [(u64, &str); 7] = [
     (1, "KIND_REGISTER KIND_VOTE KIND_MINT KIND_TURN"),
     (0, "NO YES"),
     (0, "WAIT COMMIT ABORT UNKNOWN"),
+    (1, "AVAILABLE NOT_HELD OTHER_OWNER OTHER_AMOUNT PLEDGED"),
+    (700, "FOUND"),
 ];
 
 /// Each name has its number, and there is no other name.

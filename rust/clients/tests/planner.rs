@@ -86,7 +86,7 @@ fn random_and_damaged_inputs() {
 }
 
 /// A text by hand: a pledge, refusals of the cluster, one of the reader, a pantry
-/// that is turned, and pantries with nothing.
+/// that is turned, inputs that spoil a swap, and pantries with nothing.
 #[test]
 fn a_text_by_hand() {
     let week = "opening pantry 0 position 3 household 9 portions 4\n\
@@ -94,15 +94,24 @@ fn a_text_by_hand() {
                 give pantry 1 household 9 portions 4\n\
                 register 8 at 0\nregister 8 at 2\n\
                 opening pantry 8 position 0 household 1 portions 1\n\
-                turn pantry 1\nturn pantry 1\n";
+                turn pantry 1\nturn pantry 1\n\
+                swap 9\n  take pantry 1 opening 3 household 9 portions 4\n  \
+                take pantry 0 opening 3 household 9 portions 4\n  \
+                take pantry 0 opening 4 household 9 portions 4\n  \
+                give pantry 0 household 9 portions 12\n\
+                register 9 at 0\n";
     let bytes = weektext::records(week.as_bytes()).expect("the week has no error");
     let mut expected = "1 0 OPENED\n2 0 YES WAIT\n\
         3 2 REFUSED 6: receiver or sender not among the swap's pantries\n\
         4 - REFUSED 3: field or count outside its range; pantry above 7; unused slot not zero\n\
         5 1 TURNED\n6 1 REFUSED 19: kind 4: this pantry is turned already\n\
-        pantry 0: tokens 1, portions 4, swaps 1\n  \
+        7 0 NO ABORT\n\
+        pantry 0: tokens 1, portions 4, swaps 2\n  \
         token 0/0/3: household 9, portions 4, pledged to swap 8\n  \
-        swap 8: WAIT, heard 0 yes\n\
+        swap 8: WAIT, heard 0 yes\n  \
+        swap 9: ABORT, heard 0 no\n    \
+        input 2: pledged to swap 8\n    \
+        input 3: not held\n\
         pantry 1: tokens 0, portions 0, swaps 0, turned\n"
         .to_owned();
     for pantry in 2..8 {

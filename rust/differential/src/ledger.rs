@@ -4,9 +4,9 @@
 use std::fmt::Debug;
 
 use engine::places::{ShardWords, name};
-use engine::{Call, State, Words, play, shards};
+use engine::{Call, State, UNSET, Words, findings_words, play, shards};
 use plankeeper::Ledger;
-use plankeeper::boundary::{ClusterMemory, Memory, ShardMemory, taken};
+use plankeeper::boundary::{ClusterMemory, FINDINGS_WORDS, Memory, ShardMemory, taken};
 use reference::{Answer, Cluster, LIMITS, Record, Refusal, Shard};
 use weeks::{Before, Case, Playable, View, changes_nothing};
 
@@ -176,10 +176,46 @@ impl<'a, M: Memory, R: Playable> Player<'a, M, R> {
         }
         if let Some(place) = place {
             self.compare_state(place);
+            self.compare_findings(place);
         }
         let (total, expected) = (self.engine.total(), self.reference.total());
         assert_eq!(total, expected, "total");
         Played { answer, before }
+    }
+
+    /// Asks the receiver for the findings of every transaction that it knows, and
+    /// for what it has to refuse: the number behind the last one's, which is
+    /// seldom known, and after each call another of those that never are.
+    fn compare_findings(&self, place: usize) {
+        let shard = &self.reference.shards()[place];
+        let number = shard.number();
+        for known in shard.known() {
+            self.compare_found(number.into(), known.transaction.number);
+        }
+        if let Some(known) = shard.known().last() {
+            let next = known.transaction.number.wrapping_add(1);
+            self.compare_found(number.into(), next);
+        }
+        let number = number.into();
+        let never = [(number, 0), (number, u32::MAX), (8, 1), (number + 256, 1)];
+        let (shard, transaction) = never[self.call as usize % never.len()];
+        self.compare_found(shard, transaction);
+    }
+
+    /// Compares the answer to the question for the findings of this number, and
+    /// all words that are lent for them.
+    fn compare_found(&self, shard: u32, number: u32) {
+        let mut words = [UNSET; FINDINGS_WORDS];
+        let code = self.engine.memory().findings(shard, number, &mut words);
+        // A word too wide stands for a shard that there is not.
+        let narrow = u8::try_from(shard).unwrap_or(u8::MAX);
+        let found = self.reference.findings(narrow, number);
+        let expected = findings_words(found, [UNSET; FINDINGS_WORDS]);
+        assert_eq!(
+            (code, words),
+            expected,
+            "findings of {number} at shard {shard}: {found:?}"
+        );
     }
 
     fn compare_state(&self, place: usize) {

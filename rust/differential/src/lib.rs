@@ -19,7 +19,7 @@ pub use compare::{
 pub use fields::{FIELDS, Field, encode};
 pub use generate::{damage, damage_byte, damage_transaction, record, transaction, vote};
 pub use ledger::{ClusterPlayer, Played, Player, ShardPlayer, view};
-pub use queries::{Questions, check_cluster, check_lone, check_none};
+pub use queries::{FOUND, Questions, check_cluster, check_lone, check_none, check_other};
 pub use samples::{
     base, mints_at_their_edges, records_with_every_front, sample_records, sample_transactions,
 };

@@ -1,10 +1,25 @@
 //! Every query of a shard, by words and through the types, beside the
 //! reference's state.
 
-use engine::{UNSET, outcome_code, to_words};
-use plankeeper::boundary::{KNOWN_WORDS, KnownWords, Memory, TokenWords};
+use engine::{UNSET, findings_words, outcome_code, to_words};
+use plankeeper::boundary::{
+    FINDINGS_WORDS, FindingsWords, KNOWN_WORDS, KnownWords, Memory, TokenWords,
+};
 use plankeeper::{Cluster, Outcome};
-use reference::{Known, Shard, Token, Verdict};
+use reference::{Finding, Findings, Known, Refusal, SLOTS, Shard, Token, Verdict};
+use weeks::{Tally, refused};
+
+/// What is lent for findings.
+const LENT: FindingsWords = [UNSET; FINDINGS_WORDS];
+
+/// What answers with so many findings are counted as.
+pub const FOUND: [&str; SLOTS + 1] = [
+    "no finding",
+    "one finding",
+    "two findings",
+    "three findings",
+    "four findings",
+];
 
 /// What is asked of a shard.
 pub struct Questions {
@@ -23,6 +38,7 @@ struct Words {
     known: usize,
     transactions: Vec<(u32, KnownWords)>,
     outcomes: Vec<u32>,
+    findings: Vec<(u32, FindingsWords)>,
     total: u64,
     turned: u32,
 }
@@ -33,6 +49,7 @@ struct Types {
     tokens: Vec<plankeeper::Token>,
     transactions: Vec<plankeeper::Known>,
     outcomes: Vec<Option<Outcome>>,
+    findings: Vec<Result<Vec<Finding>, Refusal>>,
     total: u64,
     turned: bool,
 }
@@ -54,6 +71,17 @@ impl Questions {
         }
     }
 
+    /// Counts how the questions for findings are answered at a shard in this
+    /// state, or at one that there is not.
+    pub fn count_found(&self, tally: &mut Tally, shard: Option<&Shard>) {
+        for &number in &self.numbers {
+            tally.add(match found_at(shard, number) {
+                Err(cause) => refused(cause.number()),
+                Ok(found) => FOUND[found.iter().flatten().count()],
+            });
+        }
+    }
+
     /// Answers by words, all of which are set beforehand.
     fn fill<const N: usize>(
         &self,
@@ -68,8 +96,16 @@ impl Questions {
             .collect()
     }
 
-    fn each<T>(&self, outcome: impl Fn(u32) -> T) -> Vec<T> {
-        self.numbers.iter().map(|&number| outcome(number)).collect()
+    fn each<T>(&self, told: impl Fn(u32) -> T) -> Vec<T> {
+        self.numbers.iter().map(|&number| told(number)).collect()
+    }
+
+    /// The codes and words of findings at this shard.
+    fn found(&self, shard: u32, memory: &impl Memory) -> Vec<(u32, FindingsWords)> {
+        self.each(|number| {
+            let mut words = LENT;
+            (memory.findings(shard, number, &mut words), words)
+        })
     }
 
     /// The words that the reference's state asks for.
@@ -94,6 +130,7 @@ impl Questions {
                 let found = known.find(|known| known.transaction.number == number);
                 found.map_or(3, |known| outcome_code(known.outcome()))
             }),
+            findings: self.each(|number| findings_words(found_at(shard, number), LENT)),
             total: tokens.iter().map(|token| u64::from(token.amount)).sum(),
             turned: shard.is_some_and(Shard::is_turned).into(),
         }
@@ -110,10 +147,20 @@ impl Questions {
                 found.map(|known| known.outcome)
             }),
             transactions,
+            findings: self.each(|number| {
+                let found = found_at(Some(shard), number);
+                found.map(|found| found.into_iter().flatten().collect())
+            }),
             total: shard.total(),
             turned: shard.is_turned(),
         }
     }
+}
+
+/// What the reference's shard has found, or one that there is not.
+fn found_at(shard: Option<&Shard>, number: u32) -> Result<Findings, Refusal> {
+    let shard = shard.ok_or(Refusal::OutOfRange)?;
+    shard.findings(shard.number(), number)
 }
 
 /// Compares every query of this shard in a cluster.
@@ -127,7 +174,7 @@ pub fn check_cluster(cluster: &Cluster, expected: &Shard) {
 
 /// Compares every query of a lone shard.
 pub fn check_lone(shard: &plankeeper::Shard, expected: &Shard) {
-    let questions = Questions::of(Some(expected));
+    let (number, questions) = (expected.number(), Questions::of(Some(expected)));
     let memory = shard.memory();
     let words = Words {
         held: memory.held_count(),
@@ -135,6 +182,7 @@ pub fn check_lone(shard: &plankeeper::Shard, expected: &Shard) {
         known: memory.known_count(),
         transactions: questions.fill(|k, words| memory.known_at(k, words)),
         outcomes: questions.each(|number| memory.outcome_of(number)),
+        findings: questions.found(memory.number(), memory),
         total: memory.total(),
         turned: memory.is_turned(),
     };
@@ -143,14 +191,23 @@ pub fn check_lone(shard: &plankeeper::Shard, expected: &Shard) {
         tokens: shard.tokens().collect(),
         transactions: shard.transactions().collect(),
         outcomes: questions.each(|number| shard.outcome(number)),
+        findings: questions.each(|asked| engine::findings(shard.findings(number, asked))),
         total: shard.total(),
         turned: shard.is_turned(),
     };
     assert_eq!(types, questions.expected_types(expected), "in types");
 }
 
-/// Sees that a shard that there is not, 8 or above, is an empty one; the
-/// questions are another shard's.
+/// Sees that a lone shard refuses questions about another one.
+pub fn check_other(shard: &plankeeper::Shard, other: u32, expected: &Shard) {
+    let questions = Questions::of(Some(expected));
+    let found = questions.found(other, shard.memory());
+    let refused = questions.each(|_| findings_words(Err(Refusal::OutOfRange), LENT));
+    assert_eq!(found, refused, "findings of shard {other}");
+}
+
+/// Sees that a shard that there is not, 8 or above, is an empty one, and that
+/// questions for findings there are refused; the questions are another shard's.
 pub fn check_none(cluster: &Cluster, number: u32, questions: &Questions) {
     let words = cluster_words(cluster, number, questions);
     assert_eq!(words, questions.expected(None), "shard {number} by words");
@@ -160,6 +217,7 @@ pub fn check_none(cluster: &Cluster, number: u32, questions: &Questions) {
             tokens: Vec::new(),
             transactions: Vec::new(),
             outcomes: questions.each(|_| None),
+            findings: questions.each(|_| Err(Refusal::OutOfRange)),
             total: 0,
             turned: false,
         };
@@ -175,6 +233,7 @@ fn cluster_words(cluster: &Cluster, shard: u32, questions: &Questions) -> Words 
         known: memory.known_count(shard),
         transactions: questions.fill(|k, words| memory.known_at(shard, k, words)),
         outcomes: questions.each(|number| memory.outcome_of(shard, number)),
+        findings: questions.found(shard, memory),
         total: memory.total_at(shard),
         turned: memory.is_turned(shard),
     }
@@ -185,6 +244,7 @@ fn cluster_types(cluster: &Cluster, shard: u8, questions: &Questions) -> Types {
         tokens: cluster.tokens(shard).collect(),
         transactions: cluster.transactions(shard).collect(),
         outcomes: questions.each(|number| cluster.outcome(shard, number)),
+        findings: questions.each(|number| engine::findings(cluster.findings(shard, number))),
         total: cluster.total_at(shard),
         turned: cluster.is_turned(shard),
     }

@@ -5,7 +5,7 @@ use engine::{answer_code, cluster};
 use reference::decode;
 use weeks::{
     BROUGHT, BROUGHT_LATER, CLUSTER_EVENTS, EARLY_ABORTS, Giver, SHARD_EVENTS, TURNS, cluster_week,
-    count_weeks, given_by, never_given_by,
+    count_weeks, finding_labels, given_by, never_given_by, second_cause_labels,
 };
 
 const WEEKS: u64 = 83_000;
@@ -49,6 +49,8 @@ fn random_weeks_of_a_cluster() {
     tally.check(&title, &BROUGHT, 10 * LEAST);
     tally.check(&title, &BROUGHT_LATER, LEAST);
     tally.check(&title, &CLUSTER_EVENTS, LEAST);
+    tally.check(&title, &finding_labels(), 10 * LEAST);
+    tally.check(&title, &second_cause_labels(), LEAST);
     tally.check_never(&title, &never_given_by(&[Giver::Cluster]));
 }
 

@@ -113,5 +113,5 @@ fn every_order_of_every_scenario() {
     let refused = [7, 8, 16, 17, 19].map(|number| format!("REFUSED {number}"));
     all.check(&title, &refused, 1000);
     all.check_never(&title, &never_given_by(&[Giver::Cluster]));
-    assert_eq!(orders, 691_966, "orders");
+    assert_eq!(orders, 707_273, "orders");
 }

@@ -1,7 +1,8 @@
 //! The local step of every registration, on the engine's states alone: the
 //! inputs of the shard, the available ones among them, the pledges and the
-//! message, as documents 000 and 01 have them. The reference only helps to make
-//! the weeks.
+//! message, as documents 000 and 01 have them; and what it has found of each
+//! input, as the engine keeps it and as it tells it (document 02, slip 2). The
+//! reference only helps to make the weeks.
 
 use differential::{Rng, SEED, shards, view};
 use engine::{Call, State, cluster};
@@ -9,8 +10,8 @@ use plankeeper::Ledger;
 use plankeeper::boundary::Memory;
 use reference::Record;
 use weeks::{
-    Case, Registration, Tally, changes_nothing, cluster_week, count_weeks, label, receiver,
-    registering, registration_labels, shard_week,
+    Case, Registration, Tally, changes_nothing, cluster_week, count_weeks, finding_labels, label,
+    receiver, registering, registration_labels, second_cause_labels, shard_week,
 };
 
 const CLUSTER_WEEKS: u64 = 5_000;
@@ -44,6 +45,11 @@ fn follow<M: Memory>(
         if let Some(registration) = Registration::of(handed, answer, view(&states[place])) {
             let fault = registration.fault(view(&after));
             assert_eq!(fault, None, "{registration:?}, and now {after:?}");
+            let number = registration.transaction().number;
+            let told = engine::findings(ledger.findings(receiver(handed), number));
+            let told = told.expect("it is known");
+            let true_ones = registration.found(told.iter());
+            assert!(true_ones, "{registration:?}, and found {told:?}");
             registration.count(tally);
             tally.add(label(answer));
             registrations += 1;
@@ -59,6 +65,8 @@ fn report(title: &str, (tally, registrations): (Tally, usize)) {
     assert!(registrations >= REGISTRATIONS, "{title} only");
     tally.report(&title, &registration_labels(), LEAST);
     tally.check(&title, &registering(), LEAST);
+    tally.check(&title, &finding_labels(), LEAST);
+    tally.check(&title, &second_cause_labels(), LEAST / 10);
 }
 
 #[test]

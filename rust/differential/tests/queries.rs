@@ -1,12 +1,15 @@
 //! Queries, asked after every call of the shard that received it.
 
+use std::collections::BTreeSet;
+
 use differential::{
-    Player, Questions, Rng, SEED, Shards, check_cluster, check_lone, check_none, full_shard_week,
-    shards,
+    FOUND, Player, Questions, Rng, SEED, Shards, check_cluster, check_lone, check_none,
+    check_other, full_shard_week, shards,
 };
-use reference::{Outcome, Record, SHARDS, Shard};
+use reference::{Finding, Outcome, Record, SHARDS, Shard};
 use weeks::{
-    ClusterStyle, Tally, Turns, cluster_week, cluster_week_of, count_weeks, receiver, shard_week,
+    ClusterStyle, Giver, Tally, Turns, cluster_week, cluster_week_of, count_weeks, given_by,
+    never_given_by, receiver, shard_week,
 };
 
 const WEEKS: u64 = 2_200;
@@ -30,6 +33,15 @@ const STATES: [&str; 14] = [
     "a transaction aborted",
     "a transaction aborted early",
     "32 transactions",
+];
+
+/// Findings that are told of.
+const TOLD: [&str; 5] = [
+    "an input found available",
+    "an input not held",
+    "an input of another owner",
+    "an input of another amount",
+    "an input that was pledged",
 ];
 
 /// Shards that there are not.
@@ -68,6 +80,22 @@ fn count(tally: &mut Tally, shard: &Shard) {
     for (label, _) in met {
         tally.add(label);
     }
+    count_told(tally, shard);
+}
+
+/// Counts which findings they tell.
+fn count_told(tally: &mut Tally, shard: &Shard) {
+    let findings = shard.known().iter().flat_map(|known| known.findings);
+    let told = findings.flatten().map(|finding| match finding {
+        Finding::Available => 0,
+        Finding::NotHeld => 1,
+        Finding::OtherOwner => 2,
+        Finding::OtherAmount => 3,
+        Finding::Pledged(_) => 4,
+    });
+    for kind in BTreeSet::from_iter(told) {
+        tally.add(TOLD[kind]);
+    }
 }
 
 /// Plays the week on a cluster and asks its shards.
@@ -85,9 +113,11 @@ fn ask_cluster(
         player.ask(|ours, reference| {
             let expected = &reference.shards()[place];
             check_cluster(ours, expected);
-            let none = NONE[call % NONE.len()];
-            check_none(ours, none, &Questions::of(Some(expected)));
+            let (none, questions) = (NONE[call % NONE.len()], Questions::of(Some(expected)));
+            check_none(ours, none, &questions);
             count(tally, expected);
+            questions.count_found(tally, Some(expected));
+            questions.count_found(tally, None);
         });
     }
     player.ask(|ours, reference| {
@@ -106,11 +136,15 @@ fn ask_shard(
     (number, records): (u8, Vec<Record>),
 ) -> usize {
     let mut player = Player::shard(week, &mut shards[usize::from(number)]);
-    for record in &records {
+    let others = (0..8).filter(|&other| other != u32::from(number));
+    let others: Vec<u32> = others.chain(NONE).collect();
+    for (call, record) in records.iter().enumerate() {
         player.call(record);
         player.ask(|ours, expected| {
             check_lone(ours, expected);
+            check_other(ours, others[call % others.len()], expected);
             count(tally, expected);
+            Questions::of(Some(expected)).count_found(tally, Some(expected));
         });
     }
     records.len()
@@ -133,6 +167,16 @@ fn full_cluster_week(rng: &mut Rng) -> Vec<Record> {
     cluster_week_of(rng, style)
 }
 
+/// Fails if a kind of state was not met often enough, or an answer to a question
+/// for findings.
+fn report(title: &str, tally: &Tally) {
+    tally.report(title, &STATES, LEAST);
+    tally.check(title, &TOLD, LEAST);
+    tally.check(title, &FOUND, LEAST);
+    tally.check(title, &given_by(&[Giver::Findings]), LEAST);
+    tally.check_never(title, &never_given_by(&[Giver::Findings]));
+}
+
 #[test]
 fn queries_of_a_cluster() {
     let (tally, calls) = count_weeks(WEEKS, engine::cluster, |cluster, tally, week| {
@@ -144,8 +188,10 @@ fn queries_of_a_cluster() {
         };
         ask_cluster(cluster, tally, week, &records)
     });
-    let title = format!("queries of a cluster, after {calls} calls");
-    tally.report(&title, &STATES, LEAST);
+    report(
+        &format!("queries of a cluster, after {calls} calls"),
+        &tally,
+    );
 }
 
 #[test]
@@ -159,6 +205,5 @@ fn queries_of_a_shard() {
         };
         ask_shard(shards, tally, week, calls)
     });
-    let title = format!("queries of a shard, after {calls} calls");
-    tally.report(&title, &STATES, LEAST);
+    report(&format!("queries of a shard, after {calls} calls"), &tally);
 }

@@ -4,7 +4,7 @@ use differential::{Player, Rng, SEED, Shards, full_shard_week, shards};
 use reference::Record;
 use weeks::{
     BROUGHT, BROUGHT_LATER, EARLY_ABORTS, Giver, Playable, SHARD_EVENTS, TURNS, Tally, count_weeks,
-    given_by, never_given_by, shard_week,
+    finding_labels, given_by, never_given_by, second_cause_labels, shard_week,
 };
 
 const WEEKS: u64 = 61_000;
@@ -47,6 +47,8 @@ fn random_weeks_of_a_shard() {
     tally.check(&title, &TURNS, LEAST);
     tally.check(&title, &BROUGHT, LEAST);
     tally.check(&title, &BROUGHT_LATER, LEAST / 10);
+    tally.check(&title, &finding_labels(), LEAST);
+    tally.check(&title, &second_cause_labels(), LEAST / 20);
     tally.check_never(&title, &never_given_by(&[Giver::Shard]));
 }
 

@@ -11,6 +11,7 @@
 mod answers;
 mod calls;
 mod codec;
+mod findings;
 mod memory;
 pub mod places;
 #[allow(unsafe_code)]
@@ -22,6 +23,7 @@ mod words;
 pub use answers::{answer, answer_code, outcome_code};
 pub use calls::{Call, Words, play};
 pub use codec::{reading, write};
+pub use findings::{findings, findings_words};
 pub use memory::{UNSET, cluster, shard, shards};
 pub use state::State;
 pub use views::{tokens, transactions};

@@ -5,7 +5,7 @@
 use std::ops::Range;
 
 /// Words of a shard's memory.
-pub const SHARD_WORDS: usize = 2148;
+pub const SHARD_WORDS: usize = 2404;
 /// Words of a transaction.
 pub const TRANSACTION_WORDS: usize = 35;
 
@@ -30,10 +30,17 @@ pub(crate) const TOKENS: Range<usize> = 132..772;
 /// Words of a token: creator, index, owner, amount and pledge.
 pub(crate) const TOKEN_WORDS: usize = 5;
 /// The places for known transactions.
-pub(crate) const TRANSACTIONS: Range<usize> = 772..2148;
+pub(crate) const TRANSACTIONS: Range<usize> = 772..2404;
 /// Words of a known transaction: those of the transaction, then the verdict
-/// heard from each sender.
-pub(crate) const KNOWN_WORDS: usize = 43;
+/// heard from each sender, then the findings.
+pub(crate) const KNOWN_WORDS: usize = 51;
+/// The verdicts heard on a known transaction.
+pub(crate) const HEARD: Range<usize> = 35..43;
+/// What was found of a known transaction's inputs here.
+pub(crate) const FINDINGS: Range<usize> = 43..51;
+/// Words of a finding: what was found, and the number of the transaction that
+/// the token was pledged to, if that is it.
+pub(crate) const FINDING_WORDS: usize = 2;
 
 /// A transaction's inputs.
 pub(crate) const INPUTS: Range<usize> = 3..23;
@@ -58,6 +65,7 @@ pub fn is_byte(place: usize) -> bool {
 /// What the word at this place of a shard's memory is.
 pub fn name(place: usize) -> String {
     const TOKEN: [&str; TOKEN_WORDS] = ["creator", "index", "owner", "amount", "pledge"];
+    const FINDING: [&str; FINDING_WORDS] = ["what was found", "pledging transaction"];
     match place {
         NUMBER => "number".into(),
         HELD => "tokens held".into(),
@@ -75,9 +83,17 @@ pub fn name(place: usize) -> String {
         _ => {
             let word = place - TRANSACTIONS.start;
             let (known, part) = (word / KNOWN_WORDS, word % KNOWN_WORDS);
-            match part.checked_sub(TRANSACTION_WORDS) {
-                Some(sender) => format!("transaction {known}, verdict of shard {sender}"),
-                None => format!("transaction {known}, word {part}"),
+            match part {
+                0..35 => format!("transaction {known}, word {part}"),
+                35..43 => {
+                    let sender = part - HEARD.start;
+                    format!("transaction {known}, verdict of shard {sender}")
+                }
+                _ => {
+                    let word = part - FINDINGS.start;
+                    let (finding, word) = (word / FINDING_WORDS, word % FINDING_WORDS);
+                    format!("transaction {known}, finding {finding}, {}", FINDING[word])
+                }
             }
         }
     }

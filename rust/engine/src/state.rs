@@ -3,10 +3,12 @@
 use std::array;
 use std::fmt::Debug;
 
-use reference::{GENESIS, Known, Shard, Token, Verdict};
+use reference::{Finding, Findings, GENESIS, Known, SLOTS, Shard, Token, Transaction, Verdict};
 
+use crate::findings::finding;
 use crate::places::{
-    FLAGS, HELD, KNOWN, KNOWN_WORDS, NUMBER, ShardWords, TOKEN_WORDS, TOKENS, TRANSACTIONS, TURNED,
+    FINDINGS, FLAGS, HEARD, HELD, KNOWN, KNOWN_WORDS, NUMBER, ShardWords, TOKEN_WORDS, TOKENS,
+    TRANSACTIONS, TURNED,
 };
 use crate::words::{byte, from_words};
 
@@ -55,6 +57,7 @@ impl State {
         self.tokens.extend(tokens.iter().map(token));
         self.known.clear();
         let transactions = used::<KNOWN_WORDS>(&words[TRANSACTIONS], words[KNOWN]);
+        let known = |words| known(self.number, words);
         self.known.extend(transactions.iter().map(known));
     }
 
@@ -85,17 +88,35 @@ fn token(&[creator, index, owner, amount, pledge]: &[u32; TOKEN_WORDS]) -> Token
     }
 }
 
-fn known(words: &[u32; KNOWN_WORDS]) -> Known {
-    let (transaction, heard) = words.split_first_chunk().expect("a transaction's words");
+/// A transaction that the shard of this number knows.
+fn known(shard: u8, words: &[u32; KNOWN_WORDS]) -> Known {
+    let transaction = words.first_chunk().expect("a transaction's words");
+    let (transaction, heard) = (from_words(transaction), &words[HEARD]);
     Known {
-        transaction: from_words(transaction),
         heard: array::from_fn(|sender| match heard[sender] {
             0 => None,
             1 => Some(Verdict::No),
             2 => Some(Verdict::Yes),
             other => panic!("the engine heard verdict {other}"),
         }),
+        findings: findings(shard, &transaction, &words[FINDINGS]),
+        transaction,
     }
+}
+
+/// As many as the transaction has inputs at the shard. In places behind them
+/// there stands what an available input has.
+fn findings(shard: u8, transaction: &Transaction, words: &[u32]) -> Findings {
+    let inputs = transaction.used_inputs().iter();
+    let here = inputs.filter(|input| input.token.shard == shard).count();
+    let (places, _) = words.as_chunks();
+    let found: [Finding; SLOTS] = array::from_fn(|place| finding(places[place]));
+    let mut behind = found[here..].iter();
+    assert!(
+        behind.all(|&finding| finding == Finding::Available),
+        "the engine found {found:?} of {here} inputs"
+    );
+    array::from_fn(|place| (place < here).then_some(found[place]))
 }
 
 fn first<T: PartialEq + Debug>(what: &str, engine: &[T], expected: &[T]) -> Option<String> {

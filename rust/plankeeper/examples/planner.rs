@@ -1,5 +1,6 @@
 //! Plays a week's records on a fresh cluster: a line for each record, then what
-//! every shard holds and knows at the end, then the sum of all amounts.
+//! every shard holds and knows at the end, with the inputs that it found to spoil
+//! a transaction, then the sum of all amounts.
 //!
 //! What it prints speaks document 01's words (pantry, swap, household,
 //! portions), for the people of that trade read it.
@@ -10,12 +11,13 @@ use std::fs;
 use std::io::{self, BufWriter, Read, Write};
 use std::process::ExitCode;
 
-use plankeeper::{Cluster, Known, Token, Verdict, records};
+use plankeeper::{Cluster, Finding, Known, Token, Verdict, records};
 
 const USAGE: &str = "usage: planner [FILE]
 
 Plays a week's records, from FILE or from standard input where none is named,
-and prints each answer, what each pantry then holds and knows, and the total.
+and prints each answer, what each pantry then holds and knows, the inputs that
+it found to spoil a swap, and the total.
 Exit status: 0; 1 if something cannot be read or written; 2 bad usage.";
 
 fn main() -> ExitCode {
@@ -84,6 +86,9 @@ fn report(bytes: &[u8], mut out: impl Write) -> io::Result<()> {
         }
         for known in known {
             writeln!(out, "  {}", transaction_line(&known))?;
+            for line in spoilt_lines(&cluster, shard, &known) {
+                writeln!(out, "    {line}")?;
+            }
         }
     }
     writeln!(out, "TOTAL {}", cluster.total())?;
@@ -117,4 +122,27 @@ fn transaction_line(known: &Known) -> String {
         "swap {number}: {outcome}, heard{}",
         heard.collect::<String>()
     )
+}
+
+/// The inputs there that were not available when the transaction was registered,
+/// by their places among all its inputs.
+fn spoilt_lines(cluster: &Cluster, shard: u8, known: &Known) -> Vec<String> {
+    let Ok(findings) = cluster.findings(shard, known.transaction.number()) else {
+        return Vec::new();
+    };
+    let inputs = (1..).zip(known.transaction.inputs());
+    let here = inputs.filter(|(_, input)| input.token.shard == shard);
+    let lines = here
+        .zip(findings.iter())
+        .filter_map(|((place, _), finding)| {
+            let words = match finding {
+                Finding::Available => return None,
+                Finding::NotHeld => "not held".into(),
+                Finding::OtherOwner => "other household".into(),
+                Finding::OtherAmount => "other portions".into(),
+                Finding::Pledged(number) => format!("pledged to swap {number}"),
+            };
+            Some(format!("input {place}: {words}"))
+        });
+    lines.collect()
 }

@@ -94,7 +94,7 @@ impl Outcome {
 /// assert_eq!(answer_code(&Ok(Answer::Heard(Outcome::Commit))), 301);
 /// assert_eq!(answer_code(&Err(Refusal::SumsDiffer)), 5);
 /// assert_eq!(answer_from_code(301), Some(Ok(Answer::Heard(Outcome::Commit))));
-/// assert_eq!(answer_from_code(18), None);
+/// assert_eq!(answer_from_code(20), None);
 /// ```
 #[inline]
 pub fn answer_code(answer: &Result<Answer, Refusal>) -> u32 {

@@ -70,7 +70,8 @@ impl Cluster {
     }
 
     /// The sum of the amounts that the shard holds. A shard above 7 is an empty
-    /// one, here and in the other queries.
+    /// one, here and in the other queries; [`findings`](Ledger::findings) alone
+    /// refuses it.
     pub fn total_at(&self, shard: u8) -> u64 {
         self.memory().total_at(shard.into())
     }

@@ -1,8 +1,9 @@
 //! What a cluster and a lone shard have in common.
 
 use crate::answer::answered;
-use crate::boundary::Memory;
-use crate::{Answer, Record, Refusal, Transaction, Verdict};
+use crate::boundary::{FINDINGS_WORDS, Memory};
+use crate::finding::found;
+use crate::{Answer, Findings, Record, Refusal, Transaction, Verdict};
 
 /// Tokens and transactions in some memory, and the calls that change them:
 /// [`Cluster`](crate::Cluster) and [`Shard`](crate::Shard) are ledgers, each
@@ -193,6 +194,40 @@ impl<M: Memory> Ledger<M> {
     #[inline]
     pub fn turn(&mut self, receiver: u8) -> Result<Answer, Refusal> {
         answered(self.memory.turn(receiver.into()))
+    }
+
+    /// What the shard found of the inputs there when it registered the
+    /// transaction that it knows by this number, by a call of its own or by a
+    /// vote (document 02, 2): a finding for each, in their order. It stays what it
+    /// was then, whatever becomes of the tokens. Refused with 3 where there is no
+    /// such shard (a lone one knows of itself alone) or the number is 0, and
+    /// with 18 where the number is not known there.
+    ///
+    /// ```
+    /// use plankeeper::{Cluster, Finding, Input, Output, Refusal, TokenId, Transaction};
+    ///
+    /// let take = |index| Input {
+    ///     token: TokenId { shard: 0, creator: 0, index },
+    ///     owner: 10,
+    ///     amount: 3,
+    /// };
+    /// let give = |amount| Output { shard: 1, owner: 20, amount };
+    /// let first = Transaction::new(5).input(take(0)).output(give(3));
+    /// let second = Transaction::new(6).input(take(1)).input(take(0)).output(give(6));
+    ///
+    /// let mut cluster = Cluster::new();
+    /// cluster.mint(0, 0, 10, 3)?;
+    /// cluster.register(0, &first)?;
+    /// assert_eq!(*cluster.findings(0, 5)?, [Finding::Available]);
+    /// assert_eq!(cluster.register(0, &second)?.to_string(), "NO ABORT");
+    /// assert_eq!(*cluster.findings(0, 6)?, [Finding::NotHeld, Finding::Pledged(5)]);
+    /// assert_eq!(cluster.findings(1, 6), Err(Refusal::NoSuchNumber));
+    /// # Ok::<(), Refusal>(())
+    /// ```
+    pub fn findings(&self, shard: u8, number: u32) -> Result<Findings, Refusal> {
+        let mut words = [0; FINDINGS_WORDS];
+        let code = self.memory.findings(shard.into(), number, &mut words);
+        found(code, &words)
     }
 
     /// Makes the call that the record stands for.

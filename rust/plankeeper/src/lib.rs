@@ -74,6 +74,9 @@
 //! the first vote on it that is delivered there: see
 //! [`deliver`](Ledger::deliver).
 //!
+//! Which token has spoiled a transaction, [`findings`](Ledger::findings) tells:
+//! a shard keeps what it found of each input there when it registered it.
+//!
 //! Calls may also come as bytes: [`Record`] writes them, [`read`] and
 //! [`records`] read them, [`Cluster::apply`] reads one and makes its call. The
 //! example `planner` plays a file of records and shows what each shard holds.
@@ -99,6 +102,7 @@ mod answer;
 pub mod boundary;
 mod cluster;
 mod defect;
+mod finding;
 mod ledger;
 mod query;
 mod reading;
@@ -111,6 +115,7 @@ mod transaction;
 
 pub use answer::{Answer, Outcome, Verdict, answer_code, answer_from_code};
 pub use cluster::Cluster;
+pub use finding::{Finding, Findings};
 pub use ledger::Ledger;
 pub use query::{Known, Token};
 pub use reading::{Reading, Records, read, records};

@@ -26,7 +26,8 @@ pub enum Refusal {
     /// 2: there are no bytes, or fewer than the kind's length.
     TooShort = 2,
     /// 3: a field or a count is outside its range, or an unused slot is not
-    /// zero; at a lone shard also a call for another shard.
+    /// zero; at a lone shard also a call for another shard, or a question about
+    /// one.
     OutOfRange = 3,
     /// 4: one token is named by two inputs.
     TokenTwice = 4,
@@ -61,13 +62,15 @@ pub enum Refusal {
     /// and not decided yet is to make one of the inputs here. Hand it in again
     /// once that one is decided here, which the first no on it is enough for.
     HeldOff = 17,
+    /// 18, findings: the number is not known at that shard.
+    NoSuchNumber = 18,
     /// 19, turn: this shard is turned already.
     TurnedAlready = 19,
 }
 
 impl Refusal {
     /// Every cause, in the order of the numbers.
-    pub const ALL: [Refusal; 18] = [
+    pub const ALL: [Refusal; 19] = [
         Refusal::UnknownKind,
         Refusal::TooShort,
         Refusal::OutOfRange,
@@ -85,6 +88,7 @@ impl Refusal {
         Refusal::BufferTooShort,
         Refusal::VoteNotGiven,
         Refusal::HeldOff,
+        Refusal::NoSuchNumber,
         Refusal::TurnedAlready,
     ];
 
@@ -135,6 +139,7 @@ impl Display for Refusal {
             Refusal::BufferTooShort => "writer: lent bytes fewer than the record",
             Refusal::VoteNotGiven => "round, kind 2: sender has not given this vote on this swap",
             Refusal::HeldOff => "kind 1 or 2: takes what an undecided swap is to make here",
+            Refusal::NoSuchNumber => "findings: number not known at that pantry",
             Refusal::TurnedAlready => "kind 4: this pantry is turned already",
         })
     }

@@ -2,6 +2,7 @@
 
 use std::array;
 
+use crate::finding::Findings;
 use crate::shard::{Answer, Limits, Shard};
 use crate::transaction::{SHARDS, Transaction};
 use crate::{Record, Refusal, Refusal::*};
@@ -87,6 +88,13 @@ impl Cluster {
     /// slip 4). The others stay as they are: shards may turn at different times.
     pub fn turn(&mut self, receiver: u8) -> Answer {
         self.shard(receiver)?.turn(receiver)
+    }
+
+    /// What one shard's registration of the transaction with this number found
+    /// of its inputs there (document 02, slip 2: a steward's call).
+    pub fn findings(&self, shard: u8, number: u32) -> Result<Findings, Refusal> {
+        let asked = self.shards.get(usize::from(shard)).ok_or(OutOfRange)?;
+        asked.findings(shard, number)
     }
 
     fn shard(&mut self, number: u8) -> Result<&mut Shard, Refusal> {

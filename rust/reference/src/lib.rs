@@ -11,6 +11,7 @@
 #![warn(missing_docs)]
 
 mod cluster;
+mod finding;
 mod listing;
 mod record;
 mod refusal;
@@ -18,6 +19,7 @@ mod shard;
 mod transaction;
 
 pub use cluster::Cluster;
+pub use finding::{Finding, Findings};
 pub use listing::{list, listing};
 pub use record::{
     MINT_LENGTH, REGISTER_LENGTH, Reading, Record, TURN_LENGTH, VOTE_LENGTH, decode, encode, read,

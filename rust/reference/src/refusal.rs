@@ -40,6 +40,8 @@ pub enum Refusal {
     VoteNotGiven = 16,
     /// Entering: an undecided transaction known here is to make an input here.
     HeldOff = 17,
+    /// Findings: the number is not known at that shard.
+    NoSuchNumber = 18,
     /// Turn: this shard is turned already.
     TurnedAlready = 19,
 }
@@ -70,6 +72,7 @@ impl Refusal {
             15 => Self::BufferTooShort,
             16 => Self::VoteNotGiven,
             17 => Self::HeldOff,
+            18 => Self::NoSuchNumber,
             19 => Self::TurnedAlready,
             _ => return None,
         })

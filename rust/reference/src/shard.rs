@@ -1,7 +1,8 @@
 //! One shard's ledger (document 01: a pantry).
 
+use crate::finding::{Finding, Findings};
 use crate::transaction::{
-    GENESIS, Input, MAX_SHARD, Output, SHARDS, TokenId, Transaction, cause, holding_fits,
+    GENESIS, Input, MAX_SHARD, Output, SHARDS, SLOTS, TokenId, Transaction, cause, holding_fits,
     takes_part,
 };
 use crate::{Record, Refusal, Refusal::*};
@@ -101,6 +102,9 @@ pub struct Known {
     pub transaction: Transaction,
     /// The verdicts heard, by sender, the shard's own included.
     pub heard: [Option<Verdict>; SHARDS],
+    /// What the registration found of the inputs here, right before it pledged
+    /// any (document 02, slip 2).
+    pub findings: Findings,
 }
 
 /// One shard's ledger.
@@ -291,6 +295,16 @@ impl Shard {
         Ok(Done::Turned)
     }
 
+    /// What the registration of the transaction with this number found of its
+    /// inputs here (document 02, slip 2: a steward's call). It changes nothing.
+    pub fn findings(&self, shard: u8, number: u32) -> Result<Findings, Refusal> {
+        if shard != self.number || number == 0 {
+            return Err(OutOfRange);
+        }
+        let place = self.find(number).ok_or(NoSuchNumber)?;
+        Ok(self.known[place].findings)
+    }
+
     /// The checks of a vote that its fields and this shard's number decide,
     /// refusals 3 to 6; the cluster has one of its own behind them.
     pub(crate) fn check_vote(
@@ -365,12 +379,14 @@ impl Shard {
     /// Gives that and the outcome.
     fn enter(&mut self, transaction: &Transaction) -> Result<(Verdict, Outcome), Refusal> {
         self.check_entry(transaction)?;
+        let findings = self.look(transaction);
         let verdict = self.pledge(transaction);
         let mut heard = [None; SHARDS];
         heard[usize::from(self.number)] = Some(verdict);
         self.known.push(Known {
             transaction: *transaction,
             heard,
+            findings,
         });
         Ok((verdict, self.decide(self.known.len() - 1)))
     }
@@ -439,6 +455,27 @@ impl Shard {
         token.shard == self.number
             && creator.outcome() == Outcome::Wait
             && outputs.any(|(index, _)| index == token.index)
+    }
+
+    /// What there is to be found of each input here.
+    fn look(&self, transaction: &Transaction) -> Findings {
+        let inputs = transaction.used_inputs().iter();
+        let here = inputs.filter(|input| input.token.shard == self.number);
+        let mut findings = [None; SLOTS];
+        for (place, input) in findings.iter_mut().zip(here) {
+            *place = Some(self.look_at(input));
+        }
+        findings
+    }
+
+    fn look_at(&self, input: &Input) -> Finding {
+        let mut tokens = self.tokens.iter();
+        match tokens.find(|token| token.is_named(self.number, input.token)) {
+            None => Finding::NotHeld,
+            Some(token) if token.owner != input.owner => Finding::OtherOwner,
+            Some(token) if token.amount != input.amount => Finding::OtherAmount,
+            Some(token) => token.pledge.map_or(Finding::Available, Finding::Pledged),
+        }
     }
 
     /// Pledges every available input here, also beside one that is not, and

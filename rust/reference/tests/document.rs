@@ -196,6 +196,5 @@ fn shards_that_take_part() {
 fn refusals_have_the_numbers_of_the_documents() {
     let known = (0..=255).filter_map(Refusal::from_number);
     let numbers: Vec<u8> = known.map(Refusal::number).collect();
-    let documents: Vec<u8> = (1..=17).chain([19]).collect();
-    assert_eq!(numbers, documents);
+    assert_eq!(numbers, Vec::from_iter(1..=19));
 }

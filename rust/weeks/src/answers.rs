@@ -20,6 +20,9 @@ pub enum Giver {
     Shard,
     /// The calls on a cluster.
     Cluster,
+    /// The question for findings, at a lone shard and in a cluster. It changes
+    /// nothing, and is none of the calls.
+    Findings,
 }
 
 /// An answer.
@@ -37,8 +40,8 @@ pub struct Reply {
     pub label: &'static str,
     /// A letter for each who gives it, none where it cannot be: r for the
     /// reader, w for the writers, m for a mint, g for a registration, v for a
-    /// vote, t for a turn; s for a vote at a lone shard alone, c for one in a
-    /// cluster alone.
+    /// vote, t for a turn, f for a question for findings; s for a vote at a lone
+    /// shard alone, c for one in a cluster alone.
     givers: &'static str,
 }
 
@@ -138,7 +141,8 @@ macro_rules! cause {
 
 /// Every cause of refusal, in the order of the numbers. The reader checks 1 to
 /// 5, the writers 3 to 5 and 15, a call from 3 on; a mint and a turn have no
-/// transaction, so neither 4 nor 5 nor 6. A registration and a vote that brings
+/// transaction, so neither 4 nor 5 nor 6, and a question for findings has 3 and
+/// 18 alone. A registration and a vote that brings
 /// its transaction look for 9, 10 and 17, in this order and last. In a cluster
 /// 16 goes before 12, and before 11, which is the answer to a shard's own vote
 /// on a number that it does not know. A row is a line.
@@ -146,7 +150,7 @@ macro_rules! cause {
 pub const CAUSES: &[Cause] = &[
     cause!(1, UnknownKind, "r", "UNKNOWN_KIND", "kind not 1 to 4"),
     cause!(2, TooShort, "r", "TOO_SHORT", "no bytes, or fewer than the kind's length"),
-    cause!(3, OutOfRange, "rwmgvt", "OUT_OF_RANGE", "field or count outside its range; pantry above 7; unused slot not zero"),
+    cause!(3, OutOfRange, "rwmgvtf", "OUT_OF_RANGE", "field or count outside its range; pantry above 7; unused slot not zero"),
     cause!(4, TokenTwice, "rwgv", "TOKEN_TWICE", "one token named twice"),
     cause!(5, SumsDiffer, "rwgv", "SUMS_DIFFER", "sums differ"),
     cause!(6, NotTakingPart, "gv", "NOT_TAKING_PART", "receiver or sender not among the swap's pantries"),
@@ -161,6 +165,7 @@ pub const CAUSES: &[Cause] = &[
     cause!(15, BufferTooShort, "w", "BUFFER_TOO_SHORT", "writer: lent bytes fewer than the record"),
     cause!(16, VoteNotGiven, "c", "VOTE_NOT_GIVEN", "round, kind 2: sender has not given this vote on this swap"),
     cause!(17, HeldOff, "gv", "HELD_OFF", "kind 1 or 2: takes what an undecided swap is to make here"),
+    cause!(18, NoSuchNumber, "f", "NO_SUCH_NUMBER", "findings: number not known at that pantry"),
     cause!(19, TurnedAlready, "t", "TURNED_ALREADY", "kind 4: this pantry is turned already"),
 ];
 
@@ -172,6 +177,7 @@ impl Giver {
             Giver::Writer => &['w'],
             Giver::Shard => &['m', 'g', 'v', 't', 's'],
             Giver::Cluster => &['m', 'g', 'v', 't', 'c'],
+            Giver::Findings => &['f'],
         }
     }
 }

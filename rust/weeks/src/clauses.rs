@@ -5,9 +5,11 @@
 use std::collections::btree_map::Entry as Place;
 use std::collections::{BTreeMap, BTreeSet};
 
-use reference::{Cluster, Input, Known, Outcome, Record, SHARDS, Token, Transaction, Verdict};
+use reference::{
+    Cluster, Finding, Input, Known, Outcome, Record, SHARDS, Token, Transaction, Verdict,
+};
 
-use crate::local::{available_here, inputs_here};
+use crate::local::{available_here, findings_here, inputs_here};
 
 /// What the clauses look at in one shard.
 #[derive(Clone, Copy, Debug, PartialEq)]
@@ -125,6 +127,7 @@ impl Clauses {
         assert_eq!(last.transaction, *transaction, "known last");
         let own = last.heard[usize::from(shard)];
         assert!(own.is_some(), "it has no vote of its own");
+        check_findings(shard, last, before);
         self.log.push(Entry {
             shard,
             transaction: *transaction,
@@ -297,14 +300,31 @@ impl Clauses {
 /// receiver: by its own call, or by a vote on a number that was not known
 /// there.
 fn registered<'a>(record: &'a Record, before: &Kept) -> Option<&'a Transaction> {
-    let numbered = |number| {
-        let mut known = before.known.iter();
-        known.any(|known| known.transaction.number == number)
-    };
+    let is_known = |number| knows(&before.known, number);
     match record {
         Record::Register { transaction, .. } => Some(transaction),
-        Record::Vote { transaction, .. } if !numbered(transaction.number) => Some(transaction),
+        Record::Vote { transaction, .. } if !is_known(transaction.number) => Some(transaction),
         Record::Vote { .. } | Record::Mint { .. } | Record::Turn { .. } => None,
+    }
+}
+
+/// Whether a transaction of this number is among them.
+pub(crate) fn knows(known: &[Known], number: u32) -> bool {
+    let mut numbers = known.iter().map(|known| known.transaction.number);
+    numbers.any(|other| other == number)
+}
+
+/// What a registration has found of the inputs here is what the shard was before
+/// it (document 02, slip 2); a token that is pledged was so to a transaction
+/// known before.
+fn check_findings(shard: u8, registered: &Known, before: &Kept) {
+    let found = findings_here(&inputs_here(shard, &registered.transaction), &before.tokens);
+    let kept: Vec<Finding> = registered.findings.iter().copied().flatten().collect();
+    assert_eq!(kept, found, "findings: kept, and the tokens before");
+    for finding in kept {
+        if let Finding::Pledged(number) = finding {
+            assert!(knows(&before.known, number), "pledged to an unknown one");
+        }
     }
 }
 
@@ -365,12 +385,14 @@ fn check_pledges(registered: Option<&Transaction>, before: &Kept, now: View) {
     }
 }
 
-/// A verdict heard stays, and so does the decision, while votes still come in.
+/// A verdict heard stays, and so does the decision, while votes still come in;
+/// and so does what the registration has found.
 fn check_finality(earlier: &Known, known: &Known) {
     assert_eq!(
         known.transaction, earlier.transaction,
         "known in another order"
     );
+    assert_eq!(known.findings, earlier.findings, "findings have changed");
     for (now, before) in known.heard.iter().zip(earlier.heard) {
         assert!(before.is_none() || *now == before, "a verdict has changed");
     }

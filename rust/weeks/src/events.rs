@@ -1,12 +1,13 @@
 //! What happened at a call, beside its answer.
 
 use reference::{
-    Answer, Done, Input, Known, LIMITS, Outcome, Output, Record, Refusal, SHARDS, Shard, Token,
-    TokenId, Transaction, Verdict, takes_part,
+    Answer, Done, Finding, Input, Known, LIMITS, Outcome, Output, Record, Refusal, SHARDS, Shard,
+    Token, TokenId, Transaction, Verdict, takes_part,
 };
 
 use crate::answers::label;
 use crate::brought::Bringing;
+use crate::findings::{self, Way};
 use crate::local::{available_here, inputs_here};
 use crate::tally::Tally;
 use crate::transactions::{held, inputs_at, is_all_heard, known, outputs_at, receiver};
@@ -252,6 +253,7 @@ impl Events<'_> {
     /// A transaction was registered, by a call or by a vote that is still to be
     /// heard.
     fn enter(&mut self, call: &Carried) {
+        self.count_findings(call);
         let entered = call.entered();
         let takes = inputs_at(call.shard.number(), call.transaction)
             .next()
@@ -276,6 +278,19 @@ impl Events<'_> {
         }
         self.count_let_through(call);
         self.decide(call, entered.outcome());
+    }
+
+    /// What it has found of its inputs here.
+    fn count_findings(&mut self, call: &Carried) {
+        let way = if call.is_brought() {
+            Way::Brought
+        } else {
+            Way::Registered
+        };
+        let inputs = inputs_here(call.shard.number(), call.transaction);
+        let kept = call.known().findings;
+        let found: Vec<Finding> = kept.into_iter().flatten().collect();
+        findings::count(self.tally, way, &inputs, &found, &call.before.tokens);
     }
 
     /// What a no has pledged: what was available, and at a turned shard it is
@@ -483,6 +498,7 @@ impl Carried<'_> {
         Known {
             transaction: *self.transaction,
             heard,
+            findings: self.known().findings,
         }
     }
 

@@ -2,11 +2,12 @@
 //! first the inputs of this shard, then the available ones among them, then the
 //! pledges, then the message. Each is taken from those before it and from the
 //! tokens held before the call, in document 01's words; nothing the reference
-//! computes is used.
+//! computes is used. Beside them stands what document 02's slip 2 has a shard
+//! keep: what it finds of each of the inputs.
 
-use reference::{Input, Token, Transaction, Verdict};
+use reference::{Finding, Input, Token, Transaction, Verdict};
 
-use crate::transactions::inputs_at;
+use crate::transactions::{held, inputs_at};
 
 /// The inputs of this shard, in their order: I(S, τ).
 pub fn inputs_here(shard: u8, transaction: &Transaction) -> Vec<Input> {
@@ -43,7 +44,29 @@ pub fn verdict(inputs: &[Input], available: &[Input]) -> Verdict {
     }
 }
 
-/// What the four yield, one behind the other.
+/// What is found of each of the inputs here: the first that fits, in document
+/// 02's order, and available where none does.
+pub fn findings_here(inputs: &[Input], tokens: &[Token]) -> Vec<Finding> {
+    let found = |input: &Input| {
+        let token = held(tokens, input.token);
+        let pledge = token.and_then(|token| token.pledge);
+        let fitting = [
+            token.is_none().then_some(Finding::NotHeld),
+            token
+                .is_some_and(|token| token.owner != input.owner)
+                .then_some(Finding::OtherOwner),
+            token
+                .is_some_and(|token| token.amount != input.amount)
+                .then_some(Finding::OtherAmount),
+            pledge.map(Finding::Pledged),
+        ];
+        let first = fitting.into_iter().flatten().next();
+        first.unwrap_or(Finding::Available)
+    };
+    inputs.iter().map(found).collect()
+}
+
+/// What the four yield, one behind the other, and the findings.
 #[derive(Clone, Debug, PartialEq, Eq)]
 pub struct LocalStep {
     /// I(S, τ).
@@ -54,6 +77,8 @@ pub struct LocalStep {
     pub pledged: Vec<Token>,
     /// The message.
     pub verdict: Verdict,
+    /// What is found of each of the inputs, before any is pledged.
+    pub findings: Vec<Finding>,
 }
 
 impl LocalStep {
@@ -63,11 +88,13 @@ impl LocalStep {
         let available = available_here(&inputs, tokens);
         let pledged = pledged(tokens, &available, transaction.number);
         let verdict = verdict(&inputs, &available);
+        let findings = findings_here(&inputs, tokens);
         LocalStep {
             inputs,
             available,
             pledged,
             verdict,
+            findings,
         }
     }
 }

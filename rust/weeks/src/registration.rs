@@ -2,9 +2,13 @@
 //! each held to the local step that the shard's state before it asks for, and
 //! counted by what it shows.
 
-use reference::{Answer, Done, Input, Known, Outcome, Record, SHARDS, Token, Transaction, Verdict};
+use reference::{
+    Answer, Done, Finding, Input, Known, Outcome, Record, SHARDS, SLOTS, Token, Transaction,
+    Verdict,
+};
 
-use crate::clauses::{View, outcome};
+use crate::clauses::{View, knows, outcome};
+use crate::findings::{self, Way, labels};
 use crate::local::{LocalStep, free, is_among};
 use crate::tally::Tally;
 use crate::transactions::{held, outputs_at, receiver};
@@ -29,15 +33,10 @@ const KINDS: [&str; 16] = [
     "an input elsewhere, named like a free token here",
 ];
 
-const REGISTERED: &str = "registered";
-const BROUGHT: &str = "brought";
-
 /// What registrations are counted as, those by a call of their own and those
 /// that votes bring.
 pub fn registration_labels() -> Vec<String> {
-    let ways = [REGISTERED, BROUGHT].iter();
-    let labels = ways.flat_map(|way| KINDS.map(|kind| format!("{way}: {kind}")));
-    labels.collect()
+    labels(&KINDS)
 }
 
 /// A registration that was carried out, by a call of its own or by a vote: what
@@ -98,13 +97,23 @@ impl<'a> Registration<'a> {
         })
     }
 
+    /// The transaction that was registered.
+    pub fn transaction(&self) -> &'a Transaction {
+        self.transaction
+    }
+
     /// What is first not as the documents have it, if anything: in the answer, or
     /// in the receiver's state after the call.
     pub fn fault(&self, after: View) -> Option<&'static str> {
         let known = self.known();
         let heard = after.known.split_last() == Some((&known, self.before.known));
+        let kept = after
+            .known
+            .last()
+            .map_or([None; SLOTS], |last| last.findings);
         let holds = [
             ("the message", self.told == self.step.verdict),
+            ("the findings", self.found(kept.iter().flatten())),
             ("the votes heard", heard),
             ("the outcome", self.outcome == outcome(&known)),
             ("the tokens", after.tokens == self.tokens()),
@@ -112,6 +121,20 @@ impl<'a> Registration<'a> {
         ];
         let fault = holds.iter().find(|(_, holds)| !holds);
         fault.map(|&(what, _)| what)
+    }
+
+    /// Whether these are the findings: each is the true state of its token before
+    /// the call, all are available exactly where the vote is yes, and one that
+    /// is pledged names a transaction that the shard knew before.
+    pub fn found<'f>(&self, findings: impl Iterator<Item = &'f Finding> + Clone) -> bool {
+        let mut all = findings.clone();
+        let mut pledges = findings.clone().filter_map(|finding| match finding {
+            Finding::Pledged(number) => Some(*number),
+            _ => None,
+        });
+        findings.eq(&self.step.findings)
+            && all.all(|&finding| finding == Finding::Available) == (self.told == Verdict::Yes)
+            && pledges.all(|number| knows(self.before.known, number))
     }
 
     /// The message counts as heard from this shard, and behind it the vote is
@@ -122,9 +145,14 @@ impl<'a> Registration<'a> {
         if let Some((sender, verdict)) = self.vote {
             heard[usize::from(sender)] = Some(verdict);
         }
+        let mut findings = [None; SLOTS];
+        for (place, &finding) in findings.iter_mut().zip(&self.step.findings) {
+            *place = Some(finding);
+        }
         Known {
             transaction: *self.transaction,
             heard,
+            findings,
         }
     }
 
@@ -164,8 +192,8 @@ impl<'a> Registration<'a> {
     /// Counts what it shows.
     pub fn count(&self, tally: &mut Tally) {
         let way = match self.vote {
-            None => REGISTERED,
-            Some(_) => BROUGHT,
+            None => Way::Registered,
+            Some(_) => Way::Brought,
         };
         let kinds = [
             Some(self.part()),
@@ -177,8 +205,12 @@ impl<'a> Registration<'a> {
             self.alike(),
         ];
         for kind in kinds.iter().flatten() {
-            tally.add(&format!("{way}: {kind}"));
+            tally.add(&format!("{}: {kind}", way.word()));
         }
+        let LocalStep {
+            inputs, findings, ..
+        } = &self.step;
+        findings::count(tally, way, inputs, findings, self.before.tokens);
     }
 
     /// How many inputs here are available.

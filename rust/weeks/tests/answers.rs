@@ -41,7 +41,7 @@ fn words_in_common() {
     }
     let [shown, never] = shown_for(&[Giver::Cluster]);
     assert!(shown.contains(&"YES ABORT") && shown.contains(&"HEARD WAIT"));
-    let none = ["NO WAIT", "NO COMMIT", "REFUSED 11", "REFUSED 12"];
+    let none = ["NO WAIT", "NO COMMIT", "REFUSED 11", "REFUSED 18"];
     assert!(none.iter().all(|words| never.contains(words)));
     assert!(shown.iter().all(|words| !never.contains(words)));
 }
@@ -78,6 +78,7 @@ fn givers() {
     assert_eq!(numbers(Giver::Shard), shard);
     let cluster = [3, 4, 5, 6, 7, 8, 9, 10, 13, 14, 16, 17, 19];
     assert_eq!(numbers(Giver::Cluster), cluster);
+    assert_eq!(numbers(Giver::Findings), [3, 18]);
     let both = given_by(&[Giver::Shard, Giver::Cluster]);
     assert!(carried_out().iter().all(|label| both.contains(label)));
     let never = ["YES ABORT", "NO COMMIT", "NO WAIT"];

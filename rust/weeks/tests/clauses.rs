@@ -6,13 +6,13 @@ use std::collections::BTreeSet;
 use std::panic::{AssertUnwindSafe, catch_unwind};
 
 use reference::{
-    Answer, Cluster, Input, Known, LIMITS, Output, Record, SHARDS, Token, TokenId, Transaction,
-    Verdict,
+    Answer, Cluster, Finding, Input, Known, LIMITS, Output, Record, SHARDS, Token, TokenId,
+    Transaction, Verdict,
 };
 use weeks::{
     BROUGHT, BROUGHT_LATER, Before, CLUSTER_EVENTS, Case, Clauses, EARLY_ABORTS, Giver, Rng, SEED,
-    TURNS, Tally, View, changes_nothing, cluster_week, label, never_given_by, scenarios,
-    shard_week, views,
+    TURNS, Tally, View, changes_nothing, cluster_week, finding_labels, label, never_given_by,
+    scenarios, second_cause_labels, shard_week, views,
 };
 
 const WEEKS: u64 = 3000;
@@ -76,6 +76,8 @@ fn random_weeks_keep_the_clauses() {
     tally.check(title, &BROUGHT, 100);
     tally.check(title, &BROUGHT_LATER, 20);
     tally.check(title, &CLUSTER_EVENTS, 100);
+    tally.check(title, &finding_labels(), 100);
+    tally.check(title, &second_cause_labels(), 20);
 }
 
 #[test]
@@ -500,6 +502,51 @@ fn wrong_turns_are_caught() {
     assert!(caught(&records[..4], unasked), "an abort turns the shard");
 }
 
+/// What a registration has found is what was there before it, and stays so:
+/// transaction 6 finds a token that is pledged to 5, also after 5 is aborted and
+/// the token has come free, and after another one has found it free.
+#[test]
+fn wrong_findings_are_caught() {
+    let late = register(0, away(6));
+    let again = register(0, away(7));
+    let records = [&bound()[..], &[late, TURN, again]].concat();
+    assert!(!caught(&records, |_, _| ()), "nothing is wrong");
+    let found = |from: usize, place: usize, finding: Option<Finding>| {
+        move |call: usize, shards: &mut Shards| {
+            if call >= from {
+                shards[0].1[place].findings[0] = finding;
+            }
+        }
+    };
+    let pledged = |number| Some(Finding::Pledged(number));
+    let available = Some(Finding::Available);
+    let wrong = [
+        ("no finding", None),
+        ("available", available),
+        ("not held", Some(Finding::NotHeld)),
+        ("other owner", Some(Finding::OtherOwner)),
+        ("other amount", Some(Finding::OtherAmount)),
+        ("pledged to itself", pledged(6)),
+    ];
+    for (name, finding) in wrong {
+        let first = found(4, 1, finding);
+        assert!(caught(&records[..5], first), "{name}, registered");
+        for later in [5, 6] {
+            let records = &records[..=later];
+            assert!(caught(records, found(later, 1, finding)), "{name}, later");
+        }
+    }
+    assert!(caught(&records, found(1, 0, pledged(5))), "its own pledge");
+    assert!(caught(&records, found(5, 0, pledged(5))), "the turn's");
+    assert!(caught(&records, found(6, 2, pledged(5))), "ended before");
+    let second = |call: usize, shards: &mut Shards| {
+        if call >= 1 {
+            shards[0].1[0].findings[1] = available;
+        }
+    };
+    assert!(caught(&records, second), "of another shard's input");
+}
+
 /// Transaction 5 is brought to shard 1 by shard 0's vote, behind another one
 /// that shard 1 knows.
 fn bringing() -> Vec<Record> {
@@ -521,7 +568,10 @@ fn wrong_bringings_are_caught() {
     let records = bringing();
     assert!(!caught(&records, |_, _| ()), "nothing is wrong");
     type Change = fn(&mut Shards);
-    let cases: [(&str, Change); 7] = [
+    let cases: [(&str, Change); 8] = [
+        ("finds an input that there is not", |shards| {
+            shards[1].1[1].findings[0] = Some(Finding::NotHeld);
+        }),
         ("is not known", |shards| shards[1].1.truncate(1)),
         ("known before the other", |shards| shards[1].1.swap(0, 1)),
         ("instead of the other", |shards| {

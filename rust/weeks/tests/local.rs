@@ -1,5 +1,6 @@
 //! The local step by hand, from documents 000 and 01: what each of the four
-//! yields; and wrong answers and states, in which the fault has to be found.
+//! yields, and what is found of the inputs; and wrong answers and states, in
+//! which the fault has to be found.
 //!
 //! All is about shard 1, which holds three genesis tokens. Transaction 3 waits
 //! for the vote of shard 0, and the second token is pledged to it.
@@ -10,10 +11,11 @@ mod answers;
 mod records;
 
 use reference::{
-    Answer, Done, Input, Known, LIMITS, Outcome, Record, Shard, Token, Transaction, Verdict,
+    Answer, Done, Finding, Input, Known, LIMITS, Outcome, Record, Shard, Token, Transaction,
+    Verdict,
 };
-use weeks::local::{available_here, inputs_here, pledged, verdict};
-use weeks::{Registration, Tally, View, registration_labels};
+use weeks::local::{available_here, findings_here, inputs_here, pledged, verdict};
+use weeks::{Registration, Tally, View, finding_labels, registration_labels, second_cause_labels};
 
 use Outcome::{Abort, Commit, Wait};
 use Verdict::{No, Yes};
@@ -105,6 +107,29 @@ fn the_message() {
     assert_eq!(verdict(&[PLEDGED, FIRST], &[FIRST]), No);
 }
 
+#[test]
+fn the_findings() {
+    let found = |fields: &[InputFields]| findings_here(&inputs(fields), &tokens(BEFORE));
+    assert_eq!(found(&[]), []);
+    let cases = [
+        (FIRST, Finding::Available),
+        (NOT_HELD, Finding::NotHeld),
+        (NOT_MADE, Finding::NotHeld),
+        (OTHER_OWNER, Finding::OtherOwner),
+        (OTHER_AMOUNT, Finding::OtherAmount),
+        (PLEDGED, Finding::Pledged(3)),
+        // The first that fits.
+        ((1, 0, 2, 20, 4), Finding::OtherOwner),
+        ((1, 0, 1, 21, 6), Finding::OtherOwner),
+        ((1, 0, 1, 21, 4), Finding::OtherOwner),
+        ((1, 0, 1, 20, 6), Finding::OtherAmount),
+    ];
+    for (input, finding) in cases {
+        assert_eq!(found(&[input]), [finding], "{input:?}");
+        assert_eq!(found(&[THIRD, input])[1], finding, "{input:?}");
+    }
+}
+
 // Whole registrations. Each starts from what the reference does.
 
 /// What a shard keeps.
@@ -135,6 +160,13 @@ impl Kept {
     fn heard(&mut self, sender: usize) -> &mut Option<Verdict> {
         let last = self.known.last_mut().expect("a transaction is known");
         &mut last.heard[sender]
+    }
+
+    /// What was found of the input at this place among those here, by the
+    /// transaction known last.
+    fn found(&mut self, place: usize) -> &mut Option<Finding> {
+        let last = self.known.last_mut().expect("a transaction is known");
+        &mut last.findings[place]
     }
 }
 
@@ -217,6 +249,66 @@ fn a_wrong_no_is_caught() {
         ("turned by it", "turned", |_, kept| kept.turned = true),
     ];
     check(false, &partly, &wrong);
+}
+
+#[test]
+fn wrong_findings_are_caught() {
+    let inputs = [PLEDGED, FIRST, ELSEWHERE, OTHER_OWNER];
+    let wrong: [(_, _, Spoil); 8] = [
+        ("not held", "the findings", |_, kept| {
+            *kept.found(0) = Some(Finding::NotHeld);
+        }),
+        ("pledged to itself", "the findings", |_, kept| {
+            *kept.found(0) = Some(Finding::Pledged(5));
+        }),
+        ("of its own pledge", "the findings", |_, kept| {
+            *kept.found(1) = Some(Finding::Pledged(5));
+        }),
+        ("of the wrong amount", "the findings", |_, kept| {
+            *kept.found(2) = Some(Finding::OtherAmount);
+        }),
+        ("in another order", "the findings", |_, kept| {
+            let last = kept.known.last_mut().expect("it is known");
+            last.findings[..3].reverse();
+        }),
+        ("of an input elsewhere", "the findings", |_, kept| {
+            *kept.found(3) = Some(Finding::Available);
+        }),
+        ("one is missing", "the findings", |_, kept| {
+            *kept.found(2) = None;
+        }),
+        ("another's has changed", "the votes heard", |_, kept| {
+            kept.known[0].findings[0] = Some(Finding::NotHeld);
+        }),
+    ];
+    check(false, &register(1, taking(&inputs, 1)), &wrong);
+    check(true, &vote(1, &inputs), &wrong);
+    // Not where the vote says so, but where the state does.
+    let all: [(_, _, Spoil); 1] = [("pledged, with a yes", "the findings", |_, kept| {
+        *kept.found(0) = Some(Finding::Pledged(3));
+    })];
+    check(false, &register(1, taking(&[FIRST], 2)), &all);
+}
+
+/// A pledge to a transaction that the shard has never known is told rightly, and
+/// is wrong.
+#[test]
+fn a_finding_of_an_unknown_transaction_is_caught() {
+    let mut shard = holding(false);
+    let record = register(1, taking(&[PLEDGED], 1));
+    let mut before = Kept::of(&shard);
+    let answer = shard.play(&record);
+    let fault = |before: &Kept| {
+        let registration = Registration::of(&record, answer, before.view());
+        let after = Kept {
+            known: [&before.known[..], &shard.known()[1..]].concat(),
+            ..Kept::of(&shard)
+        };
+        registration.expect("it is registered").fault(after.view())
+    };
+    assert_eq!(fault(&before), None);
+    before.known[0].transaction.number = 4;
+    assert_eq!(fault(&before), Some("the findings"));
 }
 
 #[test]
@@ -315,14 +407,20 @@ fn a_wrong_step_for_a_vote_is_caught() {
     check(true, &vote(1, &[FIRST]), &committed);
 }
 
-/// The registration shows these things, each once, and nothing else.
-fn check_shown(turned: bool, record: &Record, way: &str, kinds: &[&str]) {
+/// What the registration is counted as.
+fn counted(turned: bool, record: &Record) -> Tally {
     let mut shard = holding(turned);
     let before = Kept::of(&shard);
     let answer = shard.play(record);
     let registration = Registration::of(record, answer, before.view());
     let mut tally = Tally::default();
     registration.expect("it is registered").count(&mut tally);
+    tally
+}
+
+/// The registration shows these things, each once, and nothing else.
+fn check_shown(turned: bool, record: &Record, way: &str, kinds: &[&str]) {
+    let tally = counted(turned, record);
     let mut labels = registration_labels();
     labels.retain(|label| tally.count(label) == 1);
     let expected: Vec<String> = kinds.iter().map(|kind| format!("{way}: {kind}")).collect();
@@ -396,4 +494,45 @@ fn what_causes_of_a_no_show() {
     check_shown(false, &vote(1, &[NOT_HELD, PLEDGED]), "brought", &two);
     let both = (1, 0, 2, 20, 4);
     check_shown(false, &vote(1, &[both]), "brought", &["none available"]);
+}
+
+/// Each finding is counted, and what else is wrong with the token behind it.
+#[test]
+fn what_findings_are_counted_as() {
+    let wrong = |index, owner, amount| (1, 0, index, owner, amount);
+    let inputs = [PLEDGED, FIRST, NOT_HELD, wrong(2, 20, 4)];
+    let others = [wrong(1, 21, 4), wrong(2, 21, 4), ELSEWHERE];
+    let doubly = [wrong(1, 20, 6), THIRD];
+    let cases: [(&[InputFields], &[&str]); 3] = [
+        (
+            &inputs,
+            &[
+                "available",
+                "not held",
+                "other owner",
+                "pledged",
+                "other owner, and other amount",
+            ],
+        ),
+        (
+            &others,
+            &["other owner", "other amount", "other owner, and pledged"],
+        ),
+        (
+            &doubly,
+            &["available", "other amount", "other amount, and pledged"],
+        ),
+    ];
+    for (inputs, kinds) in cases {
+        for (way, record) in [
+            ("registered", register(1, taking(inputs, 0))),
+            ("brought", vote(1, inputs)),
+        ] {
+            let tally = counted(false, &record);
+            let mut labels = [finding_labels(), second_cause_labels()].concat();
+            labels.retain(|label| tally.count(label) == 1);
+            let expected = kinds.iter().map(|kind| format!("{way}: found {kind}"));
+            assert_eq!(labels, Vec::from_iter(expected));
+        }
+    }
 }

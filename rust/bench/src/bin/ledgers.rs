@@ -1,6 +1,6 @@
 //! Time for a call on a shard and on a cluster: the proved engine against the
-//! reference, each handed what it takes; for clusters by kind of call too; and
-//! the sizes of the states.
+//! reference, each handed what it takes; for clusters by kind of call too, and
+//! for a question for findings; and the sizes of the states.
 
 #![forbid(unsafe_code)]
 
@@ -10,6 +10,7 @@ use std::mem::size_of;
 use std::process::ExitCode;
 use std::time::Duration;
 
+use bench::findings::findings;
 use bench::kinds::{KINDS, Kind, kinds};
 use bench::ledgers::{Run, Week, engine_run, reference_run};
 use plankeeper::boundary::{CLUSTER_WORDS, SHARD_WORDS};
@@ -161,7 +162,7 @@ fn measure(name: &str, weeks: &[Week], rounds: usize, repeats: usize) -> bool {
 
 /// Prints the times by kind; tells whether the answers agree.
 fn measure_kinds(name: &str, weeks: &[Week], rounds: usize) -> bool {
-    let Some(kinds) = kinds(weeks, rounds) else {
+    let (Some(kinds), Some(asked)) = (kinds(weeks, rounds), findings(weeks, rounds)) else {
         eprintln!("{name}: the answers differ");
         return false;
     };
@@ -182,6 +183,7 @@ fn measure_kinds(name: &str, weeks: &[Week], rounds: usize) -> bool {
         }
     }
     row("all", all);
+    row("findings asked", asked);
     true
 }
 

@@ -1,4 +1,5 @@
 //! What the adapter itself says, by hand.
 
 mod conversions;
+mod states;
 mod widths;

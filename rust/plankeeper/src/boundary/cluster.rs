@@ -4,8 +4,8 @@
 //! nobody else has written to them since.
 
 use super::{
-    CLUSTER_WORDS, ClusterWords, KnownWords, Memory, TokenWords, TransactionWords, check_words,
-    filled, raw,
+    CLUSTER_WORDS, ClusterWords, FindingsWords, KnownWords, Memory, TokenWords, TransactionWords,
+    check_words, filled, raw,
 };
 
 /// A cluster's words, which the library alone changes. There is no pointer in
@@ -122,6 +122,10 @@ impl Memory for ClusterMemory {
     #[inline]
     fn turn(&mut self, receiver: u32) -> u32 {
         unsafe { raw::plankeeper_turn(&mut self.words, receiver) }
+    }
+
+    fn findings(&self, shard: u32, number: u32, findings: &mut FindingsWords) -> u32 {
+        unsafe { raw::plankeeper_findings(&self.words, shard, number, findings) }
     }
 
     fn total(&self) -> u64 {

@@ -19,6 +19,9 @@
 //! | 500 | the shard is turned |
 //! | 600 + 10 × verdict + outcome | a vote has brought its transaction; the verdict is the receiver's own |
 //!
+//! A question for findings is answered with a refusal's number, or with 700 and
+//! how many there are, 0 to 4.
+//!
 //! The outcome is 0 wait, 1 commit or 2 abort. 200, 201, 212, 600 and 601 are
 //! never given: a shard that votes no aborts at once, and one that votes yes
 //! when it is asked to register has then heard no other vote.
@@ -46,9 +49,9 @@ pub use codec::{read, taken, write_mint, write_register, write_turn, write_vote}
 pub use shard::ShardMemory;
 
 /// Words of a cluster's memory.
-pub const CLUSTER_WORDS: usize = 17_184;
+pub const CLUSTER_WORDS: usize = 19_232;
 /// Words of a lone shard's memory.
-pub const SHARD_WORDS: usize = 2148;
+pub const SHARD_WORDS: usize = 2404;
 /// Words of a transaction.
 pub const TRANSACTION_WORDS: usize = 35;
 /// Words of what was read of a record.
@@ -57,6 +60,8 @@ pub const READING_WORDS: usize = 42;
 pub const TOKEN_WORDS: usize = 5;
 /// Words of a transaction that a shard knows.
 pub const KNOWN_WORDS: usize = 43;
+/// Words of what a shard has found of a transaction's inputs there.
+pub const FINDINGS_WORDS: usize = 8;
 
 /// A cluster's memory.
 pub type ClusterWords = [u32; CLUSTER_WORDS];
@@ -77,6 +82,11 @@ pub type TokenWords = [u32; TOKEN_WORDS];
 /// A transaction that a shard knows: its words, and the verdict heard from each
 /// shard 0 to 7 (0 none, 1 no, 2 yes).
 pub type KnownWords = [u32; KNOWN_WORDS];
+/// What a shard has found of a transaction's inputs there, in their order: for
+/// each of them what was found (1 available, 2 not held, 3 other owner, 4 other
+/// amount, 5 pledged) and the number of the transaction that it was pledged to (0
+/// unless 5); zeros behind the last.
+pub type FindingsWords = [u32; FINDINGS_WORDS];
 
 /// The calls that a cluster's memory and a lone shard's have in common. Each
 /// answers with a code.
@@ -111,6 +121,13 @@ pub trait Memory: sealed::Sealed {
 
     /// Turns the receiving shard: from now on an abort there ends its pledges.
     fn turn(&mut self, receiver: u32) -> u32;
+
+    /// What the shard has found of the inputs there when it registered the
+    /// transaction of this number: answers with 700 and how many, and fills the
+    /// words; or with 3 for a shard that there is not, at a lone one also for
+    /// another one, or for number 0, or with 18 for a number that is not known
+    /// there, and the words are as they were.
+    fn findings(&self, shard: u32, number: u32, findings: &mut FindingsWords) -> u32;
 
     /// The sum of the amounts held.
     fn total(&self) -> u64;

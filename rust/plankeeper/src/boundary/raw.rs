@@ -10,7 +10,9 @@
 //! contract's `requires`), and for no other; where bytes are handed in, the
 //! pointer must be valid for the length, and a `*mut` one not aliased.
 
-use super::{ClusterWords, KnownWords, ReadingWords, ShardWords, TokenWords, TransactionWords};
+use super::{
+    ClusterWords, FindingsWords, KnownWords, ReadingWords, ShardWords, TokenWords, TransactionWords,
+};
 
 // A cluster.
 unsafe extern "C" {
@@ -66,6 +68,13 @@ unsafe extern "C" {
 
     pub fn plankeeper_outcome_of(cluster: &ClusterWords, shard: u32, number: u32) -> u32;
 
+    pub fn plankeeper_findings(
+        cluster: &ClusterWords,
+        shard: u32,
+        number: u32,
+        findings: &mut FindingsWords,
+    ) -> u32;
+
     pub fn plankeeper_total_at(cluster: &ClusterWords, shard: u32) -> u64;
 
     pub fn plankeeper_is_turned(cluster: &ClusterWords, shard: u32) -> u32;
@@ -112,6 +121,13 @@ unsafe extern "C" {
     pub fn plankeeper_shard_known_at(shard: &ShardWords, k: usize, known: &mut KnownWords) -> u32;
 
     pub fn plankeeper_shard_outcome_of(shard: &ShardWords, number: u32) -> u32;
+
+    pub fn plankeeper_shard_findings(
+        s: &ShardWords,
+        shard: u32,
+        number: u32,
+        findings: &mut FindingsWords,
+    ) -> u32;
 
     pub fn plankeeper_shard_is_turned(shard: &ShardWords) -> u32;
 }

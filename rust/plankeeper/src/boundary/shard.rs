@@ -4,8 +4,8 @@
 //! nobody else has written to them since.
 
 use super::{
-    KnownWords, Memory, SHARD_WORDS, ShardWords, TokenWords, TransactionWords, check_words, filled,
-    raw,
+    FindingsWords, KnownWords, Memory, SHARD_WORDS, ShardWords, TokenWords, TransactionWords,
+    check_words, filled, raw,
 };
 
 /// A lone shard's words, which the library alone changes. There is no pointer
@@ -111,6 +111,10 @@ impl Memory for ShardMemory {
     #[inline]
     fn turn(&mut self, receiver: u32) -> u32 {
         unsafe { raw::plankeeper_shard_turn(&mut self.words, receiver) }
+    }
+
+    fn findings(&self, shard: u32, number: u32, findings: &mut FindingsWords) -> u32 {
+        unsafe { raw::plankeeper_shard_findings(&self.words, shard, number, findings) }
     }
 
     fn total(&self) -> u64 {

@@ -1,11 +1,11 @@
 //! Nothing is touched around the words that are handed in.
 
 use super::{
-    CLUSTER_WORDS, ClusterMemory, ClusterWords, KNOWN_WORDS, Memory, READING_WORDS, SHARD_WORDS,
-    ShardMemory, ShardWords, TOKEN_WORDS, TransactionWords, raw, read,
+    CLUSTER_WORDS, ClusterMemory, ClusterWords, FINDINGS_WORDS, KNOWN_WORDS, Memory, READING_WORDS,
+    SHARD_WORDS, ShardMemory, ShardWords, TOKEN_WORDS, TransactionWords, raw, read,
 };
-use crate::Record;
 use crate::tests::story::{Told, UNSET, cluster_story, encode, shard_stories};
+use crate::{Record, Shard};
 
 /// Words on each side that nobody may touch.
 const GUARD: usize = 4096;
@@ -108,8 +108,8 @@ impl<const WORDS: usize> Calls<[u32; WORDS]> {
 
 #[test]
 fn the_library_asks_for_as_many_words() {
-    assert_eq!(raw::plankeeper_words(), 17_184);
-    assert_eq!(raw::plankeeper_shard_words(), 2148);
+    assert_eq!(raw::plankeeper_words(), 19_232);
+    assert_eq!(raw::plankeeper_shard_words(), 2404);
 }
 
 #[test]
@@ -148,6 +148,51 @@ fn nothing_around_a_reading_is_touched() {
             guarded.fill("a reading", |words| {
                 read(&bytes[..length], words);
             });
+        }
+    }
+}
+
+/// Asks this memory for findings: where the number is known there, all words are
+/// set, and where the question is refused, none.
+fn check_found<M: Memory>(memory: &M, known: bool, shard: u32, number: u32) {
+    let mut guarded = Guarded::<FINDINGS_WORDS>::new();
+    let mut code = 0;
+    if known {
+        guarded.fill("findings", |words| {
+            code = memory.findings(shard, number, words);
+        });
+        assert!(matches!(code, 700..=704), "{number} at {shard}: {code}");
+    } else {
+        code = memory.findings(shard, number, guarded.words());
+        assert!(matches!(code, 3 | 18), "{number} at {shard}: {code}");
+        assert_eq!(*guarded.words(), [UNSET; FINDINGS_WORDS]);
+        guarded.check("a refused question");
+    }
+}
+
+#[test]
+fn nothing_around_findings_is_touched() {
+    let numbers = [0, 5, 6, 8, 11, 12, 21, 131, u32::MAX];
+    let mut cluster = ClusterMemory::new();
+    for (record, _) in cluster_story() {
+        cluster.apply(&encode(&record));
+    }
+    for shard in 0..=8 {
+        for number in numbers {
+            let known = cluster.outcome_of(shard, number) != 3;
+            check_found(&cluster, known, shard, number);
+        }
+    }
+    for (number, told) in shard_stories() {
+        let mut shard = Shard::new(number);
+        for (record, _) in &told {
+            let _ = shard.play(record);
+        }
+        for other in 0..=8 {
+            for asked in numbers {
+                let known = other == number && shard.outcome(asked).is_some();
+                check_found(shard.memory(), known, other.into(), asked);
+            }
         }
     }
 }

@@ -6,6 +6,7 @@ use std::panic::catch_unwind;
 use super::story::{Told, cluster_story, encode, shard_stories};
 use crate::answer::answered;
 use crate::boundary::{Memory, taken};
+use crate::finding::found;
 use crate::reading::refused;
 use crate::{
     Answer, Cluster, Ledger, Outcome, Record, Refusal, Shard, Verdict, answer_code,
@@ -176,16 +177,15 @@ fn calls_answers_are_told_apart() {
         assert_eq!(answer_code(&answer), code, "{answer:?}");
         assert_eq!(answer.map(|answer| answer.to_string()), Ok(text.into()));
     }
-    for (number, refusal) in (1..=17).chain([19]).zip(Refusal::ALL) {
+    for (number, refusal) in (1..=19).zip(Refusal::ALL) {
         assert_eq!(answer_from_code(number), Some(Err(refusal)), "{number}");
         assert_eq!(answer_code(&Err(refusal)), number, "{refusal:?}");
     }
     // No other number is one.
     let codes = (0..100_000).filter(|&code| answer_from_code(code).is_some());
-    assert_eq!(codes.count(), 20 + 18);
+    assert_eq!(codes.count(), 20 + 19);
     for odd in [
         0,
-        18,
         20,
         99,
         101,
@@ -197,6 +197,7 @@ fn calls_answers_are_told_apart() {
         603,
         609,
         613,
+        700,
         u32::MAX,
     ] {
         assert_eq!(answer_from_code(odd), None, "{odd} passed for an answer");
@@ -211,6 +212,24 @@ fn readers_answers_are_told_apart() {
     assert_eq!(refused(5), Some(Refusal::SumsDiffer));
     for odd in [6, 15, 100, 255, 256, 259, u32::MAX] {
         assert!(catch_unwind(|| refused(odd)).is_err(), "{odd}");
+    }
+}
+
+#[test]
+fn answers_to_questions_for_findings_are_told_apart() {
+    let words = [1, 0, 2, 0, 4, 0, 5, 1];
+    assert_eq!(found(3, &words), Err(Refusal::OutOfRange));
+    assert_eq!(found(18, &words), Err(Refusal::NoSuchNumber));
+    let counts = [700, 701, 702, 703, 704].map(|code| found(code, &words).map(|all| all.len()));
+    assert_eq!(counts, [0, 1, 2, 3, 4].map(Ok));
+    for odd in [0, 1, 11, 17, 19, 100, 600, 699, 705, 956, u32::MAX] {
+        assert!(catch_unwind(|| found(odd, &words)).is_err(), "{odd}");
+    }
+    // Words that are no finding, where they count.
+    for odd in [[0, 0], [1, 1], [2, 5], [4, 1], [5, 0], [6, 0], [257, 0]] {
+        let words = [1, 0, odd[0], odd[1], 0, 0, 0, 0];
+        assert!(found(701, &words).is_ok(), "{odd:?}");
+        assert!(catch_unwind(|| found(702, &words)).is_err(), "{odd:?}");
     }
 }
 

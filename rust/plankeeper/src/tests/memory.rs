@@ -17,7 +17,7 @@ fn shard(number: u8) -> Shard {
 
 /// The words of one shard in a cluster.
 fn words_of(cluster: &Cluster, number: usize) -> &[u32] {
-    &cluster.memory().words()[2148 * number..][..2148]
+    &cluster.memory().words()[2404 * number..][..2404]
 }
 
 fn play_story(cluster: &mut Cluster) {
@@ -26,23 +26,24 @@ fn play_story(cluster: &mut Cluster) {
     }
 }
 
+/// A known transaction: what was heard, and what was found. Places behind the last
+/// finding are as an available one's.
+type Known = (Transaction, [u32; 8], [u32; 8]);
+
+/// One finding or none, and it is available.
+const ALL_AVAILABLE: [u32; 8] = [1, 0, 1, 0, 1, 0, 1, 0];
+
 /// The words by hand of a shard that is not turned: its number, the indices
-/// given, the tokens, and the transactions with what was heard.
-fn check_shard(
-    words: &[u32],
-    number: u32,
-    given: &[usize],
-    tokens: &[[u32; 5]],
-    known: &[(Transaction, [u32; 8])],
-) {
+/// given, the tokens, and the transactions with what was heard and found.
+fn check_shard(words: &[u32], number: u32, given: &[usize], tokens: &[[u32; 5]], known: &[Known]) {
     let front = [number, tokens.len() as u32, known.len() as u32, 0];
     assert_eq!(words[..4], front, "number, counts, not turned");
     let flags = (0..128).filter(|index| words[4 + index] != 0);
     assert_eq!(flags.collect::<Vec<_>>(), given, "indices given");
     assert_eq!(words[132..132 + 5 * tokens.len()], *tokens.as_flattened());
-    let known = known
-        .iter()
-        .flat_map(|(transaction, heard)| transaction.words().iter().chain(heard));
+    let known = known.iter().flat_map(|(transaction, heard, found)| {
+        transaction.words().iter().chain(heard).chain(found)
+    });
     let known: Vec<u32> = known.copied().collect();
     assert_eq!(words[772..772 + known.len()], known, "transactions known");
 }
@@ -112,10 +113,10 @@ fn words_after_calls() {
     let pledged = [0, 127, OWNER, AMOUNT, 0x0506_0708];
     let other = [0, 0, OWNER, AMOUNT, 0];
     let made = [0x0506_0708, 0, OWNER + 1, AMOUNT, 0];
-    let one_yes = (both, [0, 2, 0, 0, 0, 0, 0, 0]);
-    let two_yes = (both, [0, 0, 2, 0, 0, 0, 0, 0]);
-    let both_yes = (both, [0, 2, 2, 0, 0, 0, 0, 0]);
-    type Words<'a> = (&'a [usize], &'a [[u32; 5]], &'a [(Transaction, [u32; 8])]);
+    let one_yes = (both, [0, 2, 0, 0, 0, 0, 0, 0], ALL_AVAILABLE);
+    let two_yes = (both, [0, 0, 2, 0, 0, 0, 0, 0], ALL_AVAILABLE);
+    let both_yes = (both, [0, 2, 2, 0, 0, 0, 0, 0], ALL_AVAILABLE);
+    type Words<'a> = (&'a [usize], &'a [[u32; 5]], &'a [Known]);
     let opened: Words = (&[64, 127], &[first, second], &[]);
     let waiting: Words = (&[64, 127], &[pledged, second], &[one_yes]);
     let committed: Words = (&[64, 127], &[second], &[both_yes]);
@@ -176,7 +177,7 @@ fn words_after_a_bringing() {
             let alone = shard.play(record);
             assert_eq!(alone.is_ok(), record.receiver() == 1);
         }
-        let heard = [(three, [0, 2, 2, 0, 0, 0, 0, 0])];
+        let heard = [(three, [0, 2, 2, 0, 0, 0, 0, 0], ALL_AVAILABLE)];
         for words in [words_of(&cluster, 1), shard.memory().words()] {
             check_shard(words, 1, &[0, 1], &[free, pledged], &heard);
         }
@@ -192,8 +193,41 @@ fn the_last_words_of_a_full_shard() {
     assert!(words[4..132].iter().all(|&flag| flag != 0));
     assert_eq!(words[767..772], [0, 127, OWNER, AMOUNT, 0]);
     let last = transaction(131, &[(7, 31)], &[6]);
-    assert_eq!(words[2105..2140], *last.words());
-    assert_eq!(words[2140..], [0, 0, 0, 0, 0, 0, 0, 2]);
+    assert_eq!(words[2353..2388], *last.words());
+    assert_eq!(words[2388..2396], [0, 0, 0, 0, 0, 0, 0, 2]);
+    assert_eq!(words[2396..], ALL_AVAILABLE);
+}
+
+/// Four findings of one transaction, each of another kind, in input order: the
+/// first input is pledged to transaction 3, the second has another owner, the
+/// third is not held, the last has another amount.
+#[test]
+fn the_words_of_findings() {
+    let mut words = *transaction(5, &[(1, 0), (1, 1), (1, 9), (1, 2)], &[2, 2, 2, 2]).words();
+    words[3 + 5 + 3] += 1;
+    words[3 + 15 + 4] += 1;
+    words[25] += 1;
+    let four = Transaction::from_words(words);
+    let pledging = transaction(3, &[(1, 0)], &[2]);
+    let (mut cluster, mut shard) = (cluster(), shard(1));
+    let mints = [0, 1, 2].map(|index| mint(1, index));
+    for record in mints
+        .iter()
+        .chain(&[register(1, pledging), register(1, four)])
+    {
+        cluster.play(record).expect("it is carried out");
+        shard.play(record).expect("it is carried out");
+    }
+    let pledged = [0, 0, OWNER, AMOUNT, 3];
+    let free = [1, 2].map(|index| [0, index, OWNER, AMOUNT, 0]);
+    let known = [
+        (pledging, [0, 2, 0, 0, 0, 0, 0, 0], ALL_AVAILABLE),
+        (four, [0, 1, 0, 0, 0, 0, 0, 0], [5, 3, 3, 0, 2, 0, 4, 0]),
+    ];
+    let tokens = [pledged, free[0], free[1]];
+    for words in [words_of(&cluster, 1), shard.memory().words()] {
+        check_shard(words, 1, &[0, 1, 2], &tokens, &known);
+    }
 }
 
 /// The places of the words that the call changes, each with what it was and what
@@ -226,9 +260,9 @@ fn words_of_a_turn() {
     assert_eq!(lone, [(3, 0, 1), (132 + 4, 5, 0)]);
     let member = lone
         .into_iter()
-        .map(|(place, was, is)| (2148 + place, was, is));
+        .map(|(place, was, is)| (2404 + place, was, is));
     assert!(member.eq(changed(&mut cluster, &turn(1))));
     // A shard that holds nothing, and the last one.
     assert_eq!(changed(&mut cluster, &turn(0)), [(3, 0, 1)]);
-    assert_eq!(changed(&mut cluster, &turn(7)), [(7 * 2148 + 3, 0, 1)]);
+    assert_eq!(changed(&mut cluster, &turn(7)), [(7 * 2404 + 3, 0, 1)]);
 }

@@ -2,6 +2,7 @@
 
 mod answers;
 mod codec;
+mod findings;
 mod memory;
 mod queries;
 mod refusals;

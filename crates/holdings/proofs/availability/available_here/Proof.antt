@@ -1,10 +1,7 @@
-use Rattle.loops.proofs.Fours.{keep-by}
-use Rattle.transaction.specs.Tokens.{zeroInput}
-use Rattle.layout.specs.Layout.{ledgerOf}
+use lib.ListN.{length}
+use mathlib.Core.Path.{_≡_}
 use Rattle.holdings.proofs.Long.{inputs-long}
-use Rattle.holdings.proofs.Local.{lists-available}
-use Rattle.model.specs.Steps.{available}
-use denote.Ref.{now}
+use Rattle.holdings.proofs.Local.{available-by}
 use borrow.Author.Needs.{needs}
 use Rattle.holdings.proofs.availability.available_here.Statement.{statement}
 use Rattle.holdings.proofs.availability.available_here.Tie as tie
@@ -12,59 +9,72 @@ use Rattle.holdings.proofs.availability.available_here.Tie as tie
 no-inputs-requires : tie.Need-no-inputs-requires
 no-inputs-requires c κs = search needs
 
-array-copy-out-push-available : tie.Need-array-copy-out-push-available
-array-copy-out-push-available c = search needs
+array-copy-out-push-found : tie.Need-array-copy-out-push-found
+array-copy-out-push-found c = search needs
 
-push-available-requires : tie.Need-push-available-requires
-push-available-requires c κs = search needs
+array-copy-out-push-found-2 : tie.Need-array-copy-out-push-found-2
+array-copy-out-push-found-2 c = search needs
 
-array-copy-out-push-available-2 : tie.Need-array-copy-out-push-available-2
-array-copy-out-push-available-2 c = search needs
+push-found-requires : tie.Need-push-found-requires
+push-found-requires c κs = search needs
 
-push-available-requires-2 : tie.Need-push-available-requires-2
-push-available-requires-2 c κs = search needs
+array-copy-out-push-found-3 : tie.Need-array-copy-out-push-found-3
+array-copy-out-push-found-3 c = search needs
 
-array-copy-out-push-available-3 : tie.Need-array-copy-out-push-available-3
-array-copy-out-push-available-3 c = search needs
+array-copy-out-push-found-4 : tie.Need-array-copy-out-push-found-4
+array-copy-out-push-found-4 c = search needs
 
-push-available-requires-3 : tie.Need-push-available-requires-3
-push-available-requires-3 c κs = search needs
+push-found-requires-2 : tie.Need-push-found-requires-2
+push-found-requires-2 c κs = search needs
 
-array-copy-out-push-available-4 : tie.Need-array-copy-out-push-available-4
-array-copy-out-push-available-4 c = search needs
+array-copy-out-push-found-5 : tie.Need-array-copy-out-push-found-5
+array-copy-out-push-found-5 c = search needs
 
-push-available-requires-4 : tie.Need-push-available-requires-4
-push-available-requires-4 c κs = search needs
+array-copy-out-push-found-6 : tie.Need-array-copy-out-push-found-6
+array-copy-out-push-found-6 c = search needs
+
+push-found-requires-3 : tie.Need-push-found-requires-3
+push-found-requires-3 c κs = search needs
+
+array-copy-out-push-found-7 : tie.Need-array-copy-out-push-found-7
+array-copy-out-push-found-7 c = search needs
+
+array-copy-out-push-found-8 : tie.Need-array-copy-out-push-found-8
+array-copy-out-push-found-8 c = search needs
+
+push-found-requires-4 : tie.Need-push-found-requires-4
+push-found-requires-4 c κs = search needs
 
 returns : tie.Need-returns
-returns c =
-    let third : tie.After-push-available3 = search in
-    let second : tie.After-push-available2 = search in
-    let first : tie.After-push-available = search in
+returns c me tokens t h is =
+    let third : tie.After-push-found3 = search in
+    let second : tie.After-push-found2 = search in
+    let first : tie.After-push-found = search in
     let none : tie.After-no-inputs = search in
     let entry : tie.Start = search in
     let here = entry .args .here in
-    let wanted = available (ledgerOf (now (entry .args .s)) .tokens) in
-    let kept =
-    keep-by zeroInput (here .list) (inputs-long here (entry .good .1 .0)) wanted (here .count)
+    available-by here (inputs-long here (entry .good .0)) me tokens t h (entry .args .t2) is (search needs)
     (none .no-inputs .ensures .0)
-    (first .push-available .ensures .0)
-    (second .push-available2 .ensures .0)
-    (third .push-available3 .ensures .0)
-    (c .push-available4 .ensures .0) in
-    λ me t. lists-available me (ledgerOf (now (entry .args .s)) .tokens) t (record { few = search needs; are = kept })
+    (first .push-found .ensures .0)
+    (second .push-found2 .ensures .0)
+    (third .push-found3 .ensures .0)
+    (c .push-found4 .ensures .0)
 
 pub available-here-spec : {M : Type 1} → statement M
 available-here-spec =
     tie.close
     (tie.spec
     no-inputs-requires
-    array-copy-out-push-available
-    push-available-requires
-    array-copy-out-push-available-2
-    push-available-requires-2
-    array-copy-out-push-available-3
-    push-available-requires-3
-    array-copy-out-push-available-4
-    push-available-requires-4
+    array-copy-out-push-found
+    array-copy-out-push-found-2
+    push-found-requires
+    array-copy-out-push-found-3
+    array-copy-out-push-found-4
+    push-found-requires-2
+    array-copy-out-push-found-5
+    array-copy-out-push-found-6
+    push-found-requires-3
+    array-copy-out-push-found-7
+    array-copy-out-push-found-8
+    push-found-requires-4
     returns)

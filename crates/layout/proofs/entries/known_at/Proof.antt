@@ -19,12 +19,16 @@ add-heard-in-2 c = search needs
 heard-in-requires : tie.Need-heard-in-requires
 heard-in-requires c κs = search needs
 
+findings-at-requires : tie.Need-findings-at-requires
+findings-at-requires c κs = search needs
+
 returns : tie.Need-returns
 returns c =
     let read : tie.After-transaction-at = search in
     let entry : tie.Start = search in
     let args = entry .args in
-    known-parts (now (args .s)) (args .k) (entry .pre) (read .transaction-at .ensures) (c .heard-in .ensures)
+    let votes : tie.After-heard-in = search in
+    known-parts (now (args .s)) (args .k) (entry .pre) (read .transaction-at .ensures) (votes .heard-in .ensures) (c .findings-at .ensures)
 
 pub known-at-spec : {M : Type 1} → statement M
 known-at-spec =
@@ -35,4 +39,5 @@ known-at-spec =
     add-heard-in
     add-heard-in-2
     heard-in-requires
+    findings-at-requires
     returns)

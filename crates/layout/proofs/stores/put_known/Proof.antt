@@ -4,6 +4,10 @@ use borrow.Author.Needs.{needs}
 use Rattle.layout.proofs.stores.put_known.Statement.{statement}
 use Rattle.layout.proofs.stores.put_known.Tie as tie
 
+-- The entry, seen from behind the first store.
+abbrev start : tie.After-put-head → tie.Start
+start head = search
+
 mul-b : tie.Need-mul-b
 mul-b c = search needs
 
@@ -31,18 +35,26 @@ add-put-verdicts c = search needs
 put-verdicts-requires : tie.Need-put-verdicts-requires
 put-verdicts-requires c κs = search needs
 
+add-put-findings : tie.Need-add-put-findings
+add-put-findings c = search needs
+
+put-findings-requires : tie.Need-put-findings-requires
+put-findings-requires c κs = search needs
+
 returns : tie.Need-returns
 returns c =
+    let verdicts : tie.After-put-verdicts = search in
     let outputs : tie.After-put-outputs = search in
     let inputs : tie.After-put-inputs = search in
     let head : tie.After-put-head = search in
-    let entry : tie.Start = search in
+    let entry = start head in
     let args = entry .args in
-    known-put (args .k) (now (args .s)) _ _ _ _ (args .x) (entry .pre .0) (entry .pre .1)
+    known-put (args .k) (now (args .s)) _ _ _ _ _ (args .x) (entry .pre .0) (entry .pre .1)
     (head .put-head .ensures)
     (inputs .put-inputs .ensures)
     (outputs .put-outputs .ensures)
-    (c .put-verdicts .ensures)
+    (verdicts .put-verdicts .ensures)
+    (c .put-findings .ensures)
 
 pub put-known-spec : {M : Type 1} → statement M
 put-known-spec =
@@ -57,4 +69,6 @@ put-known-spec =
     put-outputs-requires
     add-put-verdicts
     put-verdicts-requires
+    add-put-findings
+    put-findings-requires
     returns)

@@ -1,4 +1,4 @@
-use Rattle.registry.specs.Numbers.{isNumbered}
+use Rattle.model.specs.Shard.{isNumbered}
 use Rattle.loops.proofs.Loops.{Finding, find-start, find-hit, find-next, find-end}
 use Rattle.layout.specs.Layout.{knownPlace, word, transactionsOf, view, noKnown}
 use Rattle.layout.proofs.Slots.{length-known}

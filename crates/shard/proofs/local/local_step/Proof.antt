@@ -9,6 +9,9 @@ own-number-requires c κs = search needs
 inputs-here-requires : tie.Need-inputs-here-requires
 inputs-here-requires c κs = search needs
 
+findings-here-requires : tie.Need-findings-here-requires
+findings-here-requires c κs = search needs
+
 available-here-requires : tie.Need-available-here-requires
 available-here-requires c κs = search needs
 
@@ -27,6 +30,7 @@ local-step-spec =
     (tie.spec
     own-number-requires
     inputs-here-requires
+    findings-here-requires
     available-here-requires
     pledge-all-requires
     own-vote-requires

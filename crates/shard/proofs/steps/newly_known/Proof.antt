@@ -9,7 +9,9 @@ array-write-heard : tie.Need-array-write-heard
 array-write-heard c = search needs
 
 returns : tie.Need-returns
-returns c = rw (c .note .ensures)
+returns c =
+    let noted : tie.After-note = search in
+    rw (noted .note .ensures)
 
 pub newly-known-spec : {M : Type 1} → statement M
 newly-known-spec = tie.close (tie.spec note-requires array-write-heard returns)

@@ -1,16 +1,17 @@
-use Rattle.shard.specs.Queries.{hasId}
+use Rattle.model.specs.Demand.{hasSpot}
 use Rattle.loops.proofs.Loops.{Finding, find-start, find-hit, find-next, find-end}
 use Rattle.layout.specs.Layout.{heldPlace, word, tokensOf, view, noToken}
-use Rattle.shard.proofs.Asked.{held-slots}
+use Rattle.layout.proofs.Slots.{length-tokens}
 use Prim.Native.Nat.{_-_}
 use native.Mathlib.Omega.{arith}
 use mathlib.Core.Path.{_≡_, sym, _∙_}
+use denote.Ref.{now}
 use borrow.Author.Needs.{needs}
-use Rattle.shard.proofs.queries.place_of_token.Statement.{statement}
-use Rattle.shard.proofs.queries.place_of_token.Tie as tie
+use Rattle.holdings.proofs.finding.place_of_token.Statement.{statement}
+use Rattle.holdings.proofs.finding.place_of_token.Tie as tie
 
 abbrev Inv-loop : tie.InvT-loop
-Inv-loop s creator index n i₀ i = (n ≡ word s heldPlace) × Finding (hasId creator index) (tokensOf s) (word s heldPlace) i
+Inv-loop s creator index n i₀ i = (n ≡ word s heldPlace) × Finding (hasSpot creator index) (tokensOf s) (word s heldPlace) i
 
 abbrev μ-loop : tie.MeasureT-loop
 μ-loop s creator index n i₀ i = n - i
@@ -30,7 +31,8 @@ returns c =
     let asked : tie.After-is-token Inv-loop μ-loop = search in
     let turn : tie.At-loop Inv-loop μ-loop = search in
     let entry : tie.Start Inv-loop μ-loop = search in
-    let hit = find-hit noToken (turn .loop .inv .1) (omega arith) (held-slots (entry .pre)) in
+    let slots = length-tokens (now (entry .args .s)) in
+    let hit = find-hit noToken (turn .loop .inv .1) (omega arith) (omega (arith, slots)) in
     sym (hit (sym (asked .is-token .ensures) ∙ c .if1 .taken))
 
 add-i : tie.Need-add-i Inv-loop μ-loop
@@ -44,7 +46,8 @@ loop-again c =
     let asked : tie.After-is-token Inv-loop μ-loop = search in
     let turn : tie.At-loop Inv-loop μ-loop = search in
     let entry : tie.Start Inv-loop μ-loop = search in
-    let next = find-next noToken (turn .loop .inv .1) (omega arith) (held-slots (entry .pre)) in
+    let slots = length-tokens (now (entry .args .s)) in
+    let next = find-next noToken (turn .loop .inv .1) (omega arith) (omega (arith, slots)) in
     (turn .loop .inv .0, next (sym (asked .is-token .ensures) ∙ c .if1 .left))
 
 returns-2 : tie.Need-returns-2 Inv-loop μ-loop
