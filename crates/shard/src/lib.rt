@@ -1,6 +1,7 @@
 // One shard's ledger (document 01: a pantry's), in place: each call is lent the shard's words, changes them and answers.
-// The interface: `new`, `mint_token`, `register_transaction`, `hear_vote`, `turn_shard`, `has_given_vote`, and all of `queries` and `reporting`.
-// Internal, and public only because the crate `cluster` calls them: `hear_formed` and `refusals::deliver_form`.
+// The interface: `new`, `mint_token`, `register_transaction`, `hear_vote`, `turn_shard`, `has_given_vote`, all of `queries`, and
+// `reporting::findings_of`. Internal, and public only because the crate `cluster` calls them: `hear_formed`,
+// `refusals::deliver_form` and `reporting::refused`.
 ghost use mathlib.Core.Path.{_≡_};
 ghost use mathlib.Core.Bool.{true, false};
 ghost use Rattle.transaction.specs.Lists.{firstOf};
