@@ -9,7 +9,6 @@ use mathlib.Core.List.{List, [], _∷_, _++_, map, List·Memᴰ}
 use lib.Dec.{eqb}
 use lib.ListN.{length, getD, take}
 use Rattle.transaction.specs.declared.Input.{Input}
-use Rattle.transaction.specs.declared.Transaction.{Transaction}
 use Rattle.transaction.specs.Lists.{any, all, firstOf}
 use Rattle.transaction.specs.Checks.{shardFits}
 use Rattle.model.specs.declared.Token.{Token}

@@ -1,21 +1,19 @@
 -- What is told of the findings about a known transaction, from the slot in which it stands.
 use Prim.Native.Nat.{ℕ, _<_}
-use mathlib.Core.Path.{_≡_, refl, sym, ap, subst, _∙_}
-use mathlib.Core.Bool.{true}
+use mathlib.Core.Path.{_≡_, sym, ap, _∙_}
 use mathlib.Core.List.{List}
 use native.Mathlib.Omega.{arith}
 use lib.ListN.{length, getD}
 use Rattle.transaction.specs.declared.Input.{Input}
 use Rattle.transaction.specs.declared.Transaction.{Transaction}
-use Rattle.transaction.specs.Lists.{any, firstOf}
+use Rattle.transaction.specs.Lists.{firstOf}
 use Rattle.model.specs.declared.Found.{Found}
-use Rattle.model.specs.declared.Known.{Known}
 use Rattle.model.specs.declared.Report.{Report}
 use Rattle.model.specs.declared.Told.the-variants.{Findings}
 use Rattle.model.specs.Lists.{find}
 use Rattle.model.specs.Steps.{inputsHere, nothingKnown}
 use Rattle.model.specs.Shard.{isNumbered}
-use Rattle.model.specs.Findings.{reportRefusals, numbered, told, refusing, report}
+use Rattle.model.specs.Findings.{reportRefusals, told, refusing, report}
 use Rattle.model.proofs.Capacity.{find-below}
 use Rattle.model.proofs.Findings.{number-known, report-told, report-refused}
 use Rattle.layout.specs.Layout.{knownSlots, shardOf, slotKnown}

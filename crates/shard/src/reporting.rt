@@ -1,12 +1,9 @@
 // The call that reports what the shard found about the inputs of a known transaction at its registration (document 02, 2).
 // Nothing is changed.
 ghost use mathlib.Core.Path.{_≡_};
-ghost use mathlib.Core.List.{[]};
 ghost use Prim.Native.Nat.{_<_};
 ghost use Rattle.transaction.specs.Lists.{firstOf};
-ghost use Rattle.model.specs.declared.Told.the-variants.{Refused};
 ghost use Rattle.model.specs.Lists.{find};
-ghost use Rattle.model.specs.Steps.{keeping};
 ghost use Rattle.model.specs.Shard.{isNumbered};
 ghost use Rattle.model.specs.Findings.{reportForm, reportRest, reportRefusals, told, refusing, report};
 ghost use Rattle.layout.specs.Layout.{knownSlots, slotKnown};

@@ -1,5 +1,3 @@
-use lib.ListN.{length}
-use mathlib.Core.Path.{_≡_}
 use Rattle.holdings.proofs.Long.{inputs-long}
 use Rattle.holdings.proofs.Local.{available-by}
 use borrow.Author.Needs.{needs}
