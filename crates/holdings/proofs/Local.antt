@@ -28,7 +28,7 @@ use Rattle.holdings.specs.declared.Inputs.{Inputs}
 use Rattle.holdings.specs.Held.{inputsOf, Lists}
 
 -- they are as many as the list has
-pub count-is : {x : Inputs} {inputs : List Input} → length (x .list) ≡ 4 → Lists x inputs → x .count ≡ length inputs
+count-is : {x : Inputs} {inputs : List Input} → length (x .list) ≡ 4 → Lists x inputs → x .count ≡ length inputs
 count-is {x} four h = sym (length-take-le (x .count) (x .list) (omega (arith, h .few))) ∙ ap length (h .are)
 
 ltb-suc : (i n : ℕ) → ltb (suc i) (suc n) ≡ ltb i n

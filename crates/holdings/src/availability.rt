@@ -4,8 +4,6 @@ ghost use mathlib.Core.Path.{_≡_};
 ghost use mathlib.Core.Bool.{_&&_};
 ghost use mathlib.Core.List.{List, [], _++_};
 ghost use Prim.Native.Nat.{ℕ, _+_, _≤_, _<_};
-ghost use lib.ListN.{length};
-ghost use Rattle.transaction.specs.declared.Input.{Input};
 ghost use Rattle.transaction.specs.declared.Transaction.{Transaction};
 ghost use Rattle.model.specs.declared.Token.{Token};
 ghost use Rattle.model.specs.Answers.{isAvailable};
@@ -109,14 +107,6 @@ pub fn inputs_here(me: u8, t: Transaction) -> Inputs
     let two = push_if(one, (1 < n) & (b.token.shard == me), b);
     let three = push_if(two, (2 < n) & (c.token.shard == me), c);
     push_if(three, (3 < n) & (d.token.shard == me), d)
-}
-
-// How many they are, of whichever list.
-pub fn count_of(here: Inputs) -> u8
-    requires { ⌜ here .count ≤ 4 ⌝ }
-    ensures { λ r. ⌜ ((inputs : List Input) → Lists here inputs → r ≡ length inputs) ⌝ }
-{
-    here.count as u8
 }
 
 fn push_found(so_far: Inputs, used: bool, found: Found, x: Input) -> Inputs

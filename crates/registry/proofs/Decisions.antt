@@ -1,4 +1,4 @@
--- Decisions, and outputs here, slot by slot.
+-- Decisions, and the outputs and inputs here, slot by slot.
 use Prim.Native.Nat.{ℕ, suc, _+_, _*_, _≤_, _<_}
 use native.Mathlib.Omega.{arith}
 use native.Mathlib.Nat.{mul-suc}
@@ -8,16 +8,15 @@ use mathlib.Core.List.{List, [], _∷_, _++_, map, map-append}
 use borrow.Author.Tests.{ne-eqb}
 use lib.Dec.{ltb}
 use lib.ListN.{length, getD, take, length-append, length-take}
-use Rattle.transaction.specs.declared.Output.{Output}
 use Rattle.transaction.specs.declared.Transaction.{Transaction}
 use Rattle.transaction.specs.Lists.{any, all, total}
-use Rattle.transaction.specs.Tokens.{inputShard, outputShard, usedInputs, usedOutputs, zeroOutput}
+use Rattle.transaction.specs.Tokens.{inputShard, outputShard, usedInputs, usedOutputs, zeroInput, zeroOutput}
 use Rattle.transaction.proofs.Slots.{any-append}
 use Rattle.model.specs.declared.Known.{Known}
 use Rattle.model.specs.declared.Outcome.{Outcome}
 use Rattle.model.specs.declared.Outcome.the-variants.{Wait, Commit, Abort}
 use Rattle.model.specs.Lists.{keep}
-use Rattle.model.specs.Steps.{isYes, isNo, decide, outcomeOf, outputHere, outputsHere}
+use Rattle.model.specs.Steps.{isYes, isNo, decide, outcomeOf, inputHere, inputsHere, outputHere, outputsHere}
 use Rattle.model.specs.Shard.{isUndecided, ifUndecided, reservedBy, reserved}
 use Rattle.model.proofs.Basics.{all-append, keep-length}
 use Rattle.layout.specs.Layout.{knownSlots, shardOf, ledgerOf, noKnown, slotKnown}
@@ -120,35 +119,34 @@ unfolding decide
 decides k ei eo e =
     rw (e, ei, eo) (decides-both (k .heard) (map inputShard (usedInputs (k .transaction))) (map outputShard (usedOutputs (k .transaction))))
 
--- how many outputs are here
+-- how many of the used slots pass a test
 one-length : {A : Type 0} (b : Bool) (x : A) → length (oneIf b x) ≡ cond b 1 0
 one-length true x = refl
 one-length false x = refl
 
-module _ (me : ℕ) (t : Transaction) (long : length (t .outputs) ≡ 4) where
-  -- the slot is used, where n are, and its output is here
+module _ {A : Type 0} (none : A) (l : List A) (long : length l ≡ 4) (test : A → Bool) (used : ℕ) where
+  -- the slot is used, where n are, and passes
   abbrev slot : ℕ → ℕ → Bool
-  slot n k = ltb k n && outputHere me (getD (t .outputs) k zeroOutput)
+  slot n k = ltb k n && test (getD l k none)
 
-  abbrev part : ℕ → List Output
-  part k = oneIf (slot (t .«output_count») k) (getD (t .outputs) k zeroOutput)
+  abbrev part : ℕ → List A
+  part k = oneIf (slot used k) (getD l k none)
 
-  here-parts : outputsHere me t ≡ [] ++ part 0 ++ part 1 ++ part 2 ++ part 3
-  unfolding outputsHere
-  here-parts = sym (keep-by zeroOutput (t .outputs) long (outputHere me) (t .«output_count») refl refl refl refl refl)
+  parts : keep test (take used l) ≡ [] ++ part 0 ++ part 1 ++ part 2 ++ part 3
+  parts = sym (keep-by none l long test used refl refl refl refl refl)
 
-  part-length : (k : ℕ) → length (part k) ≡ cond (slot (t .«output_count») k) 1 0
-  part-length k = one-length (slot (t .«output_count») k) (getD (t .outputs) k zeroOutput)
+  part-length : (k : ℕ) → length (part k) ≡ cond (slot used k) 1 0
+  part-length k = one-length (slot used k) (getD l k none)
 
-  pub here-count : (n : ℕ) {a b c d : ℕ} → n ≡ t .«output_count»
+  count-by : (n : ℕ) {a b c d : ℕ} → n ≡ used
       → a ≡ cond (slot n 0) 1 0
       → b ≡ cond (slot n 1) 1 0
       → c ≡ cond (slot n 2) 1 0
       → d ≡ cond (slot n 3) 1 0
-      → a + b + c + d ≡ length (outputsHere me t)
-  here-count n e ea eb ec ed =
+      → a + b + c + d ≡ length (keep test (take used l))
+  count-by n e ea eb ec ed =
       rw (ea, eb, ec, ed, e)
-      (sym (ap length here-parts
+      (sym (ap length parts
       ∙ rw (
         length-append (part 0 ++ part 1 ++ part 2) (part 3),
         length-append (part 0 ++ part 1) (part 2),
@@ -158,6 +156,26 @@ module _ (me : ℕ) (t : Transaction) (long : length (t .outputs) ≡ 4) where
         part-length 2,
         part-length 3,
       ) refl))
+
+-- how many outputs are here
+module _ (me : ℕ) (t : Transaction) (long : length (t .outputs) ≡ 4) where
+  abbrev output-at : ℕ → ℕ → Bool
+  output-at n k = ltb k n && outputHere me (getD (t .outputs) k zeroOutput)
+
+  pub here-count : (n : ℕ) {a b c d : ℕ} → n ≡ t .«output_count» → a ≡ cond (output-at n 0) 1 0 → b ≡ cond (output-at n 1) 1 0
+      → c ≡ cond (output-at n 2) 1 0 → d ≡ cond (output-at n 3) 1 0 → a + b + c + d ≡ length (outputsHere me t)
+  unfolding outputsHere
+  here-count n = count-by zeroOutput (t .outputs) long (outputHere me) (t .«output_count») n
+
+-- and how many inputs
+module _ (me : ℕ) (t : Transaction) (long : length (t .inputs) ≡ 4) where
+  abbrev input-at : ℕ → ℕ → Bool
+  input-at n k = ltb k n && inputHere me (getD (t .inputs) k zeroInput)
+
+  pub inputs-count : (n : ℕ) {a b c d : ℕ} → n ≡ t .«input_count» → a ≡ cond (input-at n 0) 1 0 → b ≡ cond (input-at n 1) 1 0
+      → c ≡ cond (input-at n 2) 1 0 → d ≡ cond (input-at n 3) 1 0 → a + b + c + d ≡ length (inputsHere me t)
+  unfolding inputsHere
+  inputs-count n = count-by zeroInput (t .inputs) long (inputHere me) (t .«input_count») n
 
 -- reserved: nothing without outputs here, nothing once decided, else the outputs here
 nothing : (o : Outcome) → 0 ≡ ifUndecided o 0

@@ -4,8 +4,6 @@ use mathlib.Core.Path.{_≡_, sym, ap, _∙_}
 use mathlib.Core.List.{List}
 use native.Mathlib.Omega.{arith}
 use lib.ListN.{length, getD}
-use Rattle.transaction.specs.declared.Input.{Input}
-use Rattle.transaction.specs.declared.Transaction.{Transaction}
 use Rattle.transaction.specs.Lists.{firstOf}
 use Rattle.model.specs.declared.Found.{Found}
 use Rattle.model.specs.declared.Report.{Report}
@@ -18,19 +16,15 @@ use Rattle.model.proofs.Capacity.{find-below}
 use Rattle.model.proofs.Findings.{number-known, report-told, report-refused}
 use Rattle.layout.specs.Layout.{knownSlots, shardOf, slotKnown}
 use Rattle.layout.proofs.Ledgers.{known-length, known-entry}
-use Rattle.holdings.specs.declared.Inputs.{Inputs}
-use Rattle.holdings.specs.Held.{Lists}
 use Rattle.shard.specs.View.{view, Sound}
 use Rattle.shard.specs.View as shard
 
 -- the parts that are read
-pub told-slot : (ws : List ℕ) (place : ℕ) {me count : ℕ} {t : Transaction} {here : Inputs} {found : List Found}
-    → me ≡ shard.number ws → t ≡ slotKnown ws place .transaction → Lists here (inputsHere me t)
-    → ((inputs : List Input) → Lists here inputs → count ≡ length inputs) → found ≡ slotKnown ws place .findings
+pub told-slot : (ws : List ℕ) (place : ℕ) {me count : ℕ} {found : List Found} → me ≡ shard.number ws
+    → count ≡ length (inputsHere me (slotKnown ws place .transaction)) → found ≡ slotKnown ws place .findings
     → record { answer = Findings count; findings = found } ≡ told (shard.number ws) (slotKnown ws place)
-told-slot ws place {me} {count} {t} em et lists counts ef =
-    let many : count ≡ length (inputsHere (shard.number ws) (slotKnown ws place .transaction)) =
-    counts (inputsHere me t) lists ∙ (λ i. length (inputsHere (em i) (et i))) in
+told-slot ws place em ec ef =
+    let many = ec ∙ (λ i. length (inputsHere (em i) (slotKnown ws place .transaction))) in
     λ i. record { answer = Findings (many i); findings = ef i }
 
 module _ {ws : List ℕ} (sound : Sound ws) (at number : ℕ) {place cause : ℕ} (found : place ≡ find (isNumbered number) (view ws .known))

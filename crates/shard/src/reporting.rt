@@ -10,15 +10,13 @@ ghost use Rattle.layout.specs.Layout.{knownSlots, slotKnown};
 ghost use Rattle.shard.specs.View.{view, Sound};
 ghost use Rattle.shard.specs.View as View;
 use crate::rows::is_unknown;
-use holdings::availability::count_of;
-use holdings::availability::inputs_here;
 use holdings::finding::nothing_found;
 use layout::Words;
 use layout::counts::own_number;
 use layout::entries::findings_at;
-use layout::entries::transaction_at;
 use model::Report;
 use model::Told;
+use registry::counting::inputs_here_at;
 use registry::finding::place_of_number;
 use transaction::fields::shard_fits;
 
@@ -76,9 +74,7 @@ fn told_at(s: &Words, place: usize) -> Report
     ensures { λ r. ⌜ r ≡ told (View.number (now (s .entry))) (slotKnown (now (s .entry)) place) ⌝ }
 {
     let me = own_number(s);
-    let t = transaction_at(s, place);
-    let here = inputs_here(me, t);
-    let count = count_of(here);
+    let count = inputs_here_at(s, place, me);
     let findings = findings_at(s, place);
     Report {
         answer: Told::Findings(count),

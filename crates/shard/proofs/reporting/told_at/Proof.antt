@@ -6,14 +6,8 @@ use Rattle.shard.proofs.reporting.told_at.Tie as tie
 own-number-requires : tie.Need-own-number-requires
 own-number-requires c κs = search needs
 
-transaction-at-requires : tie.Need-transaction-at-requires
-transaction-at-requires c κs = search needs
-
-inputs-here-requires : tie.Need-inputs-here-requires
-inputs-here-requires c κs = search needs
-
-count-of-requires : tie.Need-count-of-requires
-count-of-requires c κs = search needs
+inputs-here-at-requires : tie.Need-inputs-here-at-requires
+inputs-here-at-requires c κs = search needs
 
 findings-at-requires : tie.Need-findings-at-requires
 findings-at-requires c κs = search needs
@@ -23,11 +17,4 @@ returns c = search told-slot
 
 pub told-at-spec : {M : Type 1} → statement M
 told-at-spec =
-    tie.close
-    (tie.spec
-    own-number-requires
-    transaction-at-requires
-    inputs-here-requires
-    count-of-requires
-    findings-at-requires
-    returns)
+    tie.close (tie.spec own-number-requires inputs-here-at-requires findings-at-requires returns)
