@@ -53,4 +53,4 @@ pub mod records; // records read and written: plankeeper_read, _taken, _write_re
 pub mod clusters; // a cluster: plankeeper_words, _new, _apply, _mint, _register, _deliver, _turn
 pub mod cluster_queries; // plankeeper_held_count, _token_at, _known_count, _known_at, _outcome_of, _findings, _is_turned, _total_at, _total
 pub mod shards; // a lone shard: plankeeper_shard_words, _shard_new, _shard_mint, _shard_register, _shard_hear, _shard_turn
-pub mod shard_queries; // plankeeper_shard_held_count, _shard_token_at, _shard_known_count, _shard_known_at, _shard_outcome_of, _shard_findings, _shard_is_turned, _shard_total
+pub mod shard_queries; // plankeeper_shard_held_count, and likewise _token_at, _known_count, _known_at, _outcome_of, _findings, _is_turned, _total

@@ -41,7 +41,22 @@ use Rattle.model.specs.Findings.{
   told,
   report,
 }
-use Rattle.model.proofs.Basics.{number-behind, eqb-same, eqb-eq, eqb-yes, eqb-no, eqb-apart, not-no, passed, both, and-intro, clash, any-of, keep-length, find-at}
+use Rattle.model.proofs.Basics.{
+  eqb-eq,
+  eqb-yes,
+  eqb-no,
+  eqb-same,
+  eqb-apart,
+  not-no,
+  passed,
+  number-behind,
+  both,
+  and-intro,
+  clash,
+  any-of,
+  keep-length,
+  find-at,
+}
 use Rattle.model.proofs.Lookups.{lookup-passes, lookup-mem}
 use Rattle.model.proofs.Holdings.{NoTwice, available-token}
 use Prim.Native.Nat.{_<_}

@@ -35,7 +35,8 @@ returns-2 c =
     let filled : tie.After-findings-words = search in
     let arm : tie.After-answer2 = search in
     let entry : tie.Start = search in
-    tells-found (entry .args .report) (now (entry .args .words)) (arm .answer2 .given .1) (ap (λ (n : ℕ). 700 + n) (c .wide2 .ensures .0)) (filled .findings-words .ensures)
+    let code = ap (λ (n : ℕ). 700 + n) (c .wide2 .ensures .0) in
+    tells-found (entry .args .report) (now (entry .args .words)) (arm .answer2 .given .1) code (filled .findings-words .ensures)
 
 pub tell-spec : {M : Type 1} → statement M
 tell-spec =
