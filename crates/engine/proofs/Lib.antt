@@ -1,4 +1,5 @@
 pub mod Joins
 pub mod Promises
+pub mod Taken
 pub mod Tells
 pub mod Demand

@@ -47,6 +47,8 @@
 pub mod words; // a transaction as 35 words, both ways; internal, and public only because the crate `probes` uses it
 mod codes; // an answer as a number
 mod fields; // what was read of a record, as 42 words
+mod slots; // a transaction's slots, put straight from the bytes into these words and checked
+mod taking; // and likewise a whole record with a transaction
 mod ledgers; // a held token as 5 words, a known transaction as 43
 mod findings; // what was found about its inputs, as 8
 pub mod records; // records read and written: plankeeper_read, _taken, _write_register, _write_vote, _write_mint, _write_turn

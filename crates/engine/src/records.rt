@@ -9,14 +9,14 @@ ghost use Rattle.engine.specs.Fields.{Fills};
 ghost use Rattle.engine.specs.Writing.{codeOf, Encodes};
 use crate::fields::fields_of;
 use crate::fields::number_of;
+use crate::taking::take_record;
 use crate::words::narrow;
 use crate::words::transaction_from;
 use crate::words::wide;
 use writer::Written;
 
-// The record at the front of the bytes: 0 and its fields, or the refusal's number and zeros.
-#[no_mangle]
-pub extern "C" fn plankeeper_read(bytes: &[u8], fields: &mut [u32; 42]) -> u32
+// The record at the front of the bytes, of any kind, by way of what the reader hands back.
+fn read_any(bytes: &[u8], fields: &mut [u32; 42]) -> u32
     ensures { λ r. ⌜ Fills (now (bytes .entry)) r (now (fields .exit)) ⌝ }
 {
     let reading = reader::read(bytes);
@@ -24,6 +24,26 @@ pub extern "C" fn plankeeper_read(bytes: &[u8], fields: &mut [u32; 42]) -> u32
     let words = fields_of(reading);
     *fields = words;
     number_of(answer)
+}
+
+// The record at the front of the bytes: 0 and its fields, or the refusal's number and zeros. Registrations and votes, which are nearly all that is
+// read, go straight into the words.
+#[no_mangle]
+pub extern "C" fn plankeeper_read(bytes: &[u8], fields: &mut [u32; 42]) -> u32
+    ensures { λ r. ⌜ Fills (now (bytes .entry)) r (now (fields .exit)) ⌝ }
+{
+    if reader::head_cause(bytes) != 0 {
+        return read_any(bytes, fields);
+    }
+    if 2 < bytes[0] {
+        return read_any(bytes, fields);
+    }
+    let number = take_record(bytes, fields);
+    if number != 0 {
+        *fields = [0; 42];
+        return wide(number);
+    }
+    0
 }
 
 // How many bytes the record at the front takes, refused or not; all of them where no whole record stands there.

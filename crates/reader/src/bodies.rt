@@ -51,7 +51,7 @@ pub(crate) fn front_fields(bytes: &[u8]) -> Record
 }
 
 // Check 3 of these fields.
-pub(crate) fn front_fits(bytes: &[u8]) -> bool
+pub fn front_fits(bytes: &[u8]) -> bool
     requires { ⌜ (headCause (now bytes) ≡ 0) × ((kindOf (now bytes) ≡ 1) ⊎ (kindOf (now bytes) ≡ 2)) ⌝ }
     ensures { λ r. ⌜ r ≡ cond (eqb (kindOf (now (bytes .entry))) 1)
         (shardFits (byteAt (now (bytes .entry)) 1))

@@ -20,14 +20,14 @@ fn four(a: u8, b: u8, c: u8, d: u8) -> u32
     ((wide(a) * 256 + wide(b)) * 256 + wide(c)) * 256 + wide(d)
 }
 
-pub(crate) fn word_at(bytes: &[u8], at: usize) -> u32
+pub fn word_at(bytes: &[u8], at: usize) -> u32
     requires { ⌜ at + 4 ≤ length (now bytes) ⌝ }
     ensures { λ r. ⌜ r ≡ wordAt (now (bytes .entry)) at ⌝ }
 {
     four(bytes[at], bytes[at + 1], bytes[at + 2], bytes[at + 3])
 }
 
-fn input_at(bytes: &[u8], at: usize) -> Input
+pub fn input_at(bytes: &[u8], at: usize) -> Input
     requires { ⌜ at + 14 ≤ length (now bytes) ⌝ }
     ensures { λ r. ⌜ r ≡ inputAt (now (bytes .entry)) at ⌝ }
 {
@@ -42,7 +42,7 @@ fn input_at(bytes: &[u8], at: usize) -> Input
     }
 }
 
-fn output_at(bytes: &[u8], at: usize) -> Output
+pub fn output_at(bytes: &[u8], at: usize) -> Output
     requires { ⌜ at + 9 ≤ length (now bytes) ⌝ }
     ensures { λ r. ⌜ r ≡ outputAt (now (bytes .entry)) at ⌝ }
 {

@@ -1,11 +1,13 @@
 // The record reader: document 01, 'Records'. Any bytes whatever get an answer.
+// The interface: the types, `read` and `rest`.
+// Internal, and public only because the crate `engine` is made of them: `head_cause`, and what is public of `layout` and `bodies`.
 ghost use mathlib.Core.Path.{_≡_};
 ghost use Rattle.reader.specs.Reading.{Reads, headCause, takenOf, restOf};
 ghost use Rattle.reader.specs.Layout.{bodyLength};
 use transaction::Transaction;
 
-mod layout; // fields at their places
-mod bodies; // what `read` is made of
+pub mod layout; // fields at their places
+pub mod bodies; // what `read` is made of
 
 // The fields of a record beside its transaction, as they stand in the bytes.
 pub enum Record {
@@ -59,7 +61,7 @@ fn body_length(kind: u8) -> usize
 }
 
 // Checks 1 and 2: their number, or 0 where a whole record stands at the front.
-fn head_cause(bytes: &[u8]) -> u8
+pub fn head_cause(bytes: &[u8]) -> u8
     ensures { λ r. ⌜ r ≡ headCause (now (bytes .entry)) ⌝ }
 {
     if bytes.len() == 0 {

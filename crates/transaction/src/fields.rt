@@ -21,11 +21,8 @@ pub fn shard_fits(shard: u8) -> bool
 fn index_fits(genesis: u8, creator: u32, index: u8) -> bool
     ensures { λ r. ⌜ r ≡ indexFits genesis creator index ⌝ }
 {
-    if creator == 0 {
-        index < genesis
-    } else {
-        index < 4
-    }
+    let limit = if creator == 0 { genesis } else { 4 };
+    index < limit
 }
 
 fn value_fits(owner: u32, amount: u32) -> bool
@@ -72,7 +69,7 @@ fn zero_output() -> Output
 }
 
 // A slot of the inputs: in range where it is used, all zero where it is not.
-fn input_slot_fits(genesis: u8, used: bool, x: Input) -> bool
+pub fn input_slot_fits(genesis: u8, used: bool, x: Input) -> bool
     ensures { λ r. ⌜ r ≡ cond used (inputFits genesis x) (sameInput zeroInput x) ⌝ }
 {
     let zero = zero_input();
@@ -83,7 +80,7 @@ fn input_slot_fits(genesis: u8, used: bool, x: Input) -> bool
     }
 }
 
-fn output_slot_fits(used: bool, y: Output) -> bool
+pub fn output_slot_fits(used: bool, y: Output) -> bool
     ensures { λ r. ⌜ r ≡ cond used (outputFits y) (sameOutput zeroOutput y) ⌝ }
 {
     let zero = zero_output();

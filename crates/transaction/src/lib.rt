@@ -1,7 +1,7 @@
 // The plain types that every part of the engine speaks of, the field checks 3, 4 and 5, and equality.
 // Fields are raw: every value can be handed in, and the checks say what is wrong with it.
 // The interface: the types; `checks::cause`, `register_cause`, `vote_cause`, `mint_cause` and `turn_cause`; `equality::same_transaction`; all of `parts`.
-// Internal, and public only because the crate `reader` is made of them: `fields`, and the rest of `checks`.
+// Internal, and public only because the crates `reader` and `engine` are made of them: `fields`, and the rest of `checks`.
 
 pub mod equality; // every field agrees
 pub mod fields; // check 3

@@ -182,7 +182,7 @@ fn token(shard: u8, &[creator, index, owner, amount, pledge]: &TokenWords) -> To
 fn known(outcome: Outcome, words: &KnownWords) -> Known {
     let (transaction, heard) = words.split_first_chunk().expect("a transaction's words");
     Known {
-        transaction: Transaction::from_words(*transaction),
+        transaction: Transaction::from_library(transaction),
         heard: array::from_fn(|sender| match heard[sender] {
             0 => None,
             1 => Some(Verdict::No),

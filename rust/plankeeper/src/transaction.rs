@@ -136,6 +136,16 @@ impl Transaction {
         Transaction { words }
     }
 
+    /// The transaction of words that the library has filled. They are fields of
+    /// a transaction that it has accepted, proved to be bytes where a field is
+    /// one, so they are taken as they are: narrowing them word by word took
+    /// longer than reading them.
+    #[inline]
+    pub(crate) fn from_library(words: &TransactionWords) -> Self {
+        debug_assert_eq!(*words, Self::from_words(*words).words, "defect: wide words");
+        Transaction { words: *words }
+    }
+
     /// Its words.
     #[inline]
     pub fn words(&self) -> &TransactionWords {

@@ -8,12 +8,14 @@ use super::{ReadingWords, TransactionWords, raw};
 /// Reads the record at the front of the bytes: answers 0 and fills the words
 /// with its fields, or answers with the refusal's number (1 to 5) and fills
 /// them with zeros.
+#[inline]
 pub fn read(bytes: &[u8], fields: &mut ReadingWords) -> u32 {
     unsafe { raw::plankeeper_read(bytes.as_ptr(), bytes.len(), fields) }
 }
 
 /// How many bytes the record at the front takes, refused or not; all of them
 /// where no whole record stands there.
+#[inline]
 pub fn taken(bytes: &[u8]) -> usize {
     unsafe { raw::plankeeper_taken(bytes.as_ptr(), bytes.len()) }
 }
