@@ -5,6 +5,7 @@ use mathlib.Core.Bool.{Bool, true, false, cond, not, _&&_, false≢true}
 use mathlib.Core.Logic.{_⊎_}
 use mathlib.Core.List.{List, [], _∷_, _++_, append-nil}
 use native.Mathlib.Omega.{arith}
+use borrow.Author.Tests.{not-true, not-false}
 use lib.Dec.{eqb, leb}
 use lib.ListN.{length, set, take, replicate, drop-of-length-le}
 use lib.Seq.{sets}
@@ -26,6 +27,7 @@ use Rattle.transaction.specs.Checks.{
   outputAmount,
   causeOf,
 }
+use Rattle.transaction.proofs.Slots.{slot, slot-0, slot-1, slot-2, slot-3}
 use Rattle.transaction.proofs.Causes.{fits-inputs, fit-outputs, cause-0, cause-4, cause-5}
 use Rattle.reader.specs.declared.Record.{Record}
 use Rattle.reader.specs.declared.Record.the-variants.{Register, Vote, Mint, Turn}
@@ -63,9 +65,41 @@ pub four-run : (l : List ℕ) (to : ℕ) (p q r s : List ℕ) (m n k : ℕ)
 four-run l to p q r s m n k em en ek ea eb ec ed =
     behind l to ((p ++ q) ++ r) s k ek (behind l to (p ++ q) r n en (behind l to p q m em ea eb) ec) ed
 
--- slots that do not fit promise nothing of the words
-pub unfit : {fit : Bool} {words before after : List ℕ} {to : ℕ} → false ≡ fit → TakesSlots fit words before to false after
-unfit fails = record { answered = fails; stored = λ yes. absurd (false≢true yes) }
+-- four slots, from what was found of each of them, up to the first that does not fit; such slots promise nothing of the words
+module _ {A : Type 0} (d : A) (x : List A) (long : length x ≡ 4) (u z : A → Bool) (n : ℕ) (words before : List ℕ) (to : ℕ) where
+  abbrev Takes : Bool → List ℕ → Type 0
+  Takes = TakesSlots (slotsFit u z n x) words before to
+
+  abbrev test : ℕ → Bool
+  test = slot d x u z n
+
+  unfit : {after : List ℕ} → false ≡ slotsFit u z n x → Takes false after
+  unfit fails = record { answered = fails; stored = λ fits. absurd (false≢true fits) }
+
+  pub first-fails : {p : Bool} {after : List ℕ} → p ≡ test 0 → not p ≡ true → Takes false after
+  first-fails ep fails = unfit (slot-0 d x long u z n (sym ep ∙ not-true _ fails))
+
+  module _ {p : Bool} (ep : p ≡ test 0) (first : not p ≡ false) where
+    abbrev pass-0 : test 0 ≡ true
+    pass-0 = sym ep ∙ not-false _ first
+
+    pub second-fails : {q : Bool} {after : List ℕ} → q ≡ test 1 → not q ≡ true → Takes false after
+    second-fails eq fails = unfit (slot-1 d x long u z n pass-0 (sym eq ∙ not-true _ fails))
+
+    module _ {q : Bool} (eq : q ≡ test 1) (second : not q ≡ false) where
+      abbrev pass-1 : test 1 ≡ true
+      pass-1 = sym eq ∙ not-false _ second
+
+      pub third-fails : {r : Bool} {after : List ℕ} → r ≡ test 2 → not r ≡ true → Takes false after
+      third-fails er fails = unfit (slot-2 d x long u z n pass-0 pass-1 (sym er ∙ not-true _ fails))
+
+      -- three fit, so that the fourth decides
+      pub fourth-decides : {r s : Bool} {after : List ℕ} → r ≡ test 2 → not r ≡ false → s ≡ test 3
+          → after ≡ sets before to words → Takes s after
+      fourth-decides er third es stores = record {
+        answered = slot-3 d x long u z n pass-0 pass-1 (sym er ∙ not-false _ third) es;
+        stored = λ _. stores;
+      }
 
 -- checks 4 and 5, from what was found of the slots
 named : (t : Transaction) {x : List Input} {count : ℕ} {found : Bool} → found ≡ repeats sameName (take count x)

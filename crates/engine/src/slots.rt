@@ -1,5 +1,7 @@
 // The slots of a transaction, put straight from a record's bytes into the lent words and checked on the way: a field is loaded once, stored
 // and tested while it is in a register, and no slot waits for another.
+// Of the 42 words seven stand in front of the transaction, then its number and its counts; from 10 on the inputs, five words each, from 30 on
+// the outputs, three each. In the bytes an input has 14, an output 9.
 ghost use mathlib.Core.Path.{_≡_};
 ghost use mathlib.Core.Bool.{cond};
 ghost use Prim.Native.Nat.{_+_, _≤_};
