@@ -1,13 +1,13 @@
 -- Words stored one behind the other, slots taken one by one, and a record taken whole.
 use Prim.Native.Nat.{ℕ, suc, _+_}
 use mathlib.Core.Path.{_≡_, refl, sym, ap, _∙_}
-use mathlib.Core.Bool.{Bool, true, false, cond, not, _&&_, false≢true}
+use mathlib.Core.Bool.{Bool, true, false, not, _&&_, false≢true}
 use mathlib.Core.Logic.{_⊎_}
 use mathlib.Core.List.{List, [], _∷_, _++_, append-nil}
 use native.Mathlib.Omega.{arith}
 use borrow.Author.Tests.{not-true, not-false}
 use lib.Dec.{eqb, leb}
-use lib.ListN.{length, set, take, replicate, drop-of-length-le}
+use lib.ListN.{length, length-append, set, take, replicate, drop-of-length-le}
 use lib.Seq.{sets}
 use Rattle.transaction.specs.declared.Input.{Input}
 use Rattle.transaction.specs.declared.Output.{Output}
@@ -16,7 +16,6 @@ use Rattle.transaction.specs.Lists.{repeats, total, slotsFit}
 use Rattle.transaction.specs.Tokens.{sameInput, sameOutput, zeroInput, zeroOutput}
 use Rattle.transaction.specs.Checks.{
   houseGenesis,
-  shardFits,
   inputFits,
   outputFits,
   countsFit,
@@ -33,7 +32,7 @@ use Rattle.reader.specs.declared.Record.{Record}
 use Rattle.reader.specs.declared.Record.the-variants.{Register, Vote, Mint, Turn}
 use Rattle.reader.specs.Layout.{byteAt, wordAt, inputsAt, outputsAt, transactionAt}
 use Rattle.reader.specs.Reading.{kindOf, headCause, recordAt, transactionIn}
-use Rattle.reader.proofs.Cases.{front-passes, reading-good, reading-bad}
+use Rattle.reader.proofs.Cases.{front-fit, front-passes, reading-good, reading-bad}
 use Rattle.writer.proofs.Stores.{behind, front}
 use Rattle.engine.specs.Words.{wordsOf}
 use Rattle.engine.specs.Fields.{recordWords, answerWords, readingWords, Fills}
@@ -180,11 +179,8 @@ length-front (Mint receiver index owner amount) = refl
 length-front (Turn receiver) = refl
 
 length-all : (fields : Record) (t : Transaction) → length (recordWords fields ++ wordsOf t) ≡ 42
-unfolding recordWords wordsOf
-length-all (Register receiver) t = refl
-length-all (Vote receiver sender verdict) t = refl
-length-all (Mint receiver index owner amount) t = refl
-length-all (Turn receiver) t = refl
+unfolding wordsOf
+length-all fields t = length-append (recordWords fields) (wordsOf t) ∙ ap (λ (n : ℕ). n + 35) (length-front fields)
 
 -- the seven words in front and those of the transaction are all 42
 pub record-run : (before : List ℕ) (fields : Record) (t : Transaction) {mid after : List ℕ} → length before ≡ 42
@@ -208,13 +204,6 @@ module _ (l : List ℕ) (h : headCause l ≡ 0) {answer : ℕ} {taken : List ℕ
   fills-refused some en =
       let bad = reading-bad l h (takes .answered) some refl in
       record { answered = en ∙ takes .answered; filled = ap readingWords bad }
-
--- check 3 of the fields in front of the transaction
-abbrev front-fit : List ℕ → Bool
-front-fit l =
-    cond (eqb (kindOf l) 1)
-    (shardFits (byteAt l 1))
-    (shardFits (byteAt l 1) && shardFits (byteAt l 2) && leb (byteAt l 3) 1)
 
 -- the front passes, and its words and the transaction's are put one behind the other
 module _ (l : List ℕ) (h : headCause l ≡ 0) (k : (kindOf l ≡ 1) ⊎ (kindOf l ≡ 2)) {fit : Bool} (fits : fit ≡ front-fit l) (pass : fit ≡ true)

@@ -1,5 +1,5 @@
 -- What the parts of the reader promise that put the fields straight from the bytes into the lent words and check them on the way. A part that
--- says no has left some words there: then the record is refused, and all of them are set to 0.
+-- says no has left some words there: then the record is refused, and all of them are set to 0. All of this is internal: no contract of the interface cites it.
 use Prim.Native.Nat.{ℕ, _+_}
 use mathlib.Core.Path.{_≡_}
 use mathlib.Core.Bool.{Bool, true}

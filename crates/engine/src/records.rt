@@ -26,8 +26,8 @@ fn read_any(bytes: &[u8], fields: &mut [u32; 42]) -> u32
     number_of(answer)
 }
 
-// The record at the front of the bytes: 0 and its fields, or the refusal's number and zeros. Registrations and votes, which are nearly all that is
-// read, go straight into the words.
+// The record at the front of the bytes: 0 and its fields, or the refusal's number and zeros. Registrations and votes go
+// straight into the words.
 #[no_mangle]
 pub extern "C" fn plankeeper_read(bytes: &[u8], fields: &mut [u32; 42]) -> u32
     ensures { λ r. ⌜ Fills (now (bytes .entry)) r (now (fields .exit)) ⌝ }

@@ -34,24 +34,24 @@ fn put_head(fields: &mut [u32; 42], number: u32, inputs: u8, outputs: u8)
 
 // Checks 4 and 5 of a transaction that has passed check 3, by the places of its inputs and of its outputs. The slots are read here, one by one, and not
 // by the reader's functions for four of them, which are too large for the compiler to make them part of this one as well.
-fn last_cause(bytes: &[u8], i: usize, o: usize, count: u8) -> u8
-    requires { ⌜ (i + 56 ≤ length (now bytes)) × (o + 36 ≤ length (now bytes)) ⌝ }
-    ensures { λ r. ⌜ LastOf (inputsAt (now (bytes .entry)) i) (outputsAt (now (bytes .entry)) o) count r ⌝ }
+fn last_cause(bytes: &[u8], inputs: usize, outputs: usize, count: u8) -> u8
+    requires { ⌜ (inputs + 56 ≤ length (now bytes)) × (outputs + 36 ≤ length (now bytes)) ⌝ }
+    ensures { λ r. ⌜ LastOf (inputsAt (now (bytes .entry)) inputs) (outputsAt (now (bytes .entry)) outputs) count r ⌝ }
 {
     let x = [
-        input_at(bytes, i),
-        input_at(bytes, i + 14),
-        input_at(bytes, i + 28),
-        input_at(bytes, i + 42),
+        input_at(bytes, inputs),
+        input_at(bytes, inputs + 14),
+        input_at(bytes, inputs + 28),
+        input_at(bytes, inputs + 42),
     ];
     if named_twice(count, x) {
         return 4;
     }
     let y = [
-        output_at(bytes, o),
-        output_at(bytes, o + 9),
-        output_at(bytes, o + 18),
-        output_at(bytes, o + 27),
+        output_at(bytes, outputs),
+        output_at(bytes, outputs + 9),
+        output_at(bytes, outputs + 18),
+        output_at(bytes, outputs + 27),
     ];
     if input_total(x) != output_total(y) {
         return 5;
@@ -105,14 +105,14 @@ fn put_vote(receiver: u8, sender: u8, verdict: u8, fields: &mut [u32; 42])
 }
 
 // All 42 words are there. An array tells its length, a `&mut` to one does not; nothing is left of these two in the program.
-fn all(words: [u32; 42])
+fn all_words(words: [u32; 42])
     ensures { λ _. ⌜ length words ≡ 42 ⌝ }
 {}
 
 fn all_lent(fields: &[u32; 42])
     ensures { λ _. ⌜ length (now (fields .entry)) ≡ 42 ⌝ }
 {
-    all(*fields);
+    all_words(*fields);
 }
 
 // The record at the front of the bytes, of kind 1 or 2.

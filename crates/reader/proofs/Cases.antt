@@ -242,8 +242,8 @@ module _ (l : List ℕ) (h : headCause l ≡ 0) (k : kindOf l ≡ 4) where
   long-4 = omega (arith, whole l h, length-4 (kindOf l) k)
 
 -- kinds 1 and 2 together: the fields in front pass check 3, and the transaction is the last 98 bytes
-abbrev front : List ℕ → Bool
-front l =
+abbrev pub front-fit : List ℕ → Bool
+front-fit l =
     cond (eqb (kindOf l) 1)
     (shardFits (byteAt l 1))
     (shardFits (byteAt l 1) && shardFits (byteAt l 2) && leb (byteAt l 3) 1)
@@ -285,7 +285,7 @@ module _ (l : List ℕ) (h : headCause l ≡ 0) (k : (kindOf l ≡ 1) ⊎ (kindO
       (λ e. rw (length-2 (kindOf l) e) (sym (transaction-2 l h e)))
       k
 
-  cause-behind : readCause l ≡ cond (front l) (causeOf houseGenesis (transactionIn l)) 3
+  cause-behind : readCause l ≡ cond (front-fit l) (causeOf houseGenesis (transactionIn l)) 3
   unfolding causeOf
   cause-behind =
       ⊎-elim
@@ -298,7 +298,7 @@ module _ (l : List ℕ) (h : headCause l ≡ 0) (k : (kindOf l ≡ 1) ⊎ (kindO
       (firstOf (checks houseGenesis (transactionAt l 4)))))
       k
 
-  module _ {fit : Bool} (e : fit ≡ front l) where
+  module _ {fit : Bool} (e : fit ≡ front-fit l) where
     pub front-fails : fit ≡ false → 3 ≡ readCause l
     front-fails n = sym (cause-behind ∙ rw (sym e ∙ n) refl)
 

@@ -100,19 +100,20 @@ impl Told {
 
 #[inline(never)]
 fn run_baseline(bytes: &[u8], records: usize) -> u64 {
-    let mut answer = Answer::UNSET;
-    again_and_again(bytes, records, |bytes| {
-        answer.read_baseline(bytes);
-        black_box(&mut answer);
-        answer.told()
-    })
+    run_filling(bytes, records, Answer::read_baseline)
 }
 
 #[inline(never)]
 fn run_words(bytes: &[u8], records: usize) -> u64 {
+    run_filling(bytes, records, Answer::read_words)
+}
+
+/// The loop of a reader that fills an answer.
+#[inline(always)]
+fn run_filling(bytes: &[u8], records: usize, read: impl Fn(&mut Answer, &[u8])) -> u64 {
     let mut answer = Answer::UNSET;
     again_and_again(bytes, records, |bytes| {
-        answer.read_words(bytes);
+        read(&mut answer, bytes);
         black_box(&mut answer);
         answer.told()
     })

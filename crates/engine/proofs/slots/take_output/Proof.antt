@@ -1,4 +1,3 @@
-use mathlib.Core.Path.{_≡_, sym, _∙_}
 use borrow.Author.Needs.{needs}
 use Rattle.engine.proofs.slots.take_output.Statement.{statement}
 use Rattle.engine.proofs.slots.take_output.Tie as tie

@@ -1,6 +1,5 @@
 use Prim.Native.Nat.{ℕ}
 use mathlib.Core.Path.{_≡_, refl, ap, _∙_}
-use mathlib.Core.Bool.{Bool}
 use mathlib.Core.List.{List, [], _∷_}
 use native.Mathlib.Omega.{arith}
 use lib.ListN.{take}
@@ -17,10 +16,10 @@ use Rattle.engine.proofs.taking.last_cause.Tie as tie
 
 -- The inputs in the bytes, and the outputs.
 abbrev inputs : tie.Start → List Input
-inputs entry = inputsAt (now (entry .args .bytes)) (entry .args .i)
+inputs entry = inputsAt (now (entry .args .bytes)) (entry .args .inputs)
 
 abbrev outputs : tie.Start → List Output
-outputs entry = outputsAt (now (entry .args .bytes)) (entry .args .o)
+outputs entry = outputsAt (now (entry .args .bytes)) (entry .args .outputs)
 
 -- The four inputs read are these.
 ins : (c : tie.After-input-at4) → let entry : tie.Start = search in

@@ -1,6 +1,6 @@
 use Prim.Native.Nat.{ℕ}
 use mathlib.Core.Path.{_≡_, refl, sym, _∙_}
-use mathlib.Core.Bool.{Bool, true}
+use mathlib.Core.Bool.{true}
 use mathlib.Core.List.{List}
 use native.Mathlib.Omega.{arith}
 use borrow.Author.Tests.{not-true, not-false}
@@ -19,28 +19,28 @@ abbrev bytes : tie.Start → List ℕ
 bytes entry = now (entry .args .bytes)
 
 -- The transaction there.
-abbrev swap : tie.Start → Transaction
-swap entry = transactionAt (bytes entry) (entry .args .at)
+abbrev transaction : tie.Start → Transaction
+transaction entry = transactionAt (bytes entry) (entry .args .at)
 
 -- What was found of the number and the counts is what the definition says.
-counts : (c : tie.After-counts-fit) → let entry : tie.Start = search in c .counts-fit .result ≡ countsFit (swap entry)
+counts : (c : tie.After-counts-fit) → let entry : tie.Start = search in c .counts-fit .result ≡ countsFit (transaction entry)
 counts c =
     let read : tie.After-word-at = search in
     let entry : tie.Start = search in
     counts-of (bytes entry) (entry .args .at) (read .word-at .ensures) (c .counts-fit .ensures)
 
 -- They pass.
-within : (c : tie.Else1) → let entry : tie.Start = search in true ≡ countsFit (swap entry)
+within : (c : tie.Else1) → let entry : tie.Start = search in true ≡ countsFit (transaction entry)
 within c = sym (not-false _ (c .if1 .left)) ∙ counts (search)
 
 -- What was found of the inputs.
-inputs : (c : tie.After-take-inputs) → let entry : tie.Start = search in c .take-inputs .result ≡ fits-inputs houseGenesis (swap entry)
+inputs : (c : tie.After-take-inputs) → let entry : tie.Start = search in c .take-inputs .result ≡ fits-inputs houseGenesis (transaction entry)
 inputs c =
     let entry : tie.Start = search in
     inputs-of (bytes entry) (entry .args .at) (c .take-inputs .ensures .answered)
 
 -- Check 3: all before the outputs passes, so that they decide.
-fields : (c : tie.After-take-outputs) → let entry : tie.Start = search in c .take-outputs .result ≡ fieldsFit houseGenesis (swap entry)
+fields : (c : tie.After-take-outputs) → let entry : tie.Start = search in c .take-outputs .result ≡ fieldsFit houseGenesis (transaction entry)
 fields c =
     let passed : tie.Else2 = search in
     let entry : tie.Start = search in
@@ -69,7 +69,7 @@ returns : tie.Need-returns
 returns c =
     let entry : tie.Start = search in
     let fails = sym (not-true _ (c .if1 .taken)) ∙ counts (search) in
-    let three = cause-3 houseGenesis (swap entry) (fit-counts houseGenesis (swap entry) fails) in
+    let three = cause-3 houseGenesis (transaction entry) (fit-counts houseGenesis (transaction entry) fails) in
     refuses (bytes entry) (entry .args .at) (now (entry .args .fields)) three (λ z. omega arith)
 
 put-head-requires : tie.Need-put-head-requires
@@ -85,7 +85,7 @@ returns-2 : tie.Need-returns-2
 returns-2 c =
     let entry : tie.Start = search in
     let fails = sym (not-true _ (c .if2 .taken)) ∙ inputs (search) in
-    let three = cause-3 houseGenesis (swap entry) (fit-inputs houseGenesis (swap entry) (within (search)) fails) in
+    let three = cause-3 houseGenesis (transaction entry) (fit-inputs houseGenesis (transaction entry) (within (search)) fails) in
     refuses (bytes entry) (entry .args .at) (now (entry .args .fields)) three (λ z. omega arith)
 
 add-take-outputs : tie.Need-add-take-outputs
@@ -98,7 +98,7 @@ returns-3 : tie.Need-returns-3
 returns-3 c =
     let entry : tie.Start = search in
     let fails = sym (not-true _ (c .if3 .taken)) ∙ fields (search) in
-    let three = cause-3 houseGenesis (swap entry) fails in
+    let three = cause-3 houseGenesis (transaction entry) fails in
     refuses (bytes entry) (entry .args .at) (now (entry .args .fields)) three (λ z. omega arith)
 
 add-last-cause : tie.Need-add-last-cause
@@ -122,7 +122,7 @@ returns-4 c =
     let entry : tie.Start = search in
     let fit = sym (not-false _ (outputs-pass .if3 .left)) ∙ fields (search) in
     record {
-      answered = c .last-cause .ensures .answered (swap entry) refl refl refl fit;
+      answered = c .last-cause .ensures .answered (transaction entry) refl refl refl fit;
       stored = λ _.
           transaction-run (bytes entry) (entry .args .at) (now (entry .args .fields)) (read .word-at .ensures)
           (head .put-head .ensures)
