@@ -10,7 +10,7 @@
 
 use std::fmt::{self, Display, Formatter};
 
-use plankeeper::{Cluster, Finding, Input, Known, Refusal, Verdict, records};
+use plankeeper::{Cluster, Finding, Input, Known, Refusal, Transaction, Verdict, records};
 
 /// What is asked: a pantry, and a swap's number.
 #[derive(Clone, Copy, Debug, PartialEq, Eq)]
@@ -19,6 +19,17 @@ pub struct Question {
     pub pantry: u32,
     /// The swap's number.
     pub swap: u32,
+}
+
+/// What a shard found of an input there.
+#[derive(Clone, Copy, Debug, PartialEq, Eq)]
+pub struct Found {
+    /// The input's place among all inputs of the transaction, from 1.
+    pub place: usize,
+    /// The input.
+    pub input: Input,
+    /// What was found of it.
+    pub finding: Finding,
 }
 
 /// Why there is nothing to tell. Shown as text it is a sentence for the steward.
@@ -40,22 +51,42 @@ pub fn played(bytes: &[u8]) -> Cluster {
     cluster
 }
 
+/// The transaction's inputs at the shard, with what it found of each when it
+/// registered the transaction.
+pub fn found(
+    cluster: &Cluster,
+    shard: u8,
+    transaction: &Transaction,
+) -> Result<Vec<Found>, Refusal> {
+    let findings = cluster.findings(shard, transaction.number())?;
+    let inputs = (1..).zip(transaction.inputs());
+    let here = inputs.filter(|(_, input)| input.token.shard == shard);
+    let found = here
+        .zip(findings.iter())
+        .map(|((place, input), finding)| Found {
+            place,
+            input,
+            finding: *finding,
+        });
+    Ok(found.collect())
+}
+
 /// The text: a line for the swap, then one for each of its inputs at the pantry.
 pub fn report(cluster: &Cluster, question: Question) -> Result<String, Refused> {
     // The library takes a number above 255 for 255, which is no pantry either.
     let shard = u8::try_from(question.pantry).unwrap_or(u8::MAX);
     let refused = |refusal| Refused { question, refusal };
-    let findings = cluster.findings(shard, question.swap).map_err(refused)?;
+    // The library says why it has nothing to tell.
+    cluster.findings(shard, question.swap).map_err(refused)?;
     let mut known = cluster.transactions(shard);
     let known = known.find(|known| known.transaction.number() == question.swap);
     let known = known.ok_or_else(|| refused(Refusal::NoSuchNumber))?;
+    let found = found(cluster, shard, &known.transaction).map_err(refused)?;
     let mut text = heading(shard, &known);
-    let inputs = (1..).zip(known.transaction.inputs());
-    let here = inputs.filter(|(_, input)| input.token.shard == shard);
-    for ((place, input), finding) in here.zip(findings.iter()) {
-        text += &line(place, &input, finding);
+    for found in &found {
+        text += &line(found);
     }
-    if findings.is_empty() {
+    if found.is_empty() {
         text += &format!("it takes nothing from pantry {shard}\n");
     }
     Ok(text)
@@ -73,23 +104,26 @@ fn heading(shard: u8, known: &Known) -> String {
 }
 
 /// An input by its place among all inputs of the swap, and what was found of it.
-fn line(place: usize, input: &Input, finding: &Finding) -> String {
+fn line(found: &Found) -> String {
     let Input {
         token,
         owner,
         amount,
-    } = input;
+    } = found.input;
     let (shard, creator, index) = (token.shard, token.creator, token.index);
-    let portions = if *amount == 1 { "portion" } else { "portions" };
+    let (place, portions) = (
+        found.place,
+        if amount == 1 { "portion" } else { "portions" },
+    );
     format!(
         "input {place}, token (pantry {shard}, making swap {creator}, position {index}), \
          household {owner}, {amount} {portions}: {}\n",
-        words(finding)
+        words(&found.finding)
     )
 }
 
 /// Document 02's words for a finding.
-fn words(finding: &Finding) -> String {
+pub fn words(finding: &Finding) -> String {
     match finding {
         Finding::Available => "available".into(),
         Finding::NotHeld => "not held".into(),

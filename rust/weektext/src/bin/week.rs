@@ -2,10 +2,10 @@
 
 #![forbid(unsafe_code)]
 
-use std::io::{self, ErrorKind, Read, Write, stderr, stdin, stdout};
+use std::ffi::OsString;
 use std::process::ExitCode;
-use std::{env, fs};
 
+use command::{Failure, contents, is_help, print, source};
 use weektext::{records, text};
 
 const HELP: &str = "\
@@ -43,72 +43,24 @@ Exit status: 0; 1 if the text has an error or a file cannot be read or written;
 
 const USAGE: &str = "usage: week records|text [FILE], or week --help";
 
-/// What ends the program early.
-enum Failure {
-    Usage,
-    Message(String),
-    /// Nobody reads any more, which is no mistake.
-    ClosedPipe,
-}
-
 fn main() -> ExitCode {
-    let arguments: Vec<String> = env::args().skip(1).collect();
-    match run(&arguments) {
-        Ok(()) | Err(Failure::ClosedPipe) => ExitCode::SUCCESS,
-        Err(Failure::Message(message)) => {
-            complain(&message);
-            ExitCode::FAILURE
-        }
-        Err(Failure::Usage) => {
-            complain(USAGE);
-            ExitCode::from(2)
-        }
-    }
+    command::main("week", USAGE, run)
 }
 
-/// A message to a standard error that may be closed.
-fn complain(message: &str) {
-    let _ = writeln!(stderr(), "{message}");
-}
-
-fn run(arguments: &[String]) -> Result<(), Failure> {
+fn run(arguments: &[OsString]) -> Result<(), Failure> {
     let (command, file) = match arguments {
-        [help] if help == "--help" || help == "-h" => return print(HELP.as_bytes()),
+        [help] if is_help(help) => return print(HELP.as_bytes()),
         [command] => (command, None),
-        [command, file] => (command, Some(file.as_str())),
+        [command, file] => (command, Some(file.as_os_str())),
         _ => return Err(Failure::Usage),
     };
-    match command.as_str() {
-        "records" => {
+    match command.to_str() {
+        Some("records") => {
             let week = contents(file)?;
-            let records = records(&week)
-                .map_err(|error| Failure::Message(format!("week: {}: {error}", name(file))))?;
-            print(&records)
+            let wrong = |error| Failure::Message(format!("{}: {error}", source(file)));
+            print(&records(&week).map_err(wrong)?)
         }
-        "text" => print(text(&contents(file)?).as_bytes()),
+        Some("text") => print(text(&contents(file)?).as_bytes()),
         _ => Err(Failure::Usage),
     }
-}
-
-fn name(file: Option<&str>) -> &str {
-    file.unwrap_or("standard input")
-}
-
-fn contents(file: Option<&str>) -> Result<Vec<u8>, Failure> {
-    let read = match file {
-        Some(file) => fs::read(file),
-        None => {
-            let mut bytes = Vec::new();
-            stdin().read_to_end(&mut bytes).map(|_| bytes)
-        }
-    };
-    read.map_err(|error| Failure::Message(format!("week: {}: {error}", name(file))))
-}
-
-fn print(bytes: &[u8]) -> Result<(), Failure> {
-    let written = stdout().write_all(bytes).and_then(|()| stdout().flush());
-    written.map_err(|error: io::Error| match error.kind() {
-        ErrorKind::BrokenPipe => Failure::ClosedPipe,
-        _ => Failure::Message(format!("week: standard output: {error}")),
-    })
 }

@@ -1,0 +1,17 @@
+//! Where things stand in the eight lanes. All figures are in pixels.
+
+/// A lane's width.
+pub(crate) const LANE: i32 = 68;
+/// The width of all lanes.
+pub(crate) const WIDTH: i32 = 8 * LANE;
+/// A row's height.
+pub(crate) const ROW: i32 = 34;
+/// Where in a row the marks have their middle.
+pub(crate) const LEVEL: i32 = 22;
+/// Where in a row the text above a mark stands.
+pub(crate) const ABOVE: i32 = 10;
+
+/// The middle of a shard's lane.
+pub(crate) fn middle(shard: u8) -> i32 {
+    LANE * i32::from(shard) + LANE / 2
+}

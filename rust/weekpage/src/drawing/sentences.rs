@@ -1,0 +1,110 @@
+//! What a record has brought, in a sentence.
+
+use plankeeper::{Answer, Outcome, Record, Refusal, TokenId, Verdict};
+
+use super::markup::Markup;
+use super::tables::{holding, spoilers, swap, token_name, vote};
+use crate::reading::{Row, Week};
+
+/// The sentence beside the record's marks.
+pub(crate) fn sentence(html: &mut Markup, week: &Week, row: &Row) {
+    match &row.record {
+        Some(record) => asked(html, week, row, record),
+        None => html.text("a record that cannot be read"),
+    }
+    match row.answer {
+        Ok(answer) => came(html, week, row, answer),
+        Err(refusal) => refused(html, refusal),
+    }
+}
+
+/// What the record says.
+fn asked(html: &mut Markup, week: &Week, row: &Row, record: &Record) {
+    let about = |html: &mut Markup| {
+        if let Some(place) = row.about {
+            swap(html, week, place);
+        }
+    };
+    match *record {
+        Record::Mint {
+            receiver,
+            index,
+            owner,
+            amount,
+        } => {
+            let id = TokenId {
+                shard: receiver,
+                creator: 0,
+                index,
+            };
+            let (name, holding) = (token_name(id), holding(owner, amount));
+            html.text(format_args!("opening token {name} of {holding}"));
+        }
+        Record::Register { receiver, .. } => {
+            html.text("registration of ");
+            about(html);
+            html.text(format_args!(" at pantry {receiver}"));
+        }
+        Record::Vote {
+            receiver,
+            sender,
+            verdict,
+            ..
+        } => {
+            html.text(format_args!("vote {} on ", vote(verdict)));
+            about(html);
+            html.text(format_args!(" from pantry {sender} to pantry {receiver}"));
+        }
+        Record::Turn { receiver } => html.text(format_args!("turn of pantry {receiver}")),
+    }
+}
+
+/// The table's sentence for the refusal.
+fn refused(html: &mut Markup, refusal: Refusal) {
+    let number = refusal.number();
+    html.text(format_args!(" – refused, {number}: {refusal}"));
+    if refusal == Refusal::HeldOff {
+        html.text(" – held off, to be sent again");
+    }
+}
+
+/// What came of it, where it was carried out.
+fn came(html: &mut Markup, week: &Week, row: &Row, answer: Answer) {
+    match answer {
+        Answer::Minted => {}
+        Answer::Registered { verdict, outcome } => {
+            html.text(", which ");
+            own(html, week, row, verdict, outcome);
+        }
+        Answer::Brought { verdict, outcome } => {
+            html.text(" brings the swap there; the pantry registers it, ");
+            own(html, week, row, verdict, outcome);
+        }
+        Answer::Heard(outcome) => {
+            let then = match (outcome, row.decision) {
+                (Outcome::Wait, _) => "waits for other votes",
+                (Outcome::Commit, Some(_)) => "commits",
+                (Outcome::Abort, Some(_)) => "aborts",
+                (Outcome::Commit, None) => "has committed before",
+                (Outcome::Abort, None) => "notes it and has aborted before",
+            };
+            html.text(format_args!(", which {then}"));
+        }
+        Answer::Again(_) => html.text(", heard before: nothing changes"),
+        Answer::Turned => html.text(": from now on an abort there frees its tokens"),
+    }
+}
+
+/// The pantry's own vote, the outcome, and why the vote is no.
+fn own(html: &mut Markup, week: &Week, row: &Row, verdict: Verdict, outcome: Outcome) {
+    let outcome = match outcome {
+        Outcome::Wait => "waits for other votes",
+        Outcome::Commit => "commits",
+        Outcome::Abort => "aborts",
+    };
+    html.text(format_args!("votes {} and {outcome}", vote(verdict)));
+    if !row.spoilers.is_empty() {
+        html.text(" – ");
+        spoilers(html, week, &row.spoilers);
+    }
+}

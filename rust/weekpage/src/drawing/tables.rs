@@ -1,0 +1,110 @@
+//! Pieces that the page's tables and sentences are made of.
+
+use plankeeper::{Finding, TokenId, Verdict};
+use why::Found;
+
+use super::markup::Markup;
+use crate::reading::{Told, Week};
+
+/// A token's name as document 01 writes it: pantry, making swap, position.
+pub(crate) fn token_name(id: TokenId) -> String {
+    format!("({}, {}, {})", id.shard, id.creator, id.index)
+}
+
+/// Whose a token is, and how much.
+pub(crate) fn holding(owner: u32, amount: u32) -> String {
+    format!("household {owner}, {}", portions(amount.into()))
+}
+
+/// So many portions.
+pub(crate) fn portions(amount: u64) -> String {
+    let word = if amount == 1 { "portion" } else { "portions" };
+    format!("{amount} {word}")
+}
+
+/// A vote in words.
+pub(crate) fn vote(verdict: Verdict) -> &'static str {
+    match verdict {
+        Verdict::Yes => "yes",
+        Verdict::No => "no",
+    }
+}
+
+/// Things in a row as people say it.
+pub(crate) fn listed(things: &[String]) -> String {
+    match things {
+        [] => String::new(),
+        [one] => one.clone(),
+        [all @ .., last] => format!("{} and {last}", all.join(", ")),
+    }
+}
+
+/// So many of a thing.
+pub(crate) fn count(number: usize, one: &str) -> String {
+    format!("{number} {one}{}", if number == 1 { "" } else { "s" })
+}
+
+/// The number of the transaction of this place in ids and links.
+pub(crate) fn swap_id(place: usize) -> usize {
+    place + 1
+}
+
+/// A transaction by its name, to be picked; it leads to its entry.
+pub(crate) fn swap(html: &mut Markup, week: &Week, place: usize) {
+    let Told { name, .. } = &week.told[place];
+    link(html, place, &format!("swap {name}"));
+}
+
+/// Text that stands for a transaction, to be picked.
+pub(crate) fn link(html: &mut Markup, place: usize, text: &str) {
+    let id = swap_id(place);
+    let href = format!("#swap-{id}");
+    html.worded(
+        "a",
+        &[("class", &"swap"), ("href", &href), ("data-swap", &id)],
+        text,
+    );
+}
+
+/// A step of the listing, which leads to its row.
+pub(crate) fn step(html: &mut Markup, step: usize) {
+    let href = format!("#step-{step}");
+    html.worded("a", &[("href", &href)], format_args!("step {step}"));
+}
+
+/// An input that was not available, and what was found of it.
+pub(crate) fn spoiler(html: &mut Markup, week: &Week, found: &Found) {
+    let token = found.input.token;
+    let holding = holding(found.input.owner, found.input.amount);
+    html.text(format_args!("token {}, {holding}: ", token_name(token)));
+    let words = why::words(&found.finding);
+    match found.finding {
+        Finding::Pledged(number) => match week.known(token.shard, number) {
+            Some(place) => link(html, place, &words),
+            None => html.text(words),
+        },
+        _ => html.text(words),
+    }
+}
+
+/// Spoilers one after the other.
+pub(crate) fn spoilers(html: &mut Markup, week: &Week, found: &[Found]) {
+    for (k, found) in found.iter().enumerate() {
+        if k > 0 {
+            html.text("; ");
+        }
+        spoiler(html, week, found);
+    }
+}
+
+/// The row of headings of a table.
+pub(crate) fn headings(html: &mut Markup, names: &[&str]) {
+    html.element("thead", &[], |html| {
+        html.element("tr", &[], |html| {
+            for name in names {
+                html.worded("th", &[("scope", &"col")], name);
+            }
+        });
+    });
+    html.end_line();
+}

@@ -1,0 +1,30 @@
+//! What the shards hold and know at the end of the week.
+
+use std::array;
+
+use plankeeper::{Cluster, Known, Token};
+
+/// What a shard holds and knows.
+pub struct Held {
+    /// The tokens, in the order in which they stand in its memory.
+    pub tokens: Vec<Token>,
+    /// The transactions, in the order of their registration.
+    pub known: Vec<Known>,
+    /// The sum of the amounts.
+    pub total: u64,
+    /// Whether it is turned.
+    pub turned: bool,
+}
+
+/// Asks every shard.
+pub fn shards(cluster: &Cluster) -> [Held; 8] {
+    array::from_fn(|shard| {
+        let shard = shard as u8;
+        Held {
+            tokens: cluster.tokens(shard).collect(),
+            known: cluster.transactions(shard).collect(),
+            total: cluster.total_at(shard),
+            turned: cluster.is_turned(shard),
+        }
+    })
+}

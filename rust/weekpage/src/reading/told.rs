@@ -1,0 +1,182 @@
+//! The transactions of a week, and how each has ended.
+
+use std::collections::HashMap;
+
+use plankeeper::{Answer, Cluster, Known, Outcome, Refusal, Transaction, Verdict};
+use why::Found;
+
+use super::end::Held;
+use super::rows::unavailable;
+
+/// A transaction that a record of the week has named.
+pub struct Told {
+    /// It.
+    pub transaction: Transaction,
+    /// Its number, and which one of that number it is where it is not the first:
+    /// two transactions are the same only if every field agrees.
+    pub name: String,
+    /// The step of its last registration, by a call of its own or by a vote.
+    pub registered: Option<usize>,
+    /// The steps at which records about it were refused, and why.
+    pub refused: Vec<(usize, Refusal)>,
+    /// What each of its shards, in their order, knows of it at the end.
+    pub at: Vec<At>,
+}
+
+/// What a shard knows of a transaction at the end.
+pub struct At {
+    /// The shard.
+    pub shard: u8,
+    /// The votes heard there and the outcome, where it knows the transaction.
+    pub known: Option<Known>,
+    /// The inputs that made it vote no.
+    pub spoilers: Vec<Found>,
+}
+
+/// How a transaction has ended.
+#[derive(Clone, Copy, Debug, PartialEq, Eq)]
+pub enum End {
+    /// Some shard has decided commit.
+    Committed,
+    /// Some shard has decided abort.
+    Aborted,
+    /// It is known, and no shard has decided.
+    Undecided,
+    /// No shard knows it.
+    Unknown,
+}
+
+impl Told {
+    /// How it has ended.
+    pub fn end(&self) -> End {
+        let mut outcomes = self.outcomes().peekable();
+        if outcomes.peek().is_none() {
+            return End::Unknown;
+        }
+        let decided = outcomes.find(|&outcome| outcome != Outcome::Wait);
+        match decided {
+            Some(Outcome::Commit) => End::Committed,
+            Some(Outcome::Abort) => End::Aborted,
+            _ => End::Undecided,
+        }
+    }
+
+    /// What the shards that know it have decided.
+    fn outcomes(&self) -> impl Iterator<Item = Outcome> {
+        let known = self.at.iter().filter_map(|at| at.known.as_ref());
+        known.map(|known| known.outcome)
+    }
+}
+
+impl At {
+    /// What the shard, which knows these transactions, knows of this one.
+    fn new(cluster: &Cluster, shard: u8, known: &[Known], transaction: &Transaction) -> Self {
+        let known = known.iter().find(|known| known.transaction == *transaction);
+        let mut at = At {
+            shard,
+            known: known.copied(),
+            spoilers: Vec::new(),
+        };
+        if at.vote() == Some(Verdict::No) {
+            at.spoilers = unavailable(cluster, shard, transaction);
+        }
+        at
+    }
+
+    /// Its own vote, where it has given one.
+    pub fn vote(&self) -> Option<Verdict> {
+        let known = self.known.as_ref()?;
+        known.heard[usize::from(self.shard)]
+    }
+}
+
+/// The transactions named so far.
+#[derive(Default)]
+pub(super) struct Gathered {
+    told: Vec<Told>,
+    places: HashMap<Transaction, usize>,
+    /// How many there are of a number.
+    numbered: HashMap<u32, usize>,
+}
+
+impl Gathered {
+    /// Notes a record about the transaction, and gives its place.
+    pub(super) fn note(
+        &mut self,
+        step: usize,
+        transaction: &Transaction,
+        answer: Result<Answer, Refusal>,
+    ) -> usize {
+        let place = self.place(transaction);
+        let told = &mut self.told[place];
+        match answer {
+            Ok(Answer::Registered { .. } | Answer::Brought { .. }) => told.registered = Some(step),
+            Ok(_) => {}
+            Err(refusal) => told.refused.push((step, refusal)),
+        }
+        place
+    }
+
+    fn place(&mut self, transaction: &Transaction) -> usize {
+        *self.places.entry(*transaction).or_insert_with(|| {
+            let number = transaction.number();
+            let count = self.numbered.entry(number).or_default();
+            *count += 1;
+            self.told.push(Told {
+                transaction: *transaction,
+                name: name(number, *count),
+                registered: None,
+                refused: Vec::new(),
+                at: Vec::new(),
+            });
+            self.told.len() - 1
+        })
+    }
+
+    /// All of them, with what the shards know at the end.
+    pub(super) fn ended(self, cluster: &Cluster, shards: &[Held; 8]) -> Vec<Told> {
+        let mut told = self.told;
+        for told in &mut told {
+            let transaction = &told.transaction;
+            let at = shards_of(transaction).map(|shard| {
+                let known = &shards[usize::from(shard)].known;
+                At::new(cluster, shard, known, transaction)
+            });
+            told.at = at.collect();
+        }
+        told
+    }
+}
+
+/// The places of the transactions that shards know, by shard and number.
+pub(super) fn numbered(told: &[Told]) -> HashMap<(u8, u32), usize> {
+    let known = told.iter().enumerate().flat_map(|(place, told)| {
+        let known = told.at.iter().filter(|at| at.known.is_some());
+        known.map(move |at| ((at.shard, told.transaction.number()), place))
+    });
+    known.collect()
+}
+
+/// How the transaction is called, the first of that number and the others.
+fn name(number: u32, count: usize) -> String {
+    let ending = match (count % 10, count % 100) {
+        _ if count == 1 => return number.to_string(),
+        (_, 11..=13) => "th",
+        (1, _) => "st",
+        (2, _) => "nd",
+        (3, _) => "rd",
+        _ => "th",
+    };
+    format!("{number} ({count}{ending})")
+}
+
+/// The shards of its inputs and outputs, in their order.
+fn shards_of(transaction: &Transaction) -> impl Iterator<Item = u8> + use<'_> {
+    let takes_part = |shard: &u8| {
+        let mut inputs = transaction.inputs();
+        let mut outputs = transaction.outputs();
+        inputs.any(|input| input.token.shard == *shard)
+            || outputs.any(|output| output.shard == *shard)
+    };
+    (0..8).filter(takes_part)
+}
