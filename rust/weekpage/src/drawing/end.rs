@@ -5,9 +5,7 @@ use plankeeper::{Known, Token};
 
 use super::markup::Markup;
 use super::reasons::{outcome_word, outcomes, reason};
-use super::tables::{
-    count, headings, holding, link, portions, step, swap, swap_id, token_name, vote,
-};
+use super::tables::{count, headings, holding, link, portions, step, swap, swap_id, token, vote};
 use crate::reading::{End, Held, Told, Week};
 
 /// The whole part.
@@ -137,8 +135,10 @@ fn fields(html: &mut Markup, week: &Week, place: usize) {
     html.element("th", &[("scope", &"row")], |html| swap(html, week, place));
     html.element("td", &[], |html| {
         for input in transaction.inputs() {
-            let (token, held) = (token_name(input.token), holding(input.owner, input.amount));
-            html.worded("p", &[], format_args!("{token}: {held}"));
+            html.element("p", &[], |html| {
+                token(html, input.token);
+                html.text(format_args!(": {}", holding(input.owner, input.amount)));
+            });
         }
     });
     html.element("td", &[], |html| {
@@ -159,7 +159,7 @@ fn pantry(html: &mut Markup, week: &Week, number: usize, held: &Held) {
         if !tokens.is_empty() {
             let names = ["Token", "Household", "Portions", "Pledged to"];
             table(html, "tokens", &names, tokens, |html, _, held| {
-                token(html, week, held)
+                held_token(html, week, held);
             });
         }
         if !known.is_empty() {
@@ -181,14 +181,14 @@ fn summary(html: &mut Markup, held: &Held) {
     }
 }
 
-fn token(html: &mut Markup, week: &Week, token: &Token) {
-    let pledge = token
+fn held_token(html: &mut Markup, week: &Week, held: &Token) {
+    let pledge = held
         .pledge
-        .map(|number| (number, week.known(token.id.shard, number)));
+        .map(|number| (number, week.known(held.id.shard, number)));
     let content = |html: &mut Markup| {
-        html.worded("th", &[("scope", &"row")], token_name(token.id));
-        html.worded("td", &[("class", &"number")], token.owner);
-        html.worded("td", &[("class", &"number")], token.amount);
+        html.element("th", &[("scope", &"row")], |html| token(html, held.id));
+        html.worded("td", &[("class", &"number")], held.owner);
+        html.worded("td", &[("class", &"number")], held.amount);
         html.element("td", &[], |html| match pledge {
             Some((number, Some(place))) => link(html, place, &format!("swap {number}")),
             Some((number, None)) => html.text(format_args!("swap {number}")),

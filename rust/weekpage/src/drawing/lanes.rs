@@ -15,3 +15,9 @@ pub(crate) const ABOVE: i32 = 10;
 pub(crate) fn middle(shard: u8) -> i32 {
     LANE * i32::from(shard) + LANE / 2
 }
+
+/// The lanes' lines, from here so far down.
+pub(crate) fn lines(top: i32, height: i32) -> String {
+    let lines = (0..8).map(|shard| format!("M{} {top}v{height}", middle(shard)));
+    lines.collect()
+}

@@ -84,7 +84,8 @@ const MARKS: [(&str, Draw); 11] = [
     (
         "refused, with the number of the cause: nothing changes",
         |svg| {
-            marks::refusal(svg, X, 16);
+            marks::arrow(svg, Way::Refused, Verdict::Yes, 4, WIDTH - 26);
+            marks::refusal(svg, WIDTH - 13, 16);
         },
     ),
     (

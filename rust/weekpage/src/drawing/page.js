@@ -59,6 +59,8 @@
     if (swap === null || event.ctrlKey || event.metaKey || event.shiftKey) return;
     event.preventDefault();
     choose(swap === chosen ? null : swap);
+    // From a table, where its rows may be out of sight, it leads to the first of them.
+    if (chosen !== null && !event.target.closest("table.lanes")) go(1);
   });
   document.addEventListener("keydown", (event) => {
     if (event.key === "Escape") choose(null);

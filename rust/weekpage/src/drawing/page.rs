@@ -1,7 +1,7 @@
 //! The page as a whole: one file that needs no other.
 
 use super::end::end;
-use super::lanes::{ROW, WIDTH};
+use super::lanes::{ROW, WIDTH, lines};
 use super::legend::legend;
 use super::markup::Markup;
 use super::row::row;
@@ -30,7 +30,7 @@ fn head(html: &mut Markup, name: &str) {
     html.empty("meta", &[("charset", &"utf-8")]);
     let content = "width=device-width, initial-scale=1";
     html.empty("meta", &[("name", &"viewport"), ("content", &content)]);
-    html.worded("title", &[], format_args!("Week {name}"));
+    html.worded("title", &[], format_args!("The week “{name}”"));
     html.element("style", &[], |html| {
         html.raw(PAGE_STYLE);
         html.raw(MARKS_STYLE);
@@ -40,7 +40,7 @@ fn head(html: &mut Markup, name: &str) {
 
 fn body(html: &mut Markup, name: &str, week: &Week) {
     html.element("header", &[], |html| {
-        html.worded("h1", &[], format_args!("Week {name}"));
+        html.worded("h1", &[], format_args!("The week “{name}”"));
         summary(html, week);
         contents(html);
     });
@@ -90,15 +90,19 @@ fn summary(html: &mut Markup, week: &Week) {
     if refused > 0 {
         parts.push(format!("{refused} of them refused"));
     }
-    let mut swaps = vec![count(week.told.len(), "swap")];
-    for wanted in [End::Committed, End::Aborted, End::Undecided, End::Unknown] {
-        let number = week.ended(|end| end == wanted).len();
-        if number > 0 {
-            swaps.push(format!("{number} {}", ended(wanted).1));
-        }
-    }
+    let ends = [End::Committed, End::Aborted, End::Undecided, End::Unknown];
+    let ends = ends.map(|wanted| (week.ended(|end| end == wanted).len(), ended(wanted).1));
+    let ends = ends.iter().filter(|(number, _)| *number > 0);
+    let ends: Vec<String> = ends
+        .map(|(number, word)| format!("{number} {word}"))
+        .collect();
+    let swaps = [count(week.told.len(), "swap"), ends.join(", ")];
     html.element("p", &[("class", &"summary")], |html| {
-        html.text(format_args!("{}. {}. ", parts.join(", "), swaps.join(", ")));
+        let (records, swaps) = (parts.join(", "), swaps.join(": "));
+        html.text(format_args!(
+            "{records}. {}. ",
+            swaps.trim_end_matches(": ")
+        ));
         html.worded("code", &[], &week.total);
     });
 }
@@ -129,12 +133,14 @@ fn contents(html: &mut Markup) {
     });
 }
 
-/// All swaps by name, each with how it has ended.
+/// All swaps by number, each with how it has ended.
 fn swaps(html: &mut Markup, week: &Week) {
     html.worded("h2", &[], "The swaps");
+    let mut places: Vec<usize> = (0..week.told.len()).collect();
+    places.sort_by_key(|&place| week.told[place].transaction.number());
     html.element("ul", &[("class", &"swaps")], |html| {
-        for (place, told) in week.told.iter().enumerate() {
-            let (class, word) = ended(told.end());
+        for place in places {
+            let (class, word) = ended(week.told[place].end());
             html.element("li", &[], |html| {
                 swap(html, week, place);
                 html.text(" ");
@@ -190,7 +196,10 @@ fn record(html: &mut Markup, week: &Week, step: usize, shown: &Row) {
             html.worded("code", &[], &shown.line);
         });
         html.element("td", &[("class", &"lane"), ("colspan", &8)], |html| {
-            lanes(html, |svg| row(svg, week, shown));
+            lanes(html, |svg| {
+                svg.empty("path", &[("class", &"lane"), ("d", &lines(0, ROW))]);
+                row(svg, week, shown);
+            });
         });
         html.element("td", &[("class", &"told")], |html| {
             sentence(html, week, shown)

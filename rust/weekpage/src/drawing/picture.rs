@@ -1,6 +1,6 @@
 //! The eight lanes alone, as a picture for a document.
 
-use super::lanes::{LANE, ROW, WIDTH, middle};
+use super::lanes::{ROW, WIDTH, lines, middle};
 use super::markup::Markup;
 use super::page::MARKS_STYLE;
 use super::row::row;
@@ -58,17 +58,18 @@ fn moved(svg: &mut Markup, x: i32, y: i32, draw: impl FnOnce(&mut Markup)) {
 /// The lanes and their names.
 fn names(svg: &mut Markup, rows: i32) {
     for shard in 0..8 {
-        let x = middle(shard);
         svg.worded(
             "text",
-            &[("class", &"name"), ("x", &x), ("y", &(TOP - 10))],
+            &[
+                ("class", &"name"),
+                ("x", &middle(shard)),
+                ("y", &(TOP - 10)),
+            ],
             format_args!("Pantry {shard}"),
         );
-        let line = format!("M{x} {TOP}v{}", rows * ROW);
-        svg.empty("path", &[("class", &"lane"), ("d", &line)]);
     }
-    let rule = format!("M0 {TOP}h{}", 8 * LANE);
-    svg.empty("path", &[("class", &"lane"), ("d", &rule)]);
+    let drawn = lines(TOP, rows * ROW);
+    svg.empty("path", &[("class", &"lane"), ("d", &drawn)]);
     svg.end_line();
 }
 

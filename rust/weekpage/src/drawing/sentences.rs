@@ -3,7 +3,7 @@
 use plankeeper::{Answer, Outcome, Record, Refusal, TokenId, Verdict};
 
 use super::markup::Markup;
-use super::tables::{holding, spoilers, swap, token_name, vote};
+use super::tables::{holding, spoilers, swap, token, vote};
 use crate::reading::{Row, Week};
 
 /// The sentence beside the record's marks.
@@ -37,8 +37,9 @@ fn asked(html: &mut Markup, week: &Week, row: &Row, record: &Record) {
                 creator: 0,
                 index,
             };
-            let (name, holding) = (token_name(id), holding(owner, amount));
-            html.text(format_args!("opening token {name} of {holding}"));
+            html.text("opening token ");
+            token(html, id);
+            html.text(format_args!(" of {}", holding(owner, amount)));
         }
         Record::Register { receiver, .. } => {
             html.text("registration of ");
@@ -72,25 +73,19 @@ fn refused(html: &mut Markup, refusal: Refusal) {
 fn came(html: &mut Markup, week: &Week, row: &Row, answer: Answer) {
     match answer {
         Answer::Minted => {}
-        Answer::Registered { verdict, outcome } => {
-            html.text(", which ");
-            own(html, week, row, verdict, outcome);
-        }
+        Answer::Registered { verdict, outcome } => own(html, week, row, verdict, outcome),
         Answer::Brought { verdict, outcome } => {
-            html.text(" brings the swap there; the pantry registers it, ");
+            html.text(" brings the swap, which is registered");
             own(html, week, row, verdict, outcome);
         }
-        Answer::Heard(outcome) => {
-            let then = match (outcome, row.decision) {
-                (Outcome::Wait, _) => "waits for other votes",
-                (Outcome::Commit, Some(_)) => "commits",
-                (Outcome::Abort, Some(_)) => "aborts",
-                (Outcome::Commit, None) => "has committed before",
-                (Outcome::Abort, None) => "notes it and has aborted before",
-            };
-            html.text(format_args!(", which {then}"));
-        }
-        Answer::Again(_) => html.text(", heard before: nothing changes"),
+        Answer::Heard(outcome) => html.text(match (outcome, row.decision) {
+            (Outcome::Wait, _) => ": waits",
+            (Outcome::Commit, Some(_)) => ": commits",
+            (Outcome::Abort, Some(_)) => ": aborts",
+            (Outcome::Commit, None) => ": noted, committed before",
+            (Outcome::Abort, None) => ": noted, aborted before",
+        }),
+        Answer::Again(_) => html.text(": heard before, nothing changes"),
         Answer::Turned => html.text(": from now on an abort there frees its tokens"),
     }
 }
@@ -98,11 +93,11 @@ fn came(html: &mut Markup, week: &Week, row: &Row, answer: Answer) {
 /// The pantry's own vote, the outcome, and why the vote is no.
 fn own(html: &mut Markup, week: &Week, row: &Row, verdict: Verdict, outcome: Outcome) {
     let outcome = match outcome {
-        Outcome::Wait => "waits for other votes",
+        Outcome::Wait => "waits",
         Outcome::Commit => "commits",
         Outcome::Abort => "aborts",
     };
-    html.text(format_args!("votes {} and {outcome}", vote(verdict)));
+    html.text(format_args!(": votes {}, {outcome}", vote(verdict)));
     if !row.spoilers.is_empty() {
         html.text(" – ");
         spoilers(html, week, &row.spoilers);

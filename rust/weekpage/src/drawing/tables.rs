@@ -7,8 +7,9 @@ use super::markup::Markup;
 use crate::reading::{Told, Week};
 
 /// A token's name as document 01 writes it: pantry, making swap, position.
-pub(crate) fn token_name(id: TokenId) -> String {
-    format!("({}, {}, {})", id.shard, id.creator, id.index)
+pub(crate) fn token(html: &mut Markup, id: TokenId) {
+    let name = format!("({}, {}, {})", id.shard, id.creator, id.index);
+    html.worded("span", &[("class", &"name")], name);
 }
 
 /// Whose a token is, and how much.
@@ -74,12 +75,16 @@ pub(crate) fn step(html: &mut Markup, step: usize) {
 
 /// An input that was not available, and what was found of it.
 pub(crate) fn spoiler(html: &mut Markup, week: &Week, found: &Found) {
-    let token = found.input.token;
-    let holding = holding(found.input.owner, found.input.amount);
-    html.text(format_args!("token {}, {holding}: ", token_name(token)));
+    let (id, holding) = (
+        found.input.token,
+        holding(found.input.owner, found.input.amount),
+    );
+    html.text("token ");
+    token(html, id);
+    html.text(format_args!(", {holding}: "));
     let words = why::words(&found.finding);
     match found.finding {
-        Finding::Pledged(number) => match week.known(token.shard, number) {
+        Finding::Pledged(number) => match week.known(id.shard, number) {
             Some(place) => link(html, place, &words),
             None => html.text(words),
         },
