@@ -85,7 +85,7 @@ fn came(html: &mut Markup, week: &Week, row: &Row, answer: Answer) {
             (Outcome::Commit, None) => ": noted, committed before",
             (Outcome::Abort, None) => ": noted, aborted before",
         }),
-        Answer::Again(_) => html.text(": heard before, nothing changes"),
+        Answer::Again(_) => html.text(": heard before"),
         Answer::Turned => html.text(": from now on an abort there frees its tokens"),
     }
 }
