@@ -1,8 +1,8 @@
 "use strict";
-// Runs in the page, behind the page's own script, in a real browser. The listing's
-// lines stand in `listed`. What is wrong goes to the console, as an error; the
-// number of checks is left where the one who opened the page finds it.
-(() => {
+// Holds the page to the listing, whose lines stand in `listed`, and chooses a swap.
+// What is wrong goes to the console, as an error; the number of checks is left where
+// the one who opened the page finds it.
+untilDone(async () => {
   let checks = 0;
   const check = (fact, words) => {
     checks += 1;
@@ -71,6 +71,8 @@
   over(document.querySelector(`tr.record[data-swap="${swap}"] .marks`));
   shown(others, "with the mouse over its mark");
   over(document.body);
+  // The page is told of the focus only once the window has it.
+  for (let k = 0; k !== 300 && !document.hasFocus(); k += 1) await frame();
   link.focus();
   shown(others, "with the focus on it");
   link.blur();
@@ -97,4 +99,4 @@
     document.documentElement.dataset.checks = checks;
     document.documentElement.dataset.height = document.documentElement.scrollHeight;
   }
-})();
+});

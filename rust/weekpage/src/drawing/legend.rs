@@ -25,7 +25,7 @@ pub(crate) fn legend(html: &mut Markup) {
 
 type Draw = fn(&mut Markup);
 
-const MARKS: [(&str, Draw); 11] = [
+const MARKS: [(&str, Draw); 12] = [
     (
         "opening: a token with its portions, and whose it is",
         |svg| {
@@ -92,6 +92,13 @@ const MARKS: [(&str, Draw); 11] = [
         "refused, 17: held off close behind another swap, to be sent again",
         |svg| {
             marks::pause(svg, X);
+        },
+    ),
+    (
+        "refused before it reaches a pantry: the record itself is wrong",
+        |svg| {
+            marks::nowhere(svg);
+            marks::refusal(svg, X, 3);
         },
     ),
 ];

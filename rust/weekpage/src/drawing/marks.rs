@@ -10,6 +10,9 @@ use super::markup::Markup;
 /// How far a mark reaches from its middle, to the left and to the right.
 pub(crate) type Reach = (i32, i32);
 
+/// How far a decision reaches to either side.
+pub(crate) const DECISION: i32 = 10;
+
 /// A vote on its way.
 #[derive(Clone, Copy, PartialEq, Eq)]
 pub(crate) enum Way {
@@ -38,8 +41,8 @@ pub(crate) fn token(svg: &mut Markup, x: i32, amount: u32) -> Reach {
 /// A shard's own vote: yes is round, no has corners.
 pub(crate) fn verdict(svg: &mut Markup, x: i32, verdict: Verdict) -> Reach {
     match verdict {
-        Verdict::Yes => boxed(svg, "verdict yes", (x, 32), 9, verdict),
-        Verdict::No => boxed(svg, "verdict no", (x, 32), 0, verdict),
+        Verdict::Yes => boxed(svg, "verdict yes", (x, 30), 9, verdict),
+        Verdict::No => boxed(svg, "verdict no", (x, 30), 0, verdict),
     }
 }
 
@@ -54,7 +57,7 @@ pub(crate) fn decision(svg: &mut Markup, x: i32, outcome: Outcome) -> Reach {
         ),
         Outcome::Abort => (
             "decision abort",
-            format!("M{x} {}l11 11l-11 11l-11 -11z", LEVEL - 11),
+            format!("M{x} {}l10 10l-10 10l-10 -10z", LEVEL - 10),
             format!("M{} {}l7 7m0 -7l-7 7", x - 3, LEVEL - 3),
         ),
     };
@@ -62,7 +65,7 @@ pub(crate) fn decision(svg: &mut Markup, x: i32, outcome: Outcome) -> Reach {
         svg.empty("path", &[("class", &"shape"), ("d", &shape)]);
         svg.empty("path", &[("class", &"sign"), ("d", &sign)]);
     });
-    (11, 11)
+    (DECISION, DECISION)
 }
 
 /// A shard that is turned: an arrow that goes round.

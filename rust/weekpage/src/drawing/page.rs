@@ -136,6 +136,9 @@ fn contents(html: &mut Markup) {
 /// All swaps by number, each with how it has ended.
 fn swaps(html: &mut Markup, week: &Week) {
     html.worded("h2", &[], "The swaps");
+    if week.told.is_empty() {
+        html.worded("p", &[], "There are none.");
+    }
     let mut places: Vec<usize> = (0..week.told.len()).collect();
     places.sort_by_key(|&place| week.told[place].transaction.number());
     html.element("ul", &[("class", &"swaps")], |html| {

@@ -3,12 +3,15 @@
 use plankeeper::{Answer, Record, Refusal, Verdict};
 
 use super::lanes::{WIDTH, middle};
-use super::marks::{self, Reach, Way};
+use super::marks::{self, DECISION, Reach, Way};
 use super::markup::Markup;
 use crate::reading::{Row, Week};
 
 /// Between marks that stand side by side.
-const GAP: i32 = 3;
+const GAP: i32 = 2;
+/// How far a vote that a decision stands beside gives way, so that both are in
+/// the midst of their lane.
+const ASIDE: i32 = 11;
 
 /// Draws what the record has brought. The class `refused` greys it.
 pub(crate) fn row(svg: &mut Markup, week: &Week, row: &Row) {
@@ -72,10 +75,10 @@ fn end(svg: &mut Markup, row: &Row, x: i32) -> Reach {
             Ok(Answer::Registered { verdict, .. } | Answer::Brought { verdict, .. }),
             Some(outcome),
         ) => {
-            let (left, right) = marks::verdict(svg, x - 12, verdict);
-            let beside = x - 12 + right + GAP + 11;
-            let (_, end) = marks::decision(svg, beside, outcome);
-            (12 + left, beside - x + end)
+            let (left, right) = marks::verdict(svg, x - ASIDE, verdict);
+            let beside = right - ASIDE + GAP + DECISION;
+            let (_, end) = marks::decision(svg, x + beside, outcome);
+            (ASIDE + left, beside + end)
         }
         (Ok(Answer::Registered { verdict, .. } | Answer::Brought { verdict, .. }), None) => {
             marks::verdict(svg, x, verdict)

@@ -10,7 +10,7 @@ use crate::reading::{Row, Week};
 pub(crate) fn sentence(html: &mut Markup, week: &Week, row: &Row) {
     match &row.record {
         Some(record) => asked(html, week, row, record),
-        None => html.text("a record that cannot be read"),
+        None => html.text("a record, for no pantry"),
     }
     match row.answer {
         Ok(answer) => came(html, week, row, answer),

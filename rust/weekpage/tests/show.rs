@@ -1,0 +1,127 @@
+//! `./show`: arguments, messages, exit status, and the page that it makes.
+
+use std::fs;
+use std::path::{Path, PathBuf};
+use std::process::{Command, Output, Stdio};
+use std::sync::Mutex;
+
+use program::{fed, root, weeks};
+use weekpage::{Week, page};
+
+/// What it builds is built by one at a time.
+static BUILDING: Mutex<()> = Mutex::new(());
+
+/// `./show` with these arguments, in a folder of the tests' own.
+fn show(arguments: &[&str], input: &[u8]) -> Output {
+    let _alone = BUILDING.lock();
+    let mut command = Command::new(root().join("show"));
+    command.args(arguments).current_dir(folder());
+    command.stdin(Stdio::piped());
+    command.stdout(Stdio::piped()).stderr(Stdio::piped());
+    fed(command.spawn().expect("the script starts"), input)
+}
+
+fn folder() -> PathBuf {
+    let folder = Path::new(env!("CARGO_TARGET_TMPDIR")).join("show");
+    fs::create_dir_all(&folder).expect("there is room for the pages");
+    folder
+}
+
+/// Its exit status, what it prints and what it says.
+fn told(output: &Output) -> (Option<i32>, &str, &str) {
+    let text = str::from_utf8(&output.stdout).expect("it prints UTF-8");
+    let message = str::from_utf8(&output.stderr).expect("messages are UTF-8");
+    (output.status.code(), text, message)
+}
+
+#[test]
+fn help_and_bad_usage() {
+    for help in ["--help", "-h"] {
+        let output = show(&[help], b"");
+        let (status, text, message) = told(&output);
+        assert_eq!((status, message), (Some(0), ""));
+        assert!(text.starts_with("usage: ./show [WEEK [OUT.html]]\n"));
+    }
+    for arguments in [
+        &[""][..],
+        &["--what"],
+        &["--help", "a.html"],
+        &["a.txt", "-"],
+        &["a.txt", ""],
+        &["a.txt", "--help"],
+        &["a.txt", "a.html", "b.html"],
+    ] {
+        let output = show(arguments, b"");
+        let (status, text, message) = told(&output);
+        assert_eq!((status, text), (Some(2), ""), "{arguments:?}");
+        assert!(message.starts_with("usage: "), "{arguments:?}: {message}");
+    }
+}
+
+#[test]
+fn weeks_and_pages_that_cannot_be() {
+    let week = folder().join("own.txt");
+    fs::write(&week, "").expect("the week can be written");
+    fs::create_dir_all(folder().join("taken.html")).expect("there is room for a folder");
+    for (arguments, sentence) in [
+        (
+            &["none.txt"][..],
+            "'none.txt' is not there or cannot be read",
+        ),
+        (&["."], "'.' is a folder"),
+        (&["own.txt", "own.txt"], "'own.txt' is the week itself"),
+        (&["own.txt", "./own.txt"], "'./own.txt' is the week itself"),
+        (&["own.txt", "taken.html"], "'taken.html' is a folder"),
+        (
+            &["own.txt", "none/own.html"],
+            "'none/own.html' cannot be written; name another place for the page",
+        ),
+    ] {
+        let output = show(arguments, b"");
+        let message = format!("show: {sentence}\n");
+        assert_eq!(told(&output), (Some(1), "", message.as_str()));
+    }
+}
+
+/// The page that stands there, and which name it was given.
+fn made(output: &Output, name: &str) -> String {
+    assert_eq!(output.status.code(), Some(0), "{output:?}");
+    assert_eq!(output.stdout, format!("{name}\n").as_bytes());
+    fs::read_to_string(folder().join(name)).expect("the page is there")
+}
+
+/// A week as text, as records, from standard input and under another name: one
+/// page, but for its title.
+#[test]
+fn the_page_of_a_week() {
+    let example = weeks().into_iter().find(|week| week.name == "example");
+    let example = example.expect("there is an example");
+    let listing = String::from_utf8(example.listing).expect("a listing is ASCII");
+    let week = Week::read(&example.bytes, &listing).expect("it is that week's");
+    let text = fs::read(root().join("weeks/example.txt")).expect("the week can be read");
+    fs::write(folder().join("a & b.txt"), &text).expect("the week can be written");
+    fs::write(folder().join("sent.records"), &example.bytes).expect("so can its records");
+    let cases: [(&[&str], &str, &str); 4] = [
+        (&["a & b.txt"], "a & b.html", "a & b"),
+        (&["sent.records"], "sent.html", "sent"),
+        (&["-"], "week.html", "standard input"),
+        (&["sent.records", "other.html"], "other.html", "sent"),
+    ];
+    for (arguments, file, name) in cases {
+        let output = show(arguments, &text);
+        assert!(made(&output, file) == page(name, &week), "{arguments:?}");
+    }
+}
+
+/// A text with an error makes no page, and leaves one that is there.
+#[test]
+fn a_week_with_an_error() {
+    fs::write(folder().join("wrong.txt"), "open pantry 0\n").expect("it can be written");
+    fs::write(folder().join("wrong.html"), "as it was").expect("so can the page");
+    let output = show(&["wrong.txt"], b"");
+    let (status, text, message) = told(&output);
+    assert_eq!((status, text), (Some(1), ""));
+    assert!(message.contains("week: wrong.txt: line 1"), "{message}");
+    let left = fs::read_to_string(folder().join("wrong.html"));
+    assert_eq!(left.expect("the page is there"), "as it was");
+}
