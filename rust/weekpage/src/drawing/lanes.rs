@@ -1,5 +1,7 @@
 //! Where things stand in the eight lanes. All figures are in pixels.
 
+use super::markup::Markup;
+
 /// A lane's width.
 pub(crate) const LANE: i32 = 68;
 /// The width of all lanes.
@@ -20,4 +22,17 @@ pub(crate) fn middle(shard: u8) -> i32 {
 pub(crate) fn lines(top: i32, height: i32) -> String {
     let lines = (0..8).map(|shard| format!("M{} {top}v{height}", middle(shard)));
     lines.collect()
+}
+
+/// A drawing as high as a row and so wide, for those who see it.
+pub(crate) fn sized(html: &mut Markup, width: i32, draw: impl FnOnce(&mut Markup)) {
+    html.element(
+        "svg",
+        &[
+            ("width", &width),
+            ("height", &ROW),
+            ("aria-hidden", &"true"),
+        ],
+        draw,
+    );
 }

@@ -2,7 +2,7 @@
 
 use plankeeper::{Outcome, Verdict};
 
-use super::lanes::ROW;
+use super::lanes::sized;
 use super::marks::{self, Way};
 use super::markup::Markup;
 
@@ -15,7 +15,7 @@ pub(crate) fn legend(html: &mut Markup) {
     html.element("ul", &[("class", &"legend")], |html| {
         for (text, draw) in MARKS {
             html.element("li", &[], |html| {
-                drawn(html, draw);
+                sized(html, WIDTH, draw);
                 html.worded("span", &[], text);
             });
             html.end_line();
@@ -106,18 +106,4 @@ const MARKS: [(&str, Draw); 12] = [
 fn arrow(svg: &mut Markup, way: Way) {
     marks::label(svg, X, "swap 5: yes");
     marks::arrow(svg, way, Verdict::Yes, 8, WIDTH - 8);
-}
-
-fn drawn(html: &mut Markup, draw: Draw) {
-    let view = format!("0 0 {WIDTH} {ROW}");
-    html.element(
-        "svg",
-        &[
-            ("viewBox", &view),
-            ("width", &WIDTH),
-            ("height", &ROW),
-            ("aria-hidden", &"true"),
-        ],
-        draw,
-    );
 }

@@ -1,13 +1,12 @@
 //! The page as a whole: one file that needs no other.
 
-use super::end::end;
-use super::lanes::{ROW, WIDTH, lines};
+use super::endings::{committed, others};
 use super::legend::legend;
-use super::markup::Markup;
-use super::row::row;
-use super::sentences::sentence;
-use super::tables::{count, swap, swap_id};
-use crate::reading::{End, Row, Week};
+use super::markup::{Attributes, Markup};
+use super::overview::{contents, summary, swaps};
+use super::pantries::pantries;
+use super::records::records;
+use crate::reading::Week;
 
 /// Colours and shapes of the marks, for the page and for pictures alike.
 pub(super) const MARKS_STYLE: &str = include_str!("marks.css");
@@ -52,10 +51,15 @@ fn body(html: &mut Markup, name: &str, week: &Week) {
         legend(html);
     });
     html.element("section", &[("id", &"swaps")], |html| swaps(html, week));
-    html.element("section", &[("id", &"picture")], |html| picture(html, week));
-    end(html, week);
+    html.element("section", &[("id", &"picture")], |html| records(html, week));
+    html.element("section", &[("id", &"end")], |html| {
+        html.worded("h2", &[], "The end of the week");
+        committed(html, week);
+        others(html, week);
+        pantries(html, week);
+    });
     html.worded("footer", &[], FOOTER);
-    html.raw(BAR);
+    bar(html);
     html.element("script", &[], |html| html.raw(SCRIPT));
     html.end_line();
 }
@@ -77,157 +81,23 @@ const FOOTER: &str = "The lines are those of the proved listing program. Tokens,
     and findings are what the proved library answers. This page draws them and decides nothing.";
 
 /// What is shown while a swap is chosen; the script fills it in.
-const BAR: &str = "<div id=\"chosen\" role=\"status\" hidden=\"hidden\"><span></span>\
-    <button type=\"button\" data-go=\"-1\">previous row</button>\
-    <button type=\"button\" data-go=\"1\">next row</button>\
-    <a href=\"#swaps\">its entry</a>\
-    <button type=\"button\" data-go=\"0\">show all</button></div>\n";
-
-/// How the swaps of the week have ended, in one sentence.
-fn summary(html: &mut Markup, week: &Week) {
-    let refused = week.rows.iter().filter(|row| row.answer.is_err()).count();
-    let mut parts = vec![count(week.rows.len(), "record")];
-    if refused > 0 {
-        parts.push(format!("{refused} of them refused"));
-    }
-    let ends = [End::Committed, End::Aborted, End::Undecided, End::Unknown];
-    let ends = ends.map(|wanted| (week.ended(|end| end == wanted).len(), ended(wanted).1));
-    let ends = ends.iter().filter(|(number, _)| *number > 0);
-    let ends: Vec<String> = ends
-        .map(|(number, word)| format!("{number} {word}"))
-        .collect();
-    let swaps = [count(week.told.len(), "swap"), ends.join(", ")];
-    html.element("p", &[("class", &"summary")], |html| {
-        let (records, swaps) = (parts.join(", "), swaps.join(": "));
-        html.text(format_args!(
-            "{records}. {}. ",
-            swaps.trim_end_matches(": ")
-        ));
-        html.worded("code", &[], &week.total);
+fn bar(html: &mut Markup) {
+    let hidden: Attributes = &[
+        ("id", &"chosen"),
+        ("role", &"status"),
+        ("hidden", &"hidden"),
+    ];
+    html.element("div", hidden, |html| {
+        html.worded("span", &[], "");
+        button(html, -1, "previous row");
+        button(html, 1, "next row");
+        html.worded("a", &[("href", &"#swaps")], "its entry");
+        button(html, 0, "show all");
     });
+    html.end_line();
 }
 
-/// The class and the word for how a swap has ended.
-fn ended(end: End) -> (&'static str, &'static str) {
-    match end {
-        End::Committed => ("outcome commit", "committed"),
-        End::Aborted => ("outcome abort", "aborted"),
-        End::Undecided => ("outcome wait", "undecided"),
-        End::Unknown => ("outcome wait", "known nowhere"),
-    }
-}
-
-fn contents(html: &mut Markup) {
-    html.element("nav", &[], |html| {
-        for (href, text) in [
-            ("#marks", "How to read it"),
-            ("#swaps", "The swaps"),
-            ("#picture", "Record by record"),
-            ("#committed", "Committed swaps"),
-            ("#others", "Swaps that did not commit"),
-            ("#pantries", "The pantries at the end"),
-        ] {
-            html.worded("a", &[("href", &href)], text);
-            html.text(" ");
-        }
-    });
-}
-
-/// All swaps by number, each with how it has ended.
-fn swaps(html: &mut Markup, week: &Week) {
-    html.worded("h2", &[], "The swaps");
-    if week.told.is_empty() {
-        html.worded("p", &[], "There are none.");
-    }
-    let mut places: Vec<usize> = (0..week.told.len()).collect();
-    places.sort_by_key(|&place| week.told[place].transaction.number());
-    html.element("ul", &[("class", &"swaps")], |html| {
-        for place in places {
-            let (class, word) = ended(week.told[place].end());
-            html.element("li", &[], |html| {
-                swap(html, week, place);
-                html.text(" ");
-                html.worded("span", &[("class", &class)], word);
-            });
-            html.end_line();
-        }
-    });
-}
-
-/// The eight lanes, a row for each record.
-fn picture(html: &mut Markup, week: &Week) {
-    html.worded("h2", &[], "Record by record");
-    html.element("table", &[("class", &"lanes")], |html| {
-        html.element("thead", &[], |html| {
-            html.element("tr", &[], |html| {
-                html.worded("th", &[("class", &"line")], "Listing");
-                for pantry in 0..8 {
-                    html.worded("th", &[("class", &"lane")], format_args!("Pantry {pantry}"));
-                }
-                html.worded("th", &[("class", &"told")], "What happens");
-            });
-        });
-        html.end_line();
-        html.element("tbody", &[], |html| {
-            for (step, row) in (1..).zip(&week.rows) {
-                record(html, week, step, row);
-                html.end_line();
-            }
-        });
-        html.element("tfoot", &[], |html| {
-            html.element("tr", &[], |html| {
-                html.element("th", &[("class", &"line")], |html| {
-                    html.worded("code", &[], &week.total);
-                });
-                let text = "portions held in all pantries";
-                html.worded("td", &[("colspan", &9)], text);
-            });
-        });
-    });
-}
-
-/// One record: the line, the marks, the sentence.
-fn record(html: &mut Markup, week: &Week, step: usize, shown: &Row) {
-    let id = format!("step-{step}");
-    let class = if shown.answer.is_err() {
-        "record refused"
-    } else {
-        "record"
-    };
-    let content = |html: &mut Markup| {
-        html.element("th", &[("class", &"line"), ("scope", &"row")], |html| {
-            html.worded("code", &[], &shown.line);
-        });
-        html.element("td", &[("class", &"lane"), ("colspan", &8)], |html| {
-            lanes(html, |svg| {
-                svg.empty("path", &[("class", &"lane"), ("d", &lines(0, ROW))]);
-                row(svg, week, shown);
-            });
-        });
-        html.element("td", &[("class", &"told")], |html| {
-            sentence(html, week, shown)
-        });
-    };
-    match shown.about.map(swap_id) {
-        Some(swap) => html.element(
-            "tr",
-            &[("id", &id), ("class", &class), ("data-swap", &swap)],
-            content,
-        ),
-        None => html.element("tr", &[("id", &id), ("class", &class)], content),
-    }
-}
-
-/// A row's drawing over all lanes. The sentence tells the same, so that nothing
-/// is lost for those who do not see it.
-fn lanes(html: &mut Markup, draw: impl FnOnce(&mut Markup)) {
-    html.element(
-        "svg",
-        &[
-            ("width", &WIDTH),
-            ("height", &ROW),
-            ("aria-hidden", &"true"),
-        ],
-        draw,
-    );
+/// A button that goes so many rows on, or ends the choice.
+fn button(html: &mut Markup, by: i32, text: &str) {
+    html.worded("button", &[("type", &"button"), ("data-go", &by)], text);
 }

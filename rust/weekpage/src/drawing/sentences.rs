@@ -20,11 +20,7 @@ pub(crate) fn sentence(html: &mut Markup, week: &Week, row: &Row) {
 
 /// What the record says.
 fn asked(html: &mut Markup, week: &Week, row: &Row, record: &Record) {
-    let about = |html: &mut Markup| {
-        if let Some(place) = row.about {
-            swap(html, week, place);
-        }
-    };
+    let about = |html: &mut Markup| swap(html, week, row.about);
     match *record {
         Record::Mint {
             receiver,

@@ -3,8 +3,8 @@
 use plankeeper::{Finding, TokenId, Verdict};
 use why::Found;
 
-use super::markup::Markup;
-use crate::reading::{Told, Week};
+use super::markup::{Attributes, Markup};
+use crate::reading::Week;
 
 /// A token's name as document 01 writes it: pantry, making swap, position.
 pub(crate) fn token(html: &mut Markup, id: TokenId) {
@@ -50,21 +50,38 @@ pub(crate) fn swap_id(place: usize) -> usize {
     place + 1
 }
 
-/// A transaction by its name, to be picked; it leads to its entry.
-pub(crate) fn swap(html: &mut Markup, week: &Week, place: usize) {
-    let Told { name, .. } = &week.told[place];
-    link(html, place, &format!("swap {name}"));
+/// A transaction by its name, to be chosen; it leads to its entry.
+pub(crate) fn swap(html: &mut Markup, week: &Week, place: Option<usize>) {
+    if let Some(told) = place.map(|place| &week.told[place]) {
+        link(html, place, &format!("swap {}", told.name));
+    }
 }
 
-/// Text that stands for a transaction, to be picked.
-pub(crate) fn link(html: &mut Markup, place: usize, text: &str) {
-    let id = swap_id(place);
+/// Text that stands for a transaction, to be chosen.
+pub(crate) fn link(html: &mut Markup, place: Option<usize>, text: &str) {
+    let Some(id) = place.map(swap_id) else {
+        return html.text(text);
+    };
     let href = format!("#swap-{id}");
     html.worded(
         "a",
         &[("class", &"swap"), ("href", &href), ("data-swap", &id)],
         text,
     );
+}
+
+/// A table's row, which stands out while this transaction is chosen.
+pub(crate) fn row_of(
+    html: &mut Markup,
+    place: Option<usize>,
+    attributes: Attributes<'_>,
+    content: impl FnOnce(&mut Markup),
+) {
+    let (id, mut attributes) = (place.map(swap_id), attributes.to_vec());
+    if let Some(id) = &id {
+        attributes.push(("data-swap", id));
+    }
+    html.element("tr", &attributes, content);
 }
 
 /// A step of the listing, which leads to its row.
@@ -84,10 +101,7 @@ pub(crate) fn spoiler(html: &mut Markup, week: &Week, found: &Found) {
     html.text(format_args!(", {holding}: "));
     let words = why::words(&found.finding);
     match found.finding {
-        Finding::Pledged(number) => match week.known(id.shard, number) {
-            Some(place) => link(html, place, &words),
-            None => html.text(words),
-        },
+        Finding::Pledged(number) => link(html, week.known(id.shard, number), &words),
         _ => html.text(words),
     }
 }
@@ -102,14 +116,30 @@ pub(crate) fn spoilers(html: &mut Markup, week: &Week, found: &[Found]) {
     }
 }
 
-/// The row of headings of a table.
-pub(crate) fn headings(html: &mut Markup, names: &[&str]) {
-    html.element("thead", &[], |html| {
-        html.element("tr", &[], |html| {
-            for name in names {
-                html.worded("th", &[("scope", &"col")], name);
+/// A table with a row for each of these.
+pub(crate) fn table<T>(
+    html: &mut Markup,
+    class: &str,
+    names: &[&str],
+    things: &[T],
+    mut row: impl FnMut(&mut Markup, usize, &T),
+) {
+    html.element("table", &[("class", &class)], |html| {
+        html.element("thead", &[], |html| headings(html, names));
+        html.end_line();
+        html.element("tbody", &[], |html| {
+            for (k, thing) in things.iter().enumerate() {
+                row(html, k, thing);
+                html.end_line();
             }
         });
     });
-    html.end_line();
+}
+
+fn headings(html: &mut Markup, names: &[&str]) {
+    html.element("tr", &[], |html| {
+        for name in names {
+            html.worded("th", &[("scope", &"col")], name);
+        }
+    });
 }

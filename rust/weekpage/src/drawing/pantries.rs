@@ -1,0 +1,89 @@
+//! What each pantry holds and knows at the end of the week.
+
+use plankeeper::{Known, Token};
+
+use super::markup::Markup;
+use super::reasons::outcome_word;
+use super::tables::{count, link, portions, row_of, swap, table, token, vote};
+use crate::reading::{Held, Week};
+
+/// All pantries, and their portions together.
+pub(crate) fn pantries(html: &mut Markup, week: &Week) {
+    let heading = "What the pantries hold and know";
+    html.worded("h3", &[("id", &"pantries")], heading);
+    html.element("div", &[("class", &"pantries")], |html| {
+        for (number, held) in (0..).zip(&week.shards) {
+            pantry(html, week, number, held);
+        }
+    });
+    html.element("p", &[("class", &"total")], |html| {
+        let all = week.shards.iter().map(|held| held.total).sum();
+        let portions = portions(all);
+        html.text(format_args!("All pantries together hold {portions}: "));
+        html.worded("code", &[], &week.total);
+    });
+}
+
+fn pantry(html: &mut Markup, week: &Week, shard: u8, held: &Held) {
+    let (id, Held { tokens, known, .. }) = (format!("pantry-{shard}"), held);
+    html.element("section", &[("class", &"pantry"), ("id", &id)], |html| {
+        html.worded("h4", &[], format_args!("Pantry {shard}"));
+        html.element("p", &[], |html| summary(html, held));
+        if !tokens.is_empty() {
+            let names = ["Token", "Household", "Portions", "Pledged to"];
+            table(html, "tokens", &names, tokens, |html, _, held| {
+                held_token(html, week, held);
+            });
+        }
+        if !known.is_empty() {
+            let names = ["Swap", "Votes heard", "Outcome"];
+            table(html, "known", &names, known, |html, _, known| {
+                known_swap(html, week, shard, known);
+            });
+        }
+    });
+    html.end_line();
+}
+
+fn summary(html: &mut Markup, held: &Held) {
+    let (portions, tokens) = (portions(held.total), count(held.tokens.len(), "token"));
+    let swaps = count(held.known.len(), "swap");
+    html.text(format_args!("{portions} in {tokens}; {swaps} known"));
+    if held.turned {
+        html.text("; turned: an abort here frees its tokens");
+    }
+}
+
+fn held_token(html: &mut Markup, week: &Week, held: &Token) {
+    let known = |number| week.known(held.id.shard, number);
+    let place = held.pledge.and_then(known);
+    row_of(html, place, &[], |html| {
+        html.element("th", &[("scope", &"row")], |html| token(html, held.id));
+        html.worded("td", &[("class", &"number")], held.owner);
+        html.worded("td", &[("class", &"number")], held.amount);
+        html.element("td", &[], |html| match held.pledge {
+            Some(number) => link(html, place, &format!("swap {number}")),
+            None => html.text("–"),
+        });
+    });
+}
+
+fn known_swap(html: &mut Markup, week: &Week, shard: u8, known: &Known) {
+    let place = week.known(shard, known.transaction.number());
+    row_of(html, place, &[], |html| {
+        html.element("th", &[("scope", &"row")], |html| swap(html, week, place));
+        html.worded("td", &[], votes(known));
+        html.element("td", &[], |html| outcome_word(html, Some(known.outcome)));
+    });
+}
+
+/// The votes heard, by sender.
+fn votes(known: &Known) -> String {
+    let heard = (0..)
+        .zip(known.heard)
+        .filter_map(|(sender, verdict): (u8, _)| {
+            let verdict = vote(verdict?);
+            Some(format!("{sender} {verdict}"))
+        });
+    heard.collect::<Vec<_>>().join(", ")
+}
