@@ -6,6 +6,7 @@ use plankeeper::{Outcome, Verdict};
 
 use super::lanes::{ABOVE, LEVEL, WIDTH};
 use super::markup::Markup;
+use super::tables::vote;
 
 /// How far a mark reaches from its middle, to the left and to the right.
 pub(crate) type Reach = (i32, i32);
@@ -149,10 +150,7 @@ fn vote_class(way: Way, verdict: Verdict) -> String {
         Way::Repeat => "repeat",
         Way::Refused => "refused",
     };
-    let verdict = match verdict {
-        Verdict::Yes => "yes",
-        Verdict::No => "no",
-    };
+    let verdict = vote(verdict);
     format!("vote {way} {verdict}")
 }
 

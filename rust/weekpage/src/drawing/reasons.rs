@@ -1,10 +1,10 @@
 //! Why a transaction did not commit, in words.
 
-use plankeeper::{Outcome, Refusal, Verdict};
+use plankeeper::{Known, Outcome, Verdict};
 
 use super::markup::Markup;
 use super::tables::{listed, spoilers, step};
-use crate::reading::{At, End, Told, Week};
+use crate::reading::{At, End, Refused, Told, Week};
 
 /// The reason, in the pantries' own words: who said no and which token spoiled
 /// it, whose vote is missing, or why nobody knows it.
@@ -13,7 +13,7 @@ pub(crate) fn reason(html: &mut Markup, week: &Week, told: &Told) {
         End::Committed => {}
         End::Aborted => noes(html, week, told),
         End::Undecided => missing(html, told),
-        End::Unknown => refusals(html, told),
+        End::Unknown => nowhere(html, told),
     }
 }
 
@@ -28,52 +28,67 @@ fn noes(html: &mut Markup, week: &Week, told: &Told) {
     }
 }
 
-/// Every pantry that waits, and whose votes it has not heard.
+/// Every pantry that waits, and whose votes it has not heard; every pantry that
+/// does not know it, and why.
 fn missing(html: &mut Markup, told: &Told) {
     html.worded("p", &[], "Undecided: no pantry said no.");
     for at in &told.at {
-        let Some(known) = &at.known else {
-            let pantry = at.shard;
-            html.worded("p", &[], format_args!("Pantry {pantry} does not know it."));
-            continue;
-        };
-        let unheard = told.at.iter().map(|at| at.shard);
-        let unheard = unheard.filter(|&sender| known.heard[usize::from(sender)].is_none());
-        let unheard: Vec<String> = unheard.map(|sender| sender.to_string()).collect();
-        let votes = if unheard.len() == 1 {
-            "the vote of pantry"
-        } else {
-            "the votes of pantries"
-        };
-        let (pantry, unheard) = (at.shard, listed(&unheard));
-        html.worded(
-            "p",
-            &[],
-            format_args!("Pantry {pantry} has not heard {votes} {unheard}."),
-        );
+        let pantry = at.shard;
+        html.element("p", &[], |html| match &at.known {
+            Some(known) => {
+                let unheard = unheard(told, known);
+                html.text(format_args!("Pantry {pantry} has not heard {unheard}."));
+            }
+            None => {
+                html.text(format_args!("Pantry {pantry} does not know it."));
+                let here = told.refused.iter().filter(|record| record.shard == pantry);
+                refusals(html, here);
+            }
+        });
     }
 }
 
-/// Every cause for which its records were refused, in the order in which they
-/// first came.
-fn refusals(html: &mut Markup, told: &Told) {
-    html.worded("p", &[], "No pantry knows it.");
-    let mut causes: Vec<(Refusal, usize, usize)> = Vec::new();
-    for &(step, refusal) in &told.refused {
-        match causes.iter_mut().find(|(cause, ..)| *cause == refusal) {
-            Some((_, _, times)) => *times += 1,
-            None => causes.push((refusal, step, 1)),
+/// The votes that a pantry has not heard.
+fn unheard(told: &Told, known: &Known) -> String {
+    let senders = told.at.iter().map(|at| at.shard);
+    let unheard = senders.filter(|&sender| known.heard[usize::from(sender)].is_none());
+    let unheard: Vec<String> = unheard.map(|sender| sender.to_string()).collect();
+    let votes = match unheard.len() {
+        1 => "the vote of pantry",
+        _ => "the votes of pantries",
+    };
+    format!("{votes} {}", listed(&unheard))
+}
+
+/// A transaction that no pantry knows.
+fn nowhere(html: &mut Markup, told: &Told) {
+    html.element("p", &[], |html| {
+        html.text("No pantry knows it.");
+        refusals(html, told.refused.iter());
+    });
+}
+
+/// Every cause for which these were refused, in the order in which they first
+/// came.
+fn refusals<'a>(html: &mut Markup, records: impl Iterator<Item = &'a Refused>) {
+    let mut causes: Vec<(&Refused, usize)> = Vec::new();
+    for record in records {
+        let same = |(first, _): &&mut (&Refused, usize)| first.refusal == record.refusal;
+        match causes.iter_mut().find(same) {
+            Some((_, times)) => *times += 1,
+            None => causes.push((record, 1)),
         }
     }
-    for (refusal, first, times) in causes {
-        html.element("p", &[], |html| {
-            html.text("Refused at ");
-            step(html, first);
-            if times > 1 {
-                html.text(format_args!(" and {} times more", times - 1));
-            }
-            html.text(format_args!(", {}: {refusal}.", refusal.number()));
-        });
+    for (first, times) in causes {
+        html.text(" Refused at ");
+        step(html, first.step);
+        match times - 1 {
+            0 => {}
+            1 => html.text(" and once more"),
+            more => html.text(format_args!(" and {more} times more")),
+        }
+        let (number, sentence) = (first.refusal.number(), first.refusal);
+        html.text(format_args!(", {number}: {sentence}."));
     }
 }
 
@@ -87,7 +102,7 @@ pub(crate) fn outcomes(html: &mut Markup, told: &Told) {
     }
 }
 
-/// An outcome's word, coloured; a dash where the transaction is not known.
+/// An outcome's word, coloured; that a shard does not know the transaction is said, too.
 pub(crate) fn outcome_word(html: &mut Markup, outcome: Option<Outcome>) {
     let class = match outcome {
         Some(Outcome::Commit) => "outcome commit",

@@ -1,10 +1,13 @@
 //! The marks of one record, in the lanes.
 
+use std::cmp::Ordering;
+
 use plankeeper::{Answer, Record, Refusal, Verdict};
 
 use super::lanes::{WIDTH, middle};
 use super::marks::{self, DECISION, Reach, Way};
 use super::markup::Markup;
+use super::tables;
 use crate::reading::{Row, Week};
 
 /// Between marks that stand side by side.
@@ -15,10 +18,9 @@ const ASIDE: i32 = 11;
 
 /// Draws what the record has brought. The class `refused` greys it.
 pub(crate) fn row(svg: &mut Markup, week: &Week, row: &Row) {
-    let class = if row.answer.is_err() {
-        "marks refused"
-    } else {
-        "marks"
+    let class = match row.answer {
+        Ok(_) => "marks",
+        Err(_) => "marks refused",
     };
     svg.element("g", &[("class", &class)], |svg| {
         let Some(record) = &row.record else {
@@ -97,27 +99,24 @@ fn vote(svg: &mut Markup, week: &Week, row: &Row, (sender, verdict): (u8, Verdic
     };
     let receiver = row.record.as_ref().map_or(sender, Record::receiver);
     let (from, x) = (middle(sender), middle(receiver));
-    let to = match sender.cmp(&receiver) {
-        std::cmp::Ordering::Less => x - reach.0 - 1,
-        std::cmp::Ordering::Equal => {
-            marks::own(svg, way, verdict, x, x + reach.1 + 1);
-            marks::label(svg, x, vote_label(week, row, verdict));
-            return;
+    let (left, right) = (x - reach.0 - 1, x + reach.1 + 1);
+    let label = match sender.cmp(&receiver) {
+        Ordering::Equal => {
+            marks::own(svg, way, verdict, x, right);
+            x
         }
-        std::cmp::Ordering::Greater => x + reach.1 + 1,
+        side => {
+            let to = if side.is_lt() { left } else { right };
+            marks::arrow(svg, way, verdict, from, to);
+            (from + to) / 2
+        }
     };
-    marks::arrow(svg, way, verdict, from, to);
-    let between = (from + to) / 2;
     if matches!(row.answer, Ok(Answer::Brought { .. })) {
-        marks::parcel(svg, between);
+        marks::parcel(svg, label);
     }
-    marks::label(svg, between, vote_label(week, row, verdict));
+    marks::label(svg, label, vote_label(week, row, verdict));
 }
 
 fn vote_label(week: &Week, row: &Row, verdict: Verdict) -> String {
-    let word = match verdict {
-        Verdict::Yes => "yes",
-        Verdict::No => "no",
-    };
-    format!("swap {}: {word}", name(week, row))
+    format!("swap {}: {}", name(week, row), tables::vote(verdict))
 }

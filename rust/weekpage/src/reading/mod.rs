@@ -11,7 +11,7 @@ use plankeeper::{Cluster, records};
 
 pub use end::Held;
 pub use rows::{Row, Subject};
-pub use told::{At, End, Told};
+pub use told::{At, End, Refused, Told};
 
 use told::Gathered;
 

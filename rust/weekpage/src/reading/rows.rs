@@ -73,7 +73,7 @@ impl Row {
         let after = decided(cluster);
         Row {
             line: line(step, record.as_ref(), answer),
-            about: subject.map(|subject| gathered.note(step, subject.transaction, answer)),
+            about: subject.map(|subject| gathered.note(step, subject, answer)),
             decision: after.filter(|_| before.is_none()),
             spoilers: subject.map_or_else(Vec::new, |subject| spoilers(cluster, subject, answer)),
             answer,

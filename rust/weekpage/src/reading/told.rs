@@ -6,7 +6,7 @@ use plankeeper::{Answer, Cluster, Known, Outcome, Refusal, Transaction, Verdict}
 use why::Found;
 
 use super::end::Held;
-use super::rows::unavailable;
+use super::rows::{Subject, unavailable};
 
 /// A transaction that a record of the week has named.
 pub struct Told {
@@ -17,10 +17,20 @@ pub struct Told {
     pub name: String,
     /// The step of its last registration, by a call of its own or by a vote.
     pub registered: Option<usize>,
-    /// The steps at which records about it were refused, and why.
-    pub refused: Vec<(usize, Refusal)>,
+    /// The records about it that were refused, in their order.
+    pub refused: Vec<Refused>,
     /// What each of its shards, in their order, knows of it at the end.
     pub at: Vec<At>,
+}
+
+/// A record that was refused.
+pub struct Refused {
+    /// Its step.
+    pub step: usize,
+    /// The shard that it was for.
+    pub shard: u8,
+    /// Why.
+    pub refusal: Refusal,
 }
 
 /// What a shard knows of a transaction at the end.
@@ -100,19 +110,23 @@ pub(super) struct Gathered {
 }
 
 impl Gathered {
-    /// Notes a record about the transaction, and gives its place.
+    /// Notes a record about a transaction, and gives its place.
     pub(super) fn note(
         &mut self,
         step: usize,
-        transaction: &Transaction,
+        subject: Subject<'_>,
         answer: Result<Answer, Refusal>,
     ) -> usize {
-        let place = self.place(transaction);
+        let place = self.place(subject.transaction);
         let told = &mut self.told[place];
         match answer {
             Ok(Answer::Registered { .. } | Answer::Brought { .. }) => told.registered = Some(step),
             Ok(_) => {}
-            Err(refusal) => told.refused.push((step, refusal)),
+            Err(refusal) => told.refused.push(Refused {
+                step,
+                shard: subject.receiver,
+                refusal,
+            }),
         }
         place
     }
