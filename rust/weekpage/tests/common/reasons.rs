@@ -1,0 +1,163 @@
+//! Why a swap did not commit, by the reference: the reason beside its entry has
+//! to say that.
+
+use reference::{Finding, Input, Outcome, Refusal};
+use weeks::{CAUSES, Tally};
+
+use crate::common::tree::Element;
+use crate::ended::{Ended, Told};
+use crate::entries::{numbers, paragraphs, steps};
+
+/// The words for findings, of which an input that spoils a swap has one.
+const SPOILT: [&str; 4] = [
+    "not held",
+    "other household",
+    "other portions",
+    "pledged to swap ",
+];
+
+/// Checks the reason beside the entry of a swap that did not commit, and counts
+/// how the swap has ended and what was found. The name is for messages.
+pub fn check_reason(row: &Element, ended: &Ended, told: &Told, name: &str, tally: &mut Tally) {
+    let why = row.one("td.why");
+    let outcomes = ended.outcomes(told);
+    let outcomes = outcomes.iter().filter_map(|&(_, outcome)| outcome);
+    let outcomes: Vec<Outcome> = outcomes.collect();
+    let name = format!("{name}: '{}'", why.text());
+    if outcomes.is_empty() {
+        check_refusals(why, told, &name);
+        tally.add("known nowhere");
+    } else if outcomes.contains(&Outcome::Abort) {
+        check_noes(why, ended, told, &name, tally);
+        tally.add("aborted");
+    } else {
+        check_missing(why, ended, told, &name);
+        tally.add("undecided");
+    }
+}
+
+/// A paragraph for each pantry that said no, with every input there that was not
+/// available and what was found of it.
+fn check_noes(why: &Element, ended: &Ended, told: &Told, name: &str, tally: &mut Tally) {
+    let (paragraphs, noes) = (paragraphs(why), ended.noes(told));
+    assert_eq!(paragraphs.len(), noes.len(), "{name}");
+    for (paragraph, (shard, findings)) in paragraphs.iter().zip(noes) {
+        assert!(paragraph.contains(&format!("Pantry {shard} ")), "{name}");
+        let inputs = told.transaction.used_inputs().iter();
+        let here = inputs.filter(|input| input.token.shard == shard);
+        let found = here.zip(findings);
+        let spoilt: Vec<_> = found
+            .filter(|(_, finding)| *finding != Finding::Available)
+            .collect();
+        // Nothing else than a token's name has brackets.
+        let parts: Vec<&str> = paragraph.split('(').skip(1).collect();
+        assert_eq!(parts.len(), spoilt.len(), "{name}");
+        for (part, (input, finding)) in parts.into_iter().zip(spoilt) {
+            check_spoilt(&format!("({part}"), input, finding, name);
+            tally.add(words(finding).0);
+        }
+    }
+}
+
+/// The part of a reason that tells of one input.
+fn check_spoilt(part: &str, input: &Input, finding: Finding, name: &str) {
+    let (token, (_, words)) = (token_name(input), words(finding));
+    assert!(part.starts_with(&token), "{name}: {token} in '{part}'");
+    let told = SPOILT.iter().filter(|words| part.contains(**words));
+    assert_eq!(told.count(), 1, "{name}: '{part}'");
+    let (_, behind) = part.split_once(&words).unwrap_or(("", "0"));
+    // Swap 1 is not swap 12.
+    let whole = !behind.starts_with(|sign: char| sign.is_ascii_digit());
+    assert!(whole, "{name}: {words} in '{part}'");
+}
+
+/// What a finding is counted as, and document 02's words for it.
+fn words(finding: Finding) -> (&'static str, String) {
+    match finding {
+        Finding::Available => ("available", "available".into()),
+        Finding::NotHeld => ("not held", "not held".into()),
+        Finding::OtherOwner => ("other household", "other household".into()),
+        Finding::OtherAmount => ("other portions", "other portions".into()),
+        Finding::Pledged(number) => ("pledged", format!("pledged to swap {number}")),
+    }
+}
+
+/// A token's name as document 01 writes it.
+pub fn token_name(input: &Input) -> String {
+    let token = input.token;
+    format!("({}, {}, {})", token.shard, token.creator, token.index)
+}
+
+/// A paragraph for each of the swap's pantries: that it does not know it and what
+/// was refused there, or the votes that it has not heard.
+fn check_missing(why: &Element, ended: &Ended, told: &Told, name: &str) {
+    let paragraphs = paragraphs(why);
+    for shard in told.shards() {
+        let front = format!("Pantry {shard} ");
+        let mut own = paragraphs.iter().filter(|text| text.starts_with(&front));
+        let (Some(paragraph), None) = (own.next(), own.next()) else {
+            panic!("{name}: no paragraph, or two, of pantry {shard}");
+        };
+        let Some(known) = ended.known(shard, told) else {
+            let refused = refusals(told, |at| at == shard);
+            let expected = format!("{front}does not know it.{refused}");
+            assert_eq!(*paragraph, expected, "{name}");
+            continue;
+        };
+        let mut missing = told.shards();
+        missing.retain(|&sender| known.heard[usize::from(sender)].is_none());
+        let missing: Vec<u64> = missing.into_iter().map(u64::from).collect();
+        assert_eq!(numbers(paragraph)[1..], missing, "{name}");
+        assert!(paragraph.contains("has not heard"), "{name}");
+    }
+}
+
+/// That nobody knows it, and every cause.
+fn check_refusals(why: &Element, told: &Told, name: &str) {
+    let expected = format!("No pantry knows it.{}", refusals(told, |_| true));
+    assert_eq!(paragraphs(why), [expected], "{name}");
+    let firsts = causes(told, |_| true).into_iter();
+    let firsts: Vec<usize> = firsts.map(|(_, step, _)| step).collect();
+    assert_eq!(steps(why), firsts, "{name}");
+}
+
+/// The causes for which records about the swap were refused at these pantries, in
+/// the order in which they first came: each with its first step, and how often
+/// it came again.
+fn causes(told: &Told, fits: impl Fn(u8) -> bool) -> Vec<(Refusal, usize, usize)> {
+    let mut causes: Vec<(Refusal, usize, usize)> = Vec::new();
+    let refused = told.refused.iter().filter(|(_, shard, _)| fits(*shard));
+    for &(step, _, refusal) in refused {
+        match causes.iter_mut().find(|(other, ..)| *other == refusal) {
+            Some((_, _, again)) => *again += 1,
+            None => causes.push((refusal, step, 0)),
+        }
+    }
+    causes
+}
+
+/// What is said of them.
+fn refusals(told: &Told, fits: impl Fn(u8) -> bool) -> String {
+    let said = causes(told, fits)
+        .into_iter()
+        .map(|(refusal, step, again)| {
+            let number = refusal.number().into();
+            let again = match again {
+                0 => String::new(),
+                1 => " and once more".into(),
+                more => format!(" and {more} times more"),
+            };
+            format!(
+                " Refused at step {step}{again}, {number}: {}.",
+                sentence(number)
+            )
+        });
+    said.collect()
+}
+
+/// The table's sentence for the cause of this number.
+fn sentence(number: u32) -> &'static str {
+    let mut causes = CAUSES.iter();
+    let cause = causes.find(|cause| cause.reply.code == number);
+    cause.expect("the cause has a row").sentence
+}

@@ -1,0 +1,185 @@
+//! A week and a listing that do not belong together are told apart, and so are
+//! swaps that share a number.
+
+#[path = "common/by_hand.rs"]
+mod by_hand;
+
+use by_hand::by_hand;
+use program::weeks;
+use weekpage::reading::{End, Told};
+use weekpage::{Mismatch, Week};
+
+/// Pantries 0 and 1 get a token each, pantry 0 one more.
+const OPENINGS: &str = "opening pantry 0 position 0 household 10 portions 3\n\
+    opening pantry 1 position 0 household 20 portions 2\n\
+    opening pantry 0 position 1 household 10 portions 4\n";
+
+/// What is wrong with this listing of the openings.
+fn mismatch(listing: &str) -> Mismatch {
+    let (bytes, _) = by_hand(OPENINGS);
+    let mismatch = Week::read(&bytes, listing).err();
+    mismatch.unwrap_or_else(|| panic!("it was taken: {listing}"))
+}
+
+#[test]
+fn listings_of_another_week() {
+    for (listing, message) in [
+        (
+            "1 0 OPENED\n2 1 REFUSED 14\n3 0 OPENED\nTOTAL 9\n",
+            "line 2 of the listing is '2 1 REFUSED 14', and the records give '2 1 OPENED'",
+        ),
+        (
+            "1 0 OPENED\n3 0 OPENED\nTOTAL 9\n",
+            "line 2 of the listing is '3 0 OPENED', and the records give '2 1 OPENED'",
+        ),
+        (
+            "1 0 OPENED\n2 1 OPENED\n3 0 OPENED\nTOTAL 5\n",
+            "line 4 of the listing is 'TOTAL 5', and the records give 'TOTAL 9'",
+        ),
+        (
+            "1 0 OPENED\n2 1 OPENED\nTOTAL 5\n",
+            "line 3 of the listing is 'TOTAL 5', and the records give '3 0 OPENED'",
+        ),
+        (
+            "1 0 OPENED\n2 1 OPENED\n3 0 OPENED\n",
+            "line 4 of the listing is nothing more, and the records give 'TOTAL 9'",
+        ),
+        (
+            "",
+            "line 1 of the listing is nothing more, and the records give '1 0 OPENED'",
+        ),
+        (
+            "1 0 OPENED\n2 1 OPENED\n3 0 OPENED\n4 0 OPENED\nTOTAL 9\n",
+            "line 4 of the listing is '4 0 OPENED', and the records give 'TOTAL 9'",
+        ),
+        (
+            "1 0 OPENED\n2 1 OPENED\n3 0 OPENED\nTOTAL 9\nTOTAL 9\n",
+            "line 5 of the listing is 'TOTAL 9', and the records give nothing more",
+        ),
+        (
+            "1 0 OPENED\n2 1\tOPENED\u{1b}\n",
+            "line 2 of the listing is '2 1\\tOPENED\\u{1b}', and the records give '2 1 OPENED'",
+        ),
+    ] {
+        let expected = format!("{message}: they are not of one week");
+        assert_eq!(mismatch(listing).to_string(), expected);
+    }
+}
+
+/// The parts of what is told.
+#[test]
+fn what_a_mismatch_says() {
+    let wrong = Mismatch {
+        number: 2,
+        listed: Some("2 1 YES WAIT".into()),
+        played: Some("2 1 OPENED".into()),
+    };
+    assert_eq!(mismatch("1 0 OPENED\n2 1 YES WAIT\n"), wrong);
+    let short = Mismatch {
+        number: 2,
+        listed: None,
+        played: Some("2 1 OPENED".into()),
+    };
+    assert_eq!(mismatch("1 0 OPENED"), short);
+}
+
+/// Every stored week is taken with its own listing, and with no other's.
+#[test]
+fn every_week_has_its_own_listing() {
+    let weeks = weeks();
+    let text = |listing: &[u8]| String::from_utf8(listing.to_vec()).expect("it is ASCII");
+    for week in &weeks {
+        for other in &weeks {
+            let taken = Week::read(&week.bytes, &text(&other.listing)).is_ok();
+            let same = week.listing == other.listing;
+            assert_eq!(taken, same, "{} with {}", week.name, other.name);
+        }
+    }
+}
+
+/// A swap of number 7 that gives to this household, called so in the text.
+fn seven(household: u32) -> String {
+    format!(
+        "swap 7 as s{household}\n  take pantry 0 opening 0 household 10 portions 3\n  \
+         give pantry 0 household {household} portions 3\n"
+    )
+}
+
+fn read(text: &str) -> Week {
+    let (bytes, listing) = by_hand(text);
+    Week::read(&bytes, &listing).unwrap_or_else(|mismatch| panic!("{mismatch}"))
+}
+
+/// The first is registered and the others are refused; each is told of once, and
+/// by the same name wherever it comes.
+#[test]
+fn many_swaps_of_one_number() {
+    let mut text = String::new();
+    for household in 1..=124 {
+        text += &seven(household);
+        text += &format!("register s{household} at 0\n");
+    }
+    let week = read(&(text + "register s3 at 0\nregister s1 at 0\n"));
+    let names: Vec<&str> = week.told.iter().map(|told| told.name.as_str()).collect();
+    assert_eq!(names.len(), 124);
+    for (place, name) in [
+        (1, "7"),
+        (2, "7 (2nd)"),
+        (3, "7 (3rd)"),
+        (4, "7 (4th)"),
+        (10, "7 (10th)"),
+        (11, "7 (11th)"),
+        (12, "7 (12th)"),
+        (13, "7 (13th)"),
+        (14, "7 (14th)"),
+        (20, "7 (20th)"),
+        (21, "7 (21st)"),
+        (22, "7 (22nd)"),
+        (23, "7 (23rd)"),
+        (24, "7 (24th)"),
+        (101, "7 (101st)"),
+        (111, "7 (111th)"),
+        (112, "7 (112th)"),
+        (113, "7 (113th)"),
+        (121, "7 (121st)"),
+    ] {
+        assert_eq!(names[place - 1], name);
+    }
+    let about = |step: usize| week.rows[step - 1].about;
+    assert_eq!((about(3), about(125)), (Some(2), Some(2)));
+    assert_eq!((about(1), about(126)), (Some(0), Some(0)));
+    let refused = |told: &Told| -> Vec<(usize, u8)> {
+        let refused = told.refused.iter();
+        let refused = refused.map(|record| (record.step, record.refusal.number()));
+        refused.collect()
+    };
+    assert_eq!(refused(&week.told[0]), [(126, 8)]);
+    assert_eq!(refused(&week.told[2]), [(3, 7), (125, 7)]);
+}
+
+/// One number at separate pantries, for two swaps that both commit: each pantry
+/// knows its own by it.
+#[test]
+fn two_swaps_of_one_number() {
+    let week = read(
+        "opening pantry 0 position 0 household 10 portions 3\n\
+         opening pantry 4 position 0 household 40 portions 1\n\
+         swap 7\n  take pantry 0 opening 0 household 10 portions 3\n  \
+         give pantry 0 household 11 portions 3\n\
+         swap 7 as far\n  take pantry 4 opening 0 household 40 portions 1\n  \
+         give pantry 4 household 41 portions 1\n\
+         register far at 4\nregister 7 at 0\nregister far at 0\n",
+    );
+    let names: Vec<&str> = week.told.iter().map(|told| told.name.as_str()).collect();
+    assert_eq!(names, ["7", "7 (2nd)"]);
+    assert_eq!(week.known(4, 7), Some(0));
+    assert_eq!(week.known(0, 7), Some(1));
+    assert_eq!(week.known(1, 7), None);
+    assert_eq!(week.known(0, 8), None);
+    assert_eq!(week.committed(), [0, 1]);
+    assert_eq!(week.ended(|end| end == End::Committed), [0, 1]);
+    let registered: Vec<_> = week.told.iter().map(|told| told.registered).collect();
+    assert_eq!(registered, [Some(3), Some(4)]);
+    assert_eq!(week.rows[4].line, "5 0 REFUSED 6");
+    assert_eq!(week.rows[4].about, Some(0));
+}
