@@ -63,6 +63,7 @@ untilDone(async () => {
     same(faded().length, count, `${words}: rows that fade`);
     check(faded().every((row) => row.dataset.swap !== swap), `${words}: its own rows stay`);
   };
+  same(document.getElementById("choosing").hidden, false, "how to choose, hidden");
   shown(0, "at first");
   over(link);
   shown(others, "with the mouse over it");

@@ -9,6 +9,7 @@
     rows.get(swap).push(row);
   }
   const bar = document.getElementById("chosen");
+  document.getElementById("choosing").hidden = false;
   const recordsOf = (swap) => rows.get(swap).filter((row) => row.classList.contains("record"));
   let lit = null;
   let chosen = null;

@@ -48,6 +48,7 @@ fn body(html: &mut Markup, name: &str, week: &Week) {
         for text in READING {
             html.worded("p", &[], text);
         }
+        html.worded("p", &[("id", &"choosing"), ("hidden", &"hidden")], CHOOSING);
         legend(html);
     });
     html.element("section", &[("id", &"swaps")], |html| swaps(html, week));
@@ -64,7 +65,7 @@ fn body(html: &mut Markup, name: &str, week: &Week) {
     html.end_line();
 }
 
-const READING: [&str; 3] = [
+const READING: [&str; 2] = [
     "Eight pantries hold tokens: prepaid portions, each token of one household. A token is named \
      by its pantry, the swap that made it (0 for an opening) and its position. A swap takes tokens \
      away at some pantries and makes new ones at others. Each of its pantries registers it, pledges \
@@ -73,9 +74,11 @@ const READING: [&str; 3] = [
     "Time runs downward: each record of the week is a row. Each pantry has a lane, and what a \
      record does stands in the lane of the pantry that received it. Left of the lanes is the line \
      of the listing, right of them the same in words.",
-    "Choose a swap, with the mouse or the keyboard, and its rows stand out in all lanes; Escape \
-     ends that.",
 ];
+
+/// What the script adds, which shows this, too.
+const CHOOSING: &str = "Choose a swap, with the mouse or the keyboard, and its rows stand out in \
+    all lanes; Escape ends that.";
 
 const FOOTER: &str = "The lines are those of the proved listing program. Tokens, votes, outcomes \
     and findings are what the proved library answers. This page draws them and decides nothing.";
