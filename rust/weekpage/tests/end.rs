@@ -61,8 +61,8 @@ struct Beside<'a> {
     case: &'a str,
     page: &'a Element,
     ended: Ended,
-    /// The marks of the swaps by name, from their entries.
-    marks: HashMap<String, &'a str>,
+    /// The page's keys of the swaps by name, from their entries.
+    keys: HashMap<String, &'a str>,
 }
 
 impl<'a> Beside<'a> {
@@ -74,14 +74,14 @@ impl<'a> Beside<'a> {
         let told: BTreeSet<String> = ended.told.iter().map(|told| told.name.clone()).collect();
         assert_eq!(names, told, "{case}");
         assert_eq!(rows.len(), told.len(), "{case}: entries");
-        let marks = rows.iter().map(|row| {
-            let mark = row.attribute("data-swap").expect("an entry has its mark");
-            (row.one("th").text(), mark)
+        let keys = rows.iter().map(|row| {
+            let key = row.attribute("data-swap").expect("an entry has its key");
+            (row.one("th").text(), key)
         });
         Beside {
             case,
             page,
-            marks: marks.collect(),
+            keys: keys.collect(),
             ended,
         }
     }
@@ -105,20 +105,8 @@ impl<'a> Beside<'a> {
         let items: Vec<String> = items.map(Element::text).collect();
         let mut told: Vec<&Told> = self.ended.told.iter().collect();
         told.sort_by_key(|told| told.transaction.number);
-        let told = told.into_iter().map(|told| {
-            let outcomes = self.ended.outcomes(told);
-            let has = |wanted| outcomes.iter().any(|(_, outcome)| *outcome == wanted);
-            let end = if has(Some(Outcome::Commit)) {
-                "committed"
-            } else if has(Some(Outcome::Abort)) {
-                "aborted"
-            } else if has(Some(Outcome::Wait)) {
-                "undecided"
-            } else {
-                "known nowhere"
-            };
-            format!("{} {end}", told.name)
-        });
+        let told = told.into_iter();
+        let told = told.map(|told| format!("{} {}", told.name, self.ended.end(told)));
         assert_eq!(items, Vec::from_iter(told), "{}", self.case);
     }
 
@@ -138,8 +126,8 @@ impl<'a> Beside<'a> {
         let known: Vec<Shown> = known.map(|known| self.known(known)).collect();
         assert_eq!(shown(section, "known"), known, "{name}");
         check_summary(section, shard, &name);
-        for (_, mark) in &held {
-            tally.add(mark.map_or("token", |_| "pledged token"));
+        for (_, key) in &held {
+            tally.add(key.map_or("token", |_| "pledged token"));
         }
         known.iter().for_each(|_| tally.add("known swap"));
         if shard.is_turned() {
@@ -153,16 +141,16 @@ impl<'a> Beside<'a> {
             let mut known = shard.known().iter();
             let known = known.find(|known| known.transaction.number == number);
             let known = known.expect("the pantry knows what a token is pledged to");
-            (format!("swap {number}"), self.mark(known))
+            (format!("swap {number}"), self.key(known))
         });
-        let (pledge, mark) = pledge.unzip();
+        let (pledge, key) = pledge.unzip();
         let cells = vec![
             format!("({}, {}, {})", shard.number(), token.creator, token.index),
             token.owner.to_string(),
             token.amount.to_string(),
             pledge.unwrap_or("–".into()),
         ];
-        (cells, mark)
+        (cells, key)
     }
 
     /// A known swap's row.
@@ -177,7 +165,7 @@ impl<'a> Beside<'a> {
         let votes: Vec<String> = votes.collect();
         let outcome = word(Some(known.outcome())).to_owned();
         let cells = vec![self.told(known).name.clone(), votes.join(", "), outcome];
-        (cells, Some(self.mark(known)))
+        (cells, Some(self.key(known)))
     }
 
     fn told(&self, known: &Known) -> &Told {
@@ -186,8 +174,8 @@ impl<'a> Beside<'a> {
         told.expect("a record has named it")
     }
 
-    fn mark(&self, known: &Known) -> &'a str {
-        self.marks[&self.told(known).name]
+    fn key(&self, known: &Known) -> &'a str {
+        self.keys[&self.told(known).name]
     }
 
     /// The committed swaps in the clauses' order, each with the step of its last
@@ -210,8 +198,7 @@ impl<'a> Beside<'a> {
     }
 
     fn is_committed(&self, told: &Told) -> bool {
-        let outcomes = self.ended.outcomes(told);
-        outcomes.iter().any(|(_, it)| *it == Some(Outcome::Commit))
+        self.ended.end(told) == "committed"
     }
 
     /// The others, each with its reason.
@@ -253,7 +240,7 @@ impl<'a> Beside<'a> {
     }
 }
 
-/// A row of a pantry's table: the texts of its cells, and the swap's mark.
+/// A row of a pantry's table: the texts of its cells, and the swap's key.
 type Shown<'a> = (Vec<String>, Option<&'a str>);
 
 /// The rows of the pantry's table of this class, which need not be there. What
@@ -262,11 +249,11 @@ fn shown<'a>(section: &'a Element, class: &str) -> Vec<Shown<'a>> {
     assert!(section.select(&format!("table.{class}")).len() <= 1);
     let rows = section.select(&format!("table.{class} tbody tr"));
     let shown = rows.into_iter().map(|row| {
-        let mark = row.attribute("data-swap");
+        let key = row.attribute("data-swap");
         for link in row.select("a") {
-            assert_eq!(link.attribute("data-swap"), mark);
+            assert_eq!(link.attribute("data-swap"), key);
         }
-        (row.elements().map(Element::text).collect(), mark)
+        (row.elements().map(Element::text).collect(), key)
     });
     shown.collect()
 }
@@ -346,6 +333,12 @@ fn the_week_of_conflicts() {
     ] {
         assert_eq!(reason(&page, swap), [no(pantry, tokens)]);
     }
+}
+
+/// What is pledged stays so after an abort; what is committed has moved.
+#[test]
+fn the_pantries_of_the_week_of_conflicts() {
+    let page = stored("conflict");
     let rows = |pantry, class| -> Vec<String> {
         let section = page.one(&format!("#pantry-{pantry}"));
         let rows = shown(section, class).into_iter();
@@ -441,6 +434,32 @@ fn swaps_of_one_number() {
         ("swap 7".into(), vec![12]),
         ("swap 7 (2nd)".into(), vec![14]),
         ("swap 8".into(), vec![20]),
+    ];
+    assert_eq!(committed(&page), serial);
+}
+
+/// A swap that takes this pantry's opening token and gives it at another one.
+fn passing(number: u32, from: u8, to: u8) -> String {
+    format!(
+        "opening pantry {from} position 0 household 10 portions 3\n\
+         swap {number}\n  take pantry {from} opening 0 household 10 portions 3\n  \
+         give pantry {to} household 20 portions 3\n"
+    )
+}
+
+/// Neither the numbers nor the first registrations make the serial order, nor do
+/// the votes.
+#[test]
+fn the_serial_order() {
+    let swaps = [passing(5, 3, 4), passing(9, 0, 1), passing(2, 2, 2)].concat();
+    let page = drawn(&format!(
+        "{swaps}register 5 at 3\nregister 9 at 0\nregister 2 at 2\nregister 9 at 1\n\
+         register 5 at 4\nvote yes on 5 from 3 to 4\nvote yes on 9 from 0 to 1\n"
+    ));
+    let serial = [
+        ("swap 2".into(), vec![6]),
+        ("swap 9".into(), vec![7]),
+        ("swap 5".into(), vec![8]),
     ];
     assert_eq!(committed(&page), serial);
 }

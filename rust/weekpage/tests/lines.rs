@@ -93,29 +93,29 @@ fn check_picture(case: &Case) {
     assert_eq!(Vec::from_iter(shown), listed, "{name}");
 }
 
-/// Rows are marked as of one swap exactly where the records agree in every field
-/// of it, and where there is none they have no mark. Gives the number of swaps.
+/// Rows have one key exactly where their records agree in every field of the swap,
+/// and none where there is no swap. Gives the number of swaps.
 fn check_swaps(page: &Element, case: &Case) -> usize {
     let mut swaps: HashMap<Transaction, Option<String>> = HashMap::new();
     let mut rows = page.select("table.lanes tbody tr").into_iter();
     play(&case.bytes, |(record, _), _| {
         let row = rows.next().expect("each record has a row");
-        let marked = row.attribute("data-swap").map(String::from);
+        let key = row.attribute("data-swap").map(String::from);
         let name = format!("{}, {:?}", case.name, row.attribute("id"));
         match record.and_then(transaction) {
-            None => assert_eq!(marked, None, "{name}"),
+            None => assert_eq!(key, None, "{name}"),
             Some(transaction) => {
-                assert!(marked.is_some(), "{name}");
-                let first = swaps.entry(*transaction).or_insert(marked.clone());
-                assert_eq!(*first, marked, "{name}");
+                assert!(key.is_some(), "{name}");
+                let first = swaps.entry(*transaction).or_insert(key.clone());
+                assert_eq!(*first, key, "{name}");
             }
         }
     });
-    let marks: HashSet<&Option<String>> = swaps.values().collect();
+    let keys: HashSet<&Option<String>> = swaps.values().collect();
     assert_eq!(
-        marks.len(),
+        keys.len(),
         swaps.len(),
-        "{}: one mark for two swaps",
+        "{}: one key for two swaps",
         case.name
     );
     swaps.len()

@@ -21,46 +21,50 @@ fn mismatch(listing: &str) -> Mismatch {
     mismatch.unwrap_or_else(|| panic!("it was taken: {listing}"))
 }
 
+/// Listings, and what is wrong with each: a line, one too few, the total, one too
+/// many, and one that should not be printed as it is.
+const WRONG: [(&str, &str); 9] = [
+    (
+        "1 0 OPENED\n2 1 REFUSED 14\n3 0 OPENED\nTOTAL 9\n",
+        "line 2 of the listing is '2 1 REFUSED 14', and the records give '2 1 OPENED'",
+    ),
+    (
+        "1 0 OPENED\n3 0 OPENED\nTOTAL 9\n",
+        "line 2 of the listing is '3 0 OPENED', and the records give '2 1 OPENED'",
+    ),
+    (
+        "1 0 OPENED\n2 1 OPENED\n3 0 OPENED\nTOTAL 5\n",
+        "line 4 of the listing is 'TOTAL 5', and the records give 'TOTAL 9'",
+    ),
+    (
+        "1 0 OPENED\n2 1 OPENED\nTOTAL 5\n",
+        "line 3 of the listing is 'TOTAL 5', and the records give '3 0 OPENED'",
+    ),
+    (
+        "1 0 OPENED\n2 1 OPENED\n3 0 OPENED\n",
+        "line 4 of the listing is nothing more, and the records give 'TOTAL 9'",
+    ),
+    (
+        "",
+        "line 1 of the listing is nothing more, and the records give '1 0 OPENED'",
+    ),
+    (
+        "1 0 OPENED\n2 1 OPENED\n3 0 OPENED\n4 0 OPENED\nTOTAL 9\n",
+        "line 4 of the listing is '4 0 OPENED', and the records give 'TOTAL 9'",
+    ),
+    (
+        "1 0 OPENED\n2 1 OPENED\n3 0 OPENED\nTOTAL 9\nTOTAL 9\n",
+        "line 5 of the listing is 'TOTAL 9', and the records give nothing more",
+    ),
+    (
+        "1 0 OPENED\n2 1\tOPENED\u{1b}\n",
+        "line 2 of the listing is '2 1\\tOPENED\\u{1b}', and the records give '2 1 OPENED'",
+    ),
+];
+
 #[test]
 fn listings_of_another_week() {
-    for (listing, message) in [
-        (
-            "1 0 OPENED\n2 1 REFUSED 14\n3 0 OPENED\nTOTAL 9\n",
-            "line 2 of the listing is '2 1 REFUSED 14', and the records give '2 1 OPENED'",
-        ),
-        (
-            "1 0 OPENED\n3 0 OPENED\nTOTAL 9\n",
-            "line 2 of the listing is '3 0 OPENED', and the records give '2 1 OPENED'",
-        ),
-        (
-            "1 0 OPENED\n2 1 OPENED\n3 0 OPENED\nTOTAL 5\n",
-            "line 4 of the listing is 'TOTAL 5', and the records give 'TOTAL 9'",
-        ),
-        (
-            "1 0 OPENED\n2 1 OPENED\nTOTAL 5\n",
-            "line 3 of the listing is 'TOTAL 5', and the records give '3 0 OPENED'",
-        ),
-        (
-            "1 0 OPENED\n2 1 OPENED\n3 0 OPENED\n",
-            "line 4 of the listing is nothing more, and the records give 'TOTAL 9'",
-        ),
-        (
-            "",
-            "line 1 of the listing is nothing more, and the records give '1 0 OPENED'",
-        ),
-        (
-            "1 0 OPENED\n2 1 OPENED\n3 0 OPENED\n4 0 OPENED\nTOTAL 9\n",
-            "line 4 of the listing is '4 0 OPENED', and the records give 'TOTAL 9'",
-        ),
-        (
-            "1 0 OPENED\n2 1 OPENED\n3 0 OPENED\nTOTAL 9\nTOTAL 9\n",
-            "line 5 of the listing is 'TOTAL 9', and the records give nothing more",
-        ),
-        (
-            "1 0 OPENED\n2 1\tOPENED\u{1b}\n",
-            "line 2 of the listing is '2 1\\tOPENED\\u{1b}', and the records give '2 1 OPENED'",
-        ),
-    ] {
+    for (listing, message) in WRONG {
         let expected = format!("{message}: they are not of one week");
         assert_eq!(mismatch(listing).to_string(), expected);
     }
@@ -110,6 +114,15 @@ fn read(text: &str) -> Week {
     Week::read(&bytes, &listing).unwrap_or_else(|mismatch| panic!("{mismatch}"))
 }
 
+/// What some of the swaps of number 7 are called, by which of them it is.
+#[rustfmt::skip]
+const NAMES: [(usize, &str); 19] = [
+    (1, "7"), (2, "7 (2nd)"), (3, "7 (3rd)"), (4, "7 (4th)"), (10, "7 (10th)"),
+    (11, "7 (11th)"), (12, "7 (12th)"), (13, "7 (13th)"), (14, "7 (14th)"), (20, "7 (20th)"),
+    (21, "7 (21st)"), (22, "7 (22nd)"), (23, "7 (23rd)"), (24, "7 (24th)"), (101, "7 (101st)"),
+    (111, "7 (111th)"), (112, "7 (112th)"), (113, "7 (113th)"), (121, "7 (121st)"),
+];
+
 /// The first is registered and the others are refused; each is told of once, and
 /// by the same name wherever it comes.
 #[test]
@@ -122,27 +135,7 @@ fn many_swaps_of_one_number() {
     let week = read(&(text + "register s3 at 0\nregister s1 at 0\n"));
     let names: Vec<&str> = week.told.iter().map(|told| told.name.as_str()).collect();
     assert_eq!(names.len(), 124);
-    for (place, name) in [
-        (1, "7"),
-        (2, "7 (2nd)"),
-        (3, "7 (3rd)"),
-        (4, "7 (4th)"),
-        (10, "7 (10th)"),
-        (11, "7 (11th)"),
-        (12, "7 (12th)"),
-        (13, "7 (13th)"),
-        (14, "7 (14th)"),
-        (20, "7 (20th)"),
-        (21, "7 (21st)"),
-        (22, "7 (22nd)"),
-        (23, "7 (23rd)"),
-        (24, "7 (24th)"),
-        (101, "7 (101st)"),
-        (111, "7 (111th)"),
-        (112, "7 (112th)"),
-        (113, "7 (113th)"),
-        (121, "7 (121st)"),
-    ] {
+    for (place, name) in NAMES {
         assert_eq!(names[place - 1], name);
     }
     let about = |step: usize| week.rows[step - 1].about;

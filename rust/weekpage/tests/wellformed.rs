@@ -26,7 +26,7 @@ fn outside(markup: &str) -> Vec<&'static str> {
     asks.collect()
 }
 
-/// What the links of a page lead to, and what its marks of swaps stand for.
+/// How much was looked at.
 #[derive(Default)]
 struct Counts {
     pages: usize,
@@ -54,12 +54,12 @@ fn every_page_and_every_picture() {
         links,
         swaps,
     } = counts;
-    assert!(pages > 600, "{pages} pages");
+    assert!(pages > 1_000, "{pages} pages");
     assert!(links > 20_000, "{links} links");
-    assert!(swaps > 30_000, "{swaps} marks of swaps");
+    assert!(swaps > 30_000, "{swaps} keys of swaps");
     println!(
         "{pages} pages and as many pictures, {elements} elements in the pages, {links} links, \
-         {swaps} marks of swaps"
+         {swaps} keys of swaps"
     );
 }
 
@@ -87,8 +87,8 @@ fn check_links(page: &Element, name: &str, counts: &mut Counts) {
     }
 }
 
-/// Whatever belongs to a swap names one that has its entry, and a swap's link
-/// leads to the entry of the swap that it belongs to.
+/// Whatever has a swap's key is of a swap that has its entry, and a link with the
+/// key leads to that.
 fn check_swaps(page: &Element, name: &str, counts: &mut Counts) {
     let entries = page.select("tr").into_iter().filter_map(|row| {
         let swap = row.attribute("id")?.strip_prefix("swap-")?;

@@ -60,6 +60,21 @@ impl Ended {
         shards.map(|shard| (shard, outcome(shard))).collect()
     }
 
+    /// How it has ended, in the page's words.
+    pub fn end(&self, told: &Told) -> &'static str {
+        let outcomes = self.outcomes(told);
+        let has = |wanted| outcomes.iter().any(|&(_, it)| it == Some(wanted));
+        if has(Outcome::Commit) {
+            "committed"
+        } else if has(Outcome::Abort) {
+            "aborted"
+        } else if has(Outcome::Wait) {
+            "undecided"
+        } else {
+            "known nowhere"
+        }
+    }
+
     /// The shards that voted no on it, each with what it found.
     pub fn noes(&self, told: &Told) -> Vec<(u8, Vec<Finding>)> {
         let no = |shard: u8| {

@@ -111,7 +111,9 @@ impl Arrow {
     pub fn check(&self, sender: u8, receiver: u8, name: &str) {
         let Arrow { from, to, head } = *self;
         assert_eq!(from, middle(sender), "{name}");
-        assert!(lane(receiver).contains(&head), "{name}: head at {head}");
+        for end in [to, head] {
+            assert!(lane(receiver).contains(&end), "{name}: ends at {end}");
+        }
         let between = if sender < receiver {
             from..=head
         } else {

@@ -3,10 +3,10 @@
 //! than was written.
 
 /// What may stand outside of drawings.
-const HTML: &str = "html head title style body header footer main nav section article aside div \
-    p span a b i em strong small mark time sub sup abbr code kbd q br hr wbr h1 h2 h3 h4 h5 h6 ul ol li dl dt \
-    dd table caption colgroup col thead tbody tfoot tr th td figure figcaption details summary \
-    button label input select option template noscript script meta svg";
+const HTML: &str = "html head title style body header footer main nav section article aside div p \
+    span a b i em strong small mark time sub sup abbr code kbd q br hr wbr h1 h2 h3 h4 h5 h6 ul ol \
+    li dl dt dd table caption colgroup col thead tbody tfoot tr th td figure figcaption details \
+    summary button label input select option template noscript script meta svg";
 
 /// Those among them that have no end tag.
 const EMPTY: &str = "meta br hr wbr col input";
@@ -16,8 +16,8 @@ const SVG: &str = "svg g path rect circle ellipse line polyline polygon text tsp
     use symbol marker style a";
 
 /// What ends a paragraph wherever it comes.
-const BLOCKS: &str = "p div section article aside header footer main nav h1 h2 h3 h4 h5 h6 ul ol dl \
-    table figure details hr";
+const BLOCKS: &str = "p div section article aside header footer main nav h1 h2 h3 h4 h5 h6 ul ol \
+    dl table figure details hr";
 
 /// Elements that have their place right in one of some others.
 const HOMES: &[(&str, &str)] = &[
@@ -63,9 +63,9 @@ pub fn is_empty(name: &str, open: &[&str]) -> bool {
 }
 
 /// Whether what stands in the element is text to its end tag, whatever it is: so
-/// it is in a page, and not in a picture that stands alone.
+/// it is in a page, and not in a drawing.
 pub fn is_raw(name: &str, open: &[&str]) -> bool {
-    matches!(name, "script" | "style") && open.first() == Some(&"html") && !is_drawn(open)
+    matches!(name, "script" | "style") && !is_drawn(open)
 }
 
 /// Whether text may stand right in the element.

@@ -1,7 +1,7 @@
 //! Why a swap did not commit, by the reference: the reason beside its entry has
 //! to say that.
 
-use reference::{Finding, Input, Outcome, Refusal};
+use reference::{Finding, Input, Refusal};
 use weeks::{CAUSES, Tally};
 
 use crate::common::tree::Element;
@@ -20,20 +20,15 @@ const SPOILT: [&str; 4] = [
 /// how the swap has ended and what was found. The name is for messages.
 pub fn check_reason(row: &Element, ended: &Ended, told: &Told, name: &str, tally: &mut Tally) {
     let why = row.one("td.why");
-    let outcomes = ended.outcomes(told);
-    let outcomes = outcomes.iter().filter_map(|&(_, outcome)| outcome);
-    let outcomes: Vec<Outcome> = outcomes.collect();
     let name = format!("{name}: '{}'", why.text());
-    if outcomes.is_empty() {
-        check_refusals(why, told, &name);
-        tally.add("known nowhere");
-    } else if outcomes.contains(&Outcome::Abort) {
-        check_noes(why, ended, told, &name, tally);
-        tally.add("aborted");
-    } else {
-        check_missing(why, ended, told, &name);
-        tally.add("undecided");
+    let end = ended.end(told);
+    match end {
+        "aborted" => check_noes(why, ended, told, &name, tally),
+        "undecided" => check_missing(why, ended, told, &name),
+        "known nowhere" => check_refusals(why, told, &name),
+        _ => panic!("{name}, but it is {end}"),
     }
+    tally.add(end);
 }
 
 /// A paragraph for each pantry that said no, with every input there that was not
