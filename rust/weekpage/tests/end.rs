@@ -304,6 +304,26 @@ fn no(pantry: u8, tokens: &str) -> String {
     format!("Pantry {pantry} said no – {tokens}")
 }
 
+/// How the week went, above all.
+#[test]
+fn summaries() {
+    for (name, summary) in [
+        ("empty", "0 records. 0 swaps. TOTAL 0"),
+        ("example", "7 records. 1 swap: 1 committed. TOTAL 5"),
+        (
+            "brought",
+            "44 records, 8 of them refused. 8 swaps: 5 committed, 2 aborted, 1 undecided. TOTAL 20",
+        ),
+        (
+            "week",
+            "361 records, 10 of them refused. 62 swaps: 53 committed, 8 aborted, 1 known nowhere. \
+             TOTAL 267",
+        ),
+    ] {
+        assert_eq!(stored(name).one(".summary").text(), summary);
+    }
+}
+
 /// Two swaps want one token, and two swaps each get one of two.
 #[test]
 fn the_week_of_conflicts() {

@@ -254,6 +254,24 @@ fn check_picture(page: &Element, case: &Case) {
     assert!(there == here, "{name}: other marks than the page's");
 }
 
+/// Every mark is explained, but for the colour of a no.
+#[test]
+fn the_legend() {
+    let page = drawn("");
+    let entries = page.select(".legend li");
+    for entry in &entries {
+        assert!(!entry.one("svg").children.is_empty());
+        assert!(!entry.one("span").text().is_empty());
+    }
+    let explained = MET
+        .iter()
+        .filter(|mark| !mark.starts_with("vote") || mark.ends_with("yes"));
+    for mark in explained {
+        let path = format!(".legend .{}", mark.replace(' ', "."));
+        assert!(!page.select(&path).is_empty(), "{mark} is not explained");
+    }
+}
+
 /// The picture that the repository's README shows is the one that is made today.
 #[test]
 fn the_picture_in_the_documents() {
