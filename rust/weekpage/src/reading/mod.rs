@@ -10,7 +10,7 @@ use std::fmt::{self, Display, Formatter};
 use plankeeper::{Cluster, records};
 
 pub use end::Held;
-pub use rows::{Row, Subject};
+pub use rows::Row;
 pub use told::{At, End, Refused, Told};
 
 use told::Gathered;
@@ -47,7 +47,7 @@ impl Week {
     pub fn read(bytes: &[u8], listing: &str) -> Result<Self, Mismatch> {
         let mut cluster = Cluster::new();
         let mut gathered = Gathered::default();
-        let mut lines = (1..).zip(listing.lines());
+        let mut lines = listing.lines();
         let mut rows = Vec::new();
         for (step, read) in (1..).zip(records(bytes)) {
             let row = Row::played(&mut cluster, &mut gathered, step, read);
@@ -57,9 +57,7 @@ impl Week {
         let total = format!("TOTAL {}", cluster.total());
         let last = rows.len() + 1;
         same_line(last, lines.next(), Some(&total))?;
-        if let Some(more) = lines.next() {
-            same_line(more.0, Some(more), None)?;
-        }
+        same_line(last + 1, lines.next(), None)?;
         let shards = end::shards(&cluster);
         let told = gathered.ended(&cluster, &shards);
         Ok(Week {
@@ -92,13 +90,9 @@ impl Week {
     }
 }
 
-/// The listing's line of that number has to be the one that was played.
-fn same_line(
-    number: usize,
-    listed: Option<(usize, &str)>,
-    played: Option<&str>,
-) -> Result<(), Mismatch> {
-    let listed = listed.map(|(_, line)| line);
+/// The listing's line of that number has to be the one that was played; where the
+/// one ends the other has to end, too.
+fn same_line(number: usize, listed: Option<&str>, played: Option<&str>) -> Result<(), Mismatch> {
     if listed == played {
         return Ok(());
     }

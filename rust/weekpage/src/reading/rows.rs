@@ -1,6 +1,6 @@
 //! One record, what it was answered, and what it has decided.
 
-use plankeeper::{Answer, Cluster, Outcome, Record, Refusal, Transaction, Verdict};
+use plankeeper::{Answer, Cluster, Finding, Outcome, Record, Refusal, Transaction, Verdict};
 use why::{Found, found};
 
 use super::told::Gathered;
@@ -23,16 +23,16 @@ pub struct Row {
 
 /// The transaction that a record is about, and who is asked.
 #[derive(Clone, Copy)]
-pub struct Subject<'a> {
+pub(super) struct Subject<'a> {
     /// The shard that the record is for.
-    pub receiver: u8,
+    pub(super) receiver: u8,
     /// What it is to register, or what was voted on.
-    pub transaction: &'a Transaction,
+    pub(super) transaction: &'a Transaction,
 }
 
 impl<'a> Subject<'a> {
     /// The record's, if it has one.
-    pub fn of(record: &'a Record) -> Option<Self> {
+    fn of(record: &'a Record) -> Option<Self> {
         match record {
             Record::Register {
                 receiver,
@@ -117,6 +117,6 @@ fn spoilers(
 /// transaction that it knows.
 pub(super) fn unavailable(cluster: &Cluster, shard: u8, transaction: &Transaction) -> Vec<Found> {
     let mut found = found(cluster, shard, transaction).unwrap_or_default();
-    found.retain(|found| found.finding != plankeeper::Finding::Available);
+    found.retain(|found| found.finding != Finding::Available);
     found
 }
