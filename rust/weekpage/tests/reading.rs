@@ -6,7 +6,7 @@ mod by_hand;
 
 use by_hand::by_hand;
 use program::weeks;
-use weekpage::reading::{End, Told};
+use weekpage::reading::{End, History};
 use weekpage::{Mismatch, Week};
 
 /// Pantries 0 and 1 get a token each, pantry 0 one more.
@@ -133,7 +133,11 @@ fn many_swaps_of_one_number() {
         text += &format!("register s{household} at 0\n");
     }
     let week = read(&(text + "register s3 at 0\nregister s1 at 0\n"));
-    let names: Vec<&str> = week.told.iter().map(|told| told.name.as_str()).collect();
+    let names: Vec<&str> = week
+        .histories
+        .iter()
+        .map(|told| told.name.as_str())
+        .collect();
     assert_eq!(names.len(), 124);
     for (place, name) in NAMES {
         assert_eq!(names[place - 1], name);
@@ -141,13 +145,13 @@ fn many_swaps_of_one_number() {
     let about = |step: usize| week.rows[step - 1].about;
     assert_eq!((about(3), about(125)), (Some(2), Some(2)));
     assert_eq!((about(1), about(126)), (Some(0), Some(0)));
-    let refused = |told: &Told| -> Vec<(usize, u8)> {
+    let refused = |told: &History| -> Vec<(usize, u8)> {
         let refused = told.refused.iter();
         let refused = refused.map(|record| (record.step, record.refusal.number()));
         refused.collect()
     };
-    assert_eq!(refused(&week.told[0]), [(126, 8)]);
-    assert_eq!(refused(&week.told[2]), [(3, 7), (125, 7)]);
+    assert_eq!(refused(&week.histories[0]), [(126, 8)]);
+    assert_eq!(refused(&week.histories[2]), [(3, 7), (125, 7)]);
 }
 
 /// One number at separate pantries, for two swaps that both commit: each pantry
@@ -163,7 +167,11 @@ fn two_swaps_of_one_number() {
          give pantry 4 household 41 portions 1\n\
          register far at 4\nregister 7 at 0\nregister far at 0\n",
     );
-    let names: Vec<&str> = week.told.iter().map(|told| told.name.as_str()).collect();
+    let names: Vec<&str> = week
+        .histories
+        .iter()
+        .map(|told| told.name.as_str())
+        .collect();
     assert_eq!(names, ["7", "7 (2nd)"]);
     assert_eq!(week.known(4, 7), Some(0));
     assert_eq!(week.known(0, 7), Some(1));
@@ -171,7 +179,7 @@ fn two_swaps_of_one_number() {
     assert_eq!(week.known(0, 8), None);
     assert_eq!(week.committed(), [0, 1]);
     assert_eq!(week.ended(|end| end == End::Committed), [0, 1]);
-    let registered: Vec<_> = week.told.iter().map(|told| told.registered).collect();
+    let registered: Vec<_> = week.histories.iter().map(|told| told.registered).collect();
     assert_eq!(registered, [Some(3), Some(4)]);
     assert_eq!(week.rows[4].line, "5 0 REFUSED 6");
     assert_eq!(week.rows[4].about, Some(0));

@@ -4,7 +4,7 @@
 use super::markup::Markup;
 use super::reasons::{outcomes, reason};
 use super::tables::{holding, row_of, step, swap, swap_id, table, token};
-use crate::reading::{End, Told, Week};
+use crate::reading::{End, History, Week};
 
 /// The committed swaps, one after the other.
 pub(crate) fn committed(html: &mut Markup, week: &Week) {
@@ -34,16 +34,16 @@ pub(crate) fn committed(html: &mut Markup, week: &Week) {
         "Pantries",
     ];
     table(html, "swaps", &names, &places, |html, k, &place| {
-        let told = &week.told[place];
+        let history = &week.histories[place];
         entry(html, place, |html| {
             html.worded("td", &[("class", &"number")], k + 1);
             fields(html, week, place);
             html.element("td", &[], |html| {
-                if let Some(registered) = told.registered {
+                if let Some(registered) = history.registered {
                     step(html, registered);
                 }
             });
-            html.element("td", &[], |html| outcomes(html, told));
+            html.element("td", &[], |html| outcomes(html, history));
         });
     });
 }
@@ -65,11 +65,13 @@ pub(crate) fn others(html: &mut Markup, week: &Week) {
     );
     let names = ["Swap", "Takes", "Gives", "Pantries", "Why"];
     table(html, "swaps", &names, &places, |html, _, &place| {
-        let told = &week.told[place];
+        let history = &week.histories[place];
         entry(html, place, |html| {
             fields(html, week, place);
-            html.element("td", &[], |html| outcomes(html, told));
-            html.element("td", &[("class", &"why")], |html| reason(html, week, told));
+            html.element("td", &[], |html| outcomes(html, history));
+            html.element("td", &[("class", &"why")], |html| {
+                reason(html, week, history)
+            });
         });
     });
 }
@@ -82,7 +84,7 @@ fn entry(html: &mut Markup, place: usize, content: impl FnOnce(&mut Markup)) {
 
 /// Its name, what it takes and what it gives.
 fn fields(html: &mut Markup, week: &Week, place: usize) {
-    let Told { transaction, .. } = &week.told[place];
+    let History { transaction, .. } = &week.histories[place];
     html.element("th", &[("scope", &"row")], |html| {
         swap(html, week, Some(place))
     });

@@ -3,7 +3,7 @@
 use plankeeper::{Outcome, Verdict};
 
 use super::lanes::sized;
-use super::marks::{self, Way};
+use super::marks::{self, Delivery};
 use super::markup::Markup;
 
 /// A mark's picture is so wide.
@@ -50,16 +50,16 @@ const MARKS: [(&str, Draw); 12] = [
     (
         "vote, from the pantry that gave it to the one that hears it",
         |svg| {
-            arrow(svg, Way::Fresh);
+            arrow(svg, Delivery::Fresh);
         },
     ),
     ("vote that was heard before: nothing changes", |svg| {
-        arrow(svg, Way::Repeat)
+        arrow(svg, Delivery::Repeat)
     }),
     (
         "vote that brings its swap to a pantry that did not know it",
         |svg| {
-            arrow(svg, Way::Fresh);
+            arrow(svg, Delivery::Fresh);
             marks::parcel(svg, X);
         },
     ),
@@ -70,7 +70,7 @@ const MARKS: [(&str, Draw); 12] = [
         },
     ),
     (
-        "the pantry aborts: the swap takes and gives nothing",
+        "the pantry aborts: the swap takes and gives nothing, what is pledged to it stays so",
         |svg| {
             marks::decision(svg, X, Outcome::Abort);
         },
@@ -84,7 +84,7 @@ const MARKS: [(&str, Draw); 12] = [
     (
         "refused, with the number of the cause: nothing changes",
         |svg| {
-            marks::arrow(svg, Way::Refused, Verdict::Yes, 4, WIDTH - 26);
+            marks::arrow(svg, Delivery::Refused, Verdict::Yes, 4, WIDTH - 26);
             marks::refusal(svg, WIDTH - 13, 16);
         },
     ),
@@ -103,7 +103,7 @@ const MARKS: [(&str, Draw); 12] = [
     ),
 ];
 
-fn arrow(svg: &mut Markup, way: Way) {
+fn arrow(svg: &mut Markup, delivery: Delivery) {
     marks::label(svg, X, "swap 5: yes");
-    marks::arrow(svg, way, Verdict::Yes, 8, WIDTH - 8);
+    marks::arrow(svg, delivery, Verdict::Yes, 8, WIDTH - 8);
 }

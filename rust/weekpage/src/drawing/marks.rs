@@ -14,9 +14,9 @@ pub(crate) type Reach = (i32, i32);
 /// How far a decision reaches to either side.
 pub(crate) const DECISION: i32 = 10;
 
-/// A vote on its way.
+/// How a vote was delivered.
 #[derive(Clone, Copy, PartialEq, Eq)]
-pub(crate) enum Way {
+pub(crate) enum Delivery {
     /// Heard for the first time: a full line.
     Fresh,
     /// Heard again: a dashed one.
@@ -117,13 +117,13 @@ pub(crate) fn parcel(svg: &mut Markup, x: i32) {
 
 /// An arrow along the row's level, with its head at the end; a refused one ends
 /// with a bar.
-pub(crate) fn arrow(svg: &mut Markup, way: Way, verdict: Verdict, from: i32, to: i32) {
+pub(crate) fn arrow(svg: &mut Markup, delivery: Delivery, verdict: Verdict, from: i32, to: i32) {
     let side = (to - from).signum();
     let shaft = format!("M{from} {LEVEL}H{}", to - 5 * side);
-    svg.element("g", &[("class", &vote_class(way, verdict))], |svg| {
+    svg.element("g", &[("class", &vote_class(delivery, verdict))], |svg| {
         svg.empty("path", &[("class", &"shaft"), ("d", &shaft)]);
-        let head = match way {
-            Way::Refused => format!("M{} {}v12", to - 4 * side, LEVEL - 6),
+        let head = match delivery {
+            Delivery::Refused => format!("M{} {}v12", to - 4 * side, LEVEL - 6),
             _ => format!("M{to} {LEVEL}l{} -5v10z", -9 * side),
         };
         svg.empty("path", &[("class", &"head"), ("d", &head)]);
@@ -131,27 +131,27 @@ pub(crate) fn arrow(svg: &mut Markup, way: Way, verdict: Verdict, from: i32, to:
 }
 
 /// A vote of a shard to itself: an arrow that comes back to its lane.
-pub(crate) fn own(svg: &mut Markup, way: Way, verdict: Verdict, x: i32, to: i32) {
+pub(crate) fn own(svg: &mut Markup, delivery: Delivery, verdict: Verdict, x: i32, to: i32) {
     let (top, bottom) = (LEVEL - 2, LEVEL + 9);
     let shaft = format!("M{x} {bottom}h20q9 0 9 -6t-9 -5H{}", to + 5);
-    svg.element("g", &[("class", &vote_class(way, verdict))], |svg| {
+    svg.element("g", &[("class", &vote_class(delivery, verdict))], |svg| {
         svg.empty("path", &[("class", &"shaft"), ("d", &shaft)]);
-        let head = match way {
-            Way::Refused => format!("M{} {}v8", to + 4, top - 4),
+        let head = match delivery {
+            Delivery::Refused => format!("M{} {}v8", to + 4, top - 4),
             _ => format!("M{to} {top}l9 -5v10z"),
         };
         svg.empty("path", &[("class", &"head"), ("d", &head)]);
     });
 }
 
-fn vote_class(way: Way, verdict: Verdict) -> String {
-    let way = match way {
-        Way::Fresh => "fresh",
-        Way::Repeat => "repeat",
-        Way::Refused => "refused",
+fn vote_class(delivery: Delivery, verdict: Verdict) -> String {
+    let delivery = match delivery {
+        Delivery::Fresh => "fresh",
+        Delivery::Repeat => "repeat",
+        Delivery::Refused => "refused",
     };
     let verdict = vote(verdict);
-    format!("vote {way} {verdict}")
+    format!("vote {delivery} {verdict}")
 }
 
 /// A box with text, of this width.

@@ -11,7 +11,7 @@ pub(crate) fn summary(html: &mut Markup, week: &Week) {
     if refused > 0 {
         text += &format!(", {refused} of them refused");
     }
-    text += &format!(". {}", count(week.told.len(), "swap"));
+    text += &format!(". {}", count(week.histories.len(), "swap"));
     let ends = [End::Committed, End::Aborted, End::Undecided, End::Unknown];
     let ends = ends.map(|wanted| (week.ended(|end| end == wanted).len(), ended(wanted).1));
     let ends = ends.iter().filter(|(number, _)| *number > 0);
@@ -55,14 +55,14 @@ pub(crate) fn contents(html: &mut Markup) {
 /// All swaps by number, each with how it has ended.
 pub(crate) fn swaps(html: &mut Markup, week: &Week) {
     html.worded("h2", &[], "The swaps");
-    if week.told.is_empty() {
+    if week.histories.is_empty() {
         html.worded("p", &[], "There are none.");
     }
-    let mut places: Vec<usize> = (0..week.told.len()).collect();
-    places.sort_by_key(|&place| week.told[place].transaction.number());
+    let mut places: Vec<usize> = (0..week.histories.len()).collect();
+    places.sort_by_key(|&place| week.histories[place].transaction.number());
     html.element("ul", &[("class", &"swaps")], |html| {
         for place in places {
-            let (class, word) = ended(week.told[place].end());
+            let (class, word) = ended(week.histories[place].end());
             html.element("li", &[], |html| {
                 swap(html, week, Some(place));
                 html.text(" ");

@@ -69,8 +69,8 @@ const READING: [&str; 2] = [
     "Eight pantries hold tokens: prepaid portions, each token of one household. A token is named \
      by its pantry, the swap that made it (0 for an opening) and its position. A swap takes tokens \
      away at some pantries and makes new ones at others. Each of its pantries registers it, pledges \
-     the tokens that it takes there, and votes. It aborts with the first no, and commits once it \
-     has heard a yes from all of them.",
+     those of its tokens there that are available, and votes yes if all of them are. It aborts with \
+     the first no, and commits once it has heard a yes from every one.",
     "Time runs downward: each record of the week is a row. Each pantry has a lane, and what a \
      record does stands in the lane of the pantry that received it. Left of the lanes is the line \
      of the listing, right of them the same in words.",

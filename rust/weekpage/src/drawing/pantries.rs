@@ -5,30 +5,30 @@ use plankeeper::{Known, Token};
 use super::markup::Markup;
 use super::reasons::outcome_word;
 use super::tables::{count, link, portions, row_of, swap, table, token, vote};
-use crate::reading::{Held, Week};
+use crate::reading::{ShardState, Week};
 
 /// All pantries, and their portions together.
 pub(crate) fn pantries(html: &mut Markup, week: &Week) {
     let heading = "What the pantries hold and know";
     html.worded("h3", &[("id", &"pantries")], heading);
     html.element("div", &[("class", &"pantries")], |html| {
-        for (number, held) in (0..).zip(&week.shards) {
-            pantry(html, week, number, held);
+        for (shard, state) in (0..).zip(&week.shards) {
+            pantry(html, week, shard, state);
         }
     });
     html.element("p", &[("class", &"total")], |html| {
-        let all = week.shards.iter().map(|held| held.total).sum();
+        let all = week.shards.iter().map(|state| state.total).sum();
         let portions = portions(all);
         html.text(format_args!("All pantries together hold {portions}: "));
         html.worded("code", &[], &week.total);
     });
 }
 
-fn pantry(html: &mut Markup, week: &Week, shard: u8, held: &Held) {
-    let (id, Held { tokens, known, .. }) = (format!("pantry-{shard}"), held);
+fn pantry(html: &mut Markup, week: &Week, shard: u8, state: &ShardState) {
+    let (id, ShardState { tokens, known, .. }) = (format!("pantry-{shard}"), state);
     html.element("section", &[("class", &"pantry"), ("id", &id)], |html| {
         html.worded("h4", &[], format_args!("Pantry {shard}"));
-        html.element("p", &[], |html| summary(html, held));
+        html.element("p", &[], |html| summary(html, state));
         if !tokens.is_empty() {
             let names = ["Token", "Household", "Portions", "Pledged to"];
             table(html, "tokens", &names, tokens, |html, _, held| {
@@ -45,11 +45,11 @@ fn pantry(html: &mut Markup, week: &Week, shard: u8, held: &Held) {
     html.end_line();
 }
 
-fn summary(html: &mut Markup, held: &Held) {
-    let (portions, tokens) = (portions(held.total), count(held.tokens.len(), "token"));
-    let swaps = count(held.known.len(), "swap");
+fn summary(html: &mut Markup, state: &ShardState) {
+    let (portions, tokens) = (portions(state.total), count(state.tokens.len(), "token"));
+    let swaps = count(state.known.len(), "swap");
     html.text(format_args!("{portions} in {tokens}; {swaps} known"));
-    if held.turned {
+    if state.turned {
         html.text("; turned: an abort here frees its tokens");
     }
 }

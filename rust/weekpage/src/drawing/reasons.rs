@@ -4,23 +4,23 @@ use plankeeper::{Known, Outcome, Verdict};
 
 use super::markup::Markup;
 use super::tables::{listed, spoilers, step};
-use crate::reading::{At, End, Refused, Told, Week};
+use crate::reading::{AtShard, End, History, Refused, Week};
 
 /// The reason, in the pantries' own words: who said no and which token spoiled
 /// it, whose vote is missing, or why nobody knows it.
-pub(crate) fn reason(html: &mut Markup, week: &Week, told: &Told) {
-    match told.end() {
+pub(crate) fn reason(html: &mut Markup, week: &Week, history: &History) {
+    match history.end() {
         End::Committed => {}
-        End::Aborted => noes(html, week, told),
-        End::Undecided => missing(html, told),
-        End::Unknown => nowhere(html, told),
+        End::Aborted => noes(html, week, history),
+        End::Undecided => missing(html, history),
+        End::Unknown => nowhere(html, history),
     }
 }
 
 /// Every pantry that said no, and what it found.
-fn noes(html: &mut Markup, week: &Week, told: &Told) {
-    let no = |at: &&At| at.vote() == Some(Verdict::No);
-    for at in told.at.iter().filter(no) {
+fn noes(html: &mut Markup, week: &Week, history: &History) {
+    let no = |at: &&AtShard| at.vote() == Some(Verdict::No);
+    for at in history.at.iter().filter(no) {
         html.element("p", &[], |html| {
             html.text(format_args!("Pantry {} said no – ", at.shard));
             spoilers(html, week, &at.spoilers);
@@ -30,18 +30,21 @@ fn noes(html: &mut Markup, week: &Week, told: &Told) {
 
 /// Every pantry that waits, and whose votes it has not heard; every pantry that
 /// does not know it, and why.
-fn missing(html: &mut Markup, told: &Told) {
+fn missing(html: &mut Markup, history: &History) {
     html.worded("p", &[], "Undecided: no pantry said no.");
-    for at in &told.at {
+    for at in &history.at {
         let pantry = at.shard;
         html.element("p", &[], |html| match &at.known {
             Some(known) => {
-                let unheard = unheard(told, known);
+                let unheard = unheard(history, known);
                 html.text(format_args!("Pantry {pantry} has not heard {unheard}."));
             }
             None => {
                 html.text(format_args!("Pantry {pantry} does not know it."));
-                let here = told.refused.iter().filter(|record| record.shard == pantry);
+                let here = history
+                    .refused
+                    .iter()
+                    .filter(|record| record.shard == pantry);
                 refusals(html, here);
             }
         });
@@ -49,8 +52,8 @@ fn missing(html: &mut Markup, told: &Told) {
 }
 
 /// The votes that a pantry has not heard.
-fn unheard(told: &Told, known: &Known) -> String {
-    let senders = told.at.iter().map(|at| at.shard);
+fn unheard(history: &History, known: &Known) -> String {
+    let senders = history.at.iter().map(|at| at.shard);
     let unheard = senders.filter(|&sender| known.heard[usize::from(sender)].is_none());
     let unheard: Vec<String> = unheard.map(|sender| sender.to_string()).collect();
     let votes = match unheard.len() {
@@ -61,10 +64,10 @@ fn unheard(told: &Told, known: &Known) -> String {
 }
 
 /// A transaction that no pantry knows.
-fn nowhere(html: &mut Markup, told: &Told) {
+fn nowhere(html: &mut Markup, history: &History) {
     html.element("p", &[], |html| {
         html.text("No pantry knows it.");
-        refusals(html, told.refused.iter());
+        refusals(html, history.refused.iter());
     });
 }
 
@@ -93,8 +96,8 @@ fn refusals<'a>(html: &mut Markup, records: impl Iterator<Item = &'a Refused>) {
 }
 
 /// What its pantries have decided, one a line.
-pub(crate) fn outcomes(html: &mut Markup, told: &Told) {
-    for at in &told.at {
+pub(crate) fn outcomes(html: &mut Markup, history: &History) {
+    for at in &history.at {
         html.element("p", &[], |html| {
             html.text(format_args!("pantry {} ", at.shard));
             outcome_word(html, at.known.as_ref().map(|known| known.outcome));

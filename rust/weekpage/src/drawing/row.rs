@@ -5,7 +5,7 @@ use std::cmp::Ordering;
 use plankeeper::{Answer, Record, Refusal, Verdict};
 
 use super::lanes::{WIDTH, middle};
-use super::marks::{self, DECISION, Reach, Way};
+use super::marks::{self, DECISION, Delivery, Reach};
 use super::markup::Markup;
 use super::tables;
 use crate::reading::{Row, Week};
@@ -56,7 +56,7 @@ pub(crate) fn row(svg: &mut Markup, week: &Week, row: &Row) {
 
 /// The transaction's name.
 fn name<'a>(week: &'a Week, row: &Row) -> &'a str {
-    row.about.map_or("", |place| &week.told[place].name)
+    row.about.map_or("", |place| &week.histories[place].name)
 }
 
 fn opening(svg: &mut Markup, row: &Row, x: i32, amount: u32) {
@@ -92,22 +92,22 @@ fn end(svg: &mut Markup, row: &Row, x: i32) -> Reach {
 
 /// The arrow from the sender to what stands in the receiver's lane.
 fn vote(svg: &mut Markup, week: &Week, row: &Row, (sender, verdict): (u8, Verdict), reach: Reach) {
-    let way = match row.answer {
-        Err(_) => Way::Refused,
-        Ok(Answer::Again(_)) => Way::Repeat,
-        Ok(_) => Way::Fresh,
+    let delivery = match row.answer {
+        Err(_) => Delivery::Refused,
+        Ok(Answer::Again(_)) => Delivery::Repeat,
+        Ok(_) => Delivery::Fresh,
     };
     let receiver = row.record.as_ref().map_or(sender, Record::receiver);
     let (from, x) = (middle(sender), middle(receiver));
     let (left, right) = (x - reach.0 - 1, x + reach.1 + 1);
     let label = match sender.cmp(&receiver) {
         Ordering::Equal => {
-            marks::own(svg, way, verdict, x, right);
+            marks::own(svg, delivery, verdict, x, right);
             x
         }
         side => {
             let to = if side.is_lt() { left } else { right };
-            marks::arrow(svg, way, verdict, from, to);
+            marks::arrow(svg, delivery, verdict, from, to);
             (from + to) / 2
         }
     };

@@ -52,8 +52,8 @@ pub(crate) fn swap_id(place: usize) -> usize {
 
 /// A transaction by its name, to be chosen; it leads to its entry.
 pub(crate) fn swap(html: &mut Markup, week: &Week, place: Option<usize>) {
-    if let Some(told) = place.map(|place| &week.told[place]) {
-        link(html, place, &format!("swap {}", told.name));
+    if let Some(history) = place.map(|place| &week.histories[place]) {
+        link(html, place, &format!("swap {}", history.name));
     }
 }
 

@@ -5,7 +5,7 @@ use std::array;
 use plankeeper::{Cluster, Known, Token};
 
 /// What a shard holds and knows.
-pub struct Held {
+pub struct ShardState {
     /// The tokens, in the order in which they stand in its memory.
     pub tokens: Vec<Token>,
     /// The transactions, in the order of their registration.
@@ -17,10 +17,10 @@ pub struct Held {
 }
 
 /// Asks every shard.
-pub fn shards(cluster: &Cluster) -> [Held; 8] {
+pub fn shards(cluster: &Cluster) -> [ShardState; 8] {
     array::from_fn(|shard| {
         let shard = shard as u8;
-        Held {
+        ShardState {
             tokens: cluster.tokens(shard).collect(),
             known: cluster.transactions(shard).collect(),
             total: cluster.total_at(shard),

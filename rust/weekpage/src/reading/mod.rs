@@ -1,19 +1,19 @@
 //! What a page shows: the records one by one, and the end of the week.
 
 mod end;
+mod history;
 mod rows;
-mod told;
 
 use std::collections::HashMap;
 use std::fmt::{self, Display, Formatter};
 
 use plankeeper::{Cluster, records};
 
-pub use end::Held;
+pub use end::ShardState;
+pub use history::{AtShard, End, History, Refused};
 pub use rows::Row;
-pub use told::{At, End, Refused, Told};
 
-use told::Gathered;
+use history::Gathered;
 
 /// A week as it was played.
 pub struct Week {
@@ -21,9 +21,9 @@ pub struct Week {
     pub rows: Vec<Row>,
     /// Every transaction that a record of the week has named, in the order in
     /// which they first came. Others refer to one by its place here.
-    pub told: Vec<Told>,
+    pub histories: Vec<History>,
     /// What each shard holds and knows at the end.
-    pub shards: [Held; 8],
+    pub shards: [ShardState; 8],
     /// The listing's last line.
     pub total: String,
     /// The places of the transactions that shards know, by shard and number.
@@ -59,11 +59,11 @@ impl Week {
         same_line(last, lines.next(), Some(&total))?;
         same_line(last + 1, lines.next(), None)?;
         let shards = end::shards(&cluster);
-        let told = gathered.ended(&cluster, &shards);
+        let histories = gathered.ended(&cluster, &shards);
         Ok(Week {
             rows,
-            known: told::numbered(&told),
-            told,
+            known: history::numbered(&histories),
+            histories,
             shards,
             total,
         })
@@ -78,14 +78,14 @@ impl Week {
     /// registration.
     pub fn committed(&self) -> Vec<usize> {
         let mut places = self.ended(|end| end == End::Committed);
-        places.sort_by_key(|&place| self.told[place].registered);
+        places.sort_by_key(|&place| self.histories[place].registered);
         places
     }
 
     /// The places of the transactions that have ended so.
     pub fn ended(&self, wanted: impl Fn(End) -> bool) -> Vec<usize> {
-        let places = 0..self.told.len();
-        let places = places.filter(|&place| wanted(self.told[place].end()));
+        let places = 0..self.histories.len();
+        let places = places.filter(|&place| wanted(self.histories[place].end()));
         places.collect()
     }
 }

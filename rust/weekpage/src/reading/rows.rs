@@ -3,7 +3,7 @@
 use plankeeper::{Answer, Cluster, Finding, Outcome, Record, Refusal, Transaction, Verdict};
 use why::{Found, found};
 
-use super::told::Gathered;
+use super::history::Gathered;
 
 /// A record of the week.
 pub struct Row {

@@ -1,15 +1,15 @@
-//! The transactions of a week, and how each has ended.
+//! The transactions of a week, and what became of each.
 
 use std::collections::HashMap;
 
 use plankeeper::{Answer, Cluster, Known, Outcome, Refusal, Transaction, Verdict};
 use why::Found;
 
-use super::end::Held;
+use super::end::ShardState;
 use super::rows::{Subject, unavailable};
 
-/// A transaction that a record of the week has named.
-pub struct Told {
+/// What became of a transaction that a record of the week has named.
+pub struct History {
     /// It.
     pub transaction: Transaction,
     /// Its number, and which one of that number it is where it is not the first:
@@ -20,7 +20,7 @@ pub struct Told {
     /// The records about it that were refused, in their order.
     pub refused: Vec<Refused>,
     /// What each of its shards, in their order, knows of it at the end.
-    pub at: Vec<At>,
+    pub at: Vec<AtShard>,
 }
 
 /// A record that was refused.
@@ -34,7 +34,7 @@ pub struct Refused {
 }
 
 /// What a shard knows of a transaction at the end.
-pub struct At {
+pub struct AtShard {
     /// The shard.
     pub shard: u8,
     /// The votes heard there and the outcome, where it knows the transaction.
@@ -56,7 +56,7 @@ pub enum End {
     Unknown,
 }
 
-impl Told {
+impl History {
     /// How it has ended.
     pub fn end(&self) -> End {
         let mut outcomes = self.outcomes().peekable();
@@ -78,11 +78,11 @@ impl Told {
     }
 }
 
-impl At {
+impl AtShard {
     /// What the shard, which knows these transactions, knows of this one.
     fn new(cluster: &Cluster, shard: u8, known: &[Known], transaction: &Transaction) -> Self {
         let known = known.iter().find(|known| known.transaction == *transaction);
-        let mut at = At {
+        let mut at = AtShard {
             shard,
             known: known.copied(),
             spoilers: Vec::new(),
@@ -103,7 +103,7 @@ impl At {
 /// The transactions named so far.
 #[derive(Default)]
 pub(super) struct Gathered {
-    told: Vec<Told>,
+    histories: Vec<History>,
     places: HashMap<Transaction, usize>,
     /// How many there are of a number.
     numbered: HashMap<u32, usize>,
@@ -118,11 +118,13 @@ impl Gathered {
         answer: Result<Answer, Refusal>,
     ) -> usize {
         let place = self.place(subject.transaction);
-        let told = &mut self.told[place];
+        let history = &mut self.histories[place];
         match answer {
-            Ok(Answer::Registered { .. } | Answer::Brought { .. }) => told.registered = Some(step),
+            Ok(Answer::Registered { .. } | Answer::Brought { .. }) => {
+                history.registered = Some(step)
+            }
             Ok(_) => {}
-            Err(refusal) => told.refused.push(Refused {
+            Err(refusal) => history.refused.push(Refused {
                 step,
                 shard: subject.receiver,
                 refusal,
@@ -136,37 +138,37 @@ impl Gathered {
             let number = transaction.number();
             let count = self.numbered.entry(number).or_default();
             *count += 1;
-            self.told.push(Told {
+            self.histories.push(History {
                 transaction: *transaction,
                 name: name(number, *count),
                 registered: None,
                 refused: Vec::new(),
                 at: Vec::new(),
             });
-            self.told.len() - 1
+            self.histories.len() - 1
         })
     }
 
     /// All of them, with what the shards know at the end.
-    pub(super) fn ended(self, cluster: &Cluster, shards: &[Held; 8]) -> Vec<Told> {
-        let mut told = self.told;
-        for told in &mut told {
-            let transaction = &told.transaction;
+    pub(super) fn ended(self, cluster: &Cluster, shards: &[ShardState; 8]) -> Vec<History> {
+        let mut histories = self.histories;
+        for history in &mut histories {
+            let transaction = &history.transaction;
             let at = shards_of(transaction).map(|shard| {
                 let known = &shards[usize::from(shard)].known;
-                At::new(cluster, shard, known, transaction)
+                AtShard::new(cluster, shard, known, transaction)
             });
-            told.at = at.collect();
+            history.at = at.collect();
         }
-        told
+        histories
     }
 }
 
 /// The places of the transactions that shards know, by shard and number.
-pub(super) fn numbered(told: &[Told]) -> HashMap<(u8, u32), usize> {
-    let known = told.iter().enumerate().flat_map(|(place, told)| {
-        let known = told.at.iter().filter(|at| at.known.is_some());
-        known.map(move |at| ((at.shard, told.transaction.number()), place))
+pub(super) fn numbered(histories: &[History]) -> HashMap<(u8, u32), usize> {
+    let known = histories.iter().enumerate().flat_map(|(place, history)| {
+        let known = history.at.iter().filter(|at| at.known.is_some());
+        known.map(move |at| ((at.shard, history.transaction.number()), place))
     });
     known.collect()
 }
