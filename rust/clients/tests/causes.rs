@@ -54,3 +54,30 @@ fn every_sentence_in_c() {
     });
     assert_eq!(table, Vec::from_iter(expected));
 }
+
+/// The rules' table of refusals is the header's, row by row: number, givers,
+/// sentence.
+#[test]
+fn every_row_in_the_rules() {
+    let rules = fs::read_to_string(root().join("docs/PROTOCOL.md")).expect("it can be read");
+    let rows = rules.lines().filter_map(|line| {
+        let cells: Vec<&str> = line.split('|').map(str::trim).collect();
+        let [_, number, givers, sentence, place, _] = cells[..] else {
+            return None;
+        };
+        let number: usize = number.parse().ok()?;
+        assert!(
+            place.contains(".antt"),
+            "{number} has no place in the definitions"
+        );
+        Some((
+            number,
+            givers.trim_matches('`').to_owned(),
+            sentence.to_owned(),
+        ))
+    });
+    let header = fs::read_to_string(root().join("include/plankeeper.h")).expect("it can be read");
+    let causes = Header::parse(&header).causes.into_iter();
+    let causes = causes.map(|cause| (cause.number, cause.givers, cause.sentence));
+    assert_eq!(Vec::from_iter(rows), Vec::from_iter(causes));
+}

@@ -47,7 +47,7 @@ fn built_and_run(command: &str, source: &str) -> String {
 #[test]
 fn the_program_in_the_readme() {
     let readme = text("README.md");
-    let section = between(&readme, "## In your own program", "## ");
+    let section = between(&readme, "## The engineer: in your own program", "## ");
     let source = between(section, "```c", "```").to_owned() + "\n";
     let console = between(section, "```console", "```");
     let commands = console.lines().filter_map(|line| line.strip_prefix("$ "));
