@@ -57,7 +57,7 @@ fn words_of(file: &str) -> Vec<String> {
 }
 
 fn rules() -> Page {
-    let rules = pages(&root())
+    let rules = pages(root())
         .into_iter()
         .find(|page| page.name == "docs/PROTOCOL.md");
     rules.expect("there is a page of rules")
