@@ -20,17 +20,20 @@
 //! bytes 01 ff
 //! ```
 //!
-//! Every byte sequence has a text, and [`records`] of [`text`] gives the same
-//! bytes.
+//! Every byte sequence has a text, and [`records`] of [`text()`] gives the same
+//! bytes. [`entries`] has the records one by one, as the listing counts them.
 
 #![forbid(unsafe_code)]
 #![warn(missing_docs)]
 
+mod entries;
 mod error;
+mod lines;
 mod parse;
 mod show;
 mod words;
 
+pub use entries::{Carried, Entry, entries, entries_of_text};
 pub use error::Error;
 pub use parse::records;
 pub use show::text;

@@ -11,11 +11,47 @@ const FIRST_WORDS: &str = "opening, swap, take, give, counts, register, vote, tu
 
 /// The records of a week's text, one behind the other; or the first error.
 pub fn records(text: &[u8]) -> Result<Vec<u8>, Error> {
-    let mut week = Week::default();
-    for (number, line) in (1..).zip(utf8(text)?.lines()) {
-        week.line(&mut Words::new(number, line))?;
+    Ok(parsed(text)?.bytes)
+}
+
+/// What a text stands for.
+pub(crate) struct Parsed {
+    /// The records, one behind the other.
+    pub(crate) bytes: Vec<u8>,
+    /// Where they are written.
+    pub(crate) starts: Starts,
+}
+
+/// The lines that have given bytes, in their order: each with the place of its
+/// first byte among all of them.
+#[derive(Default)]
+pub(crate) struct Starts(Vec<(usize, usize)>);
+
+impl Starts {
+    /// The line, from 1, that has given the byte at this place; nothing where no
+    /// line is known.
+    pub(crate) fn line(&self, place: usize) -> Option<usize> {
+        let behind = self.0.partition_point(|&(first, _)| first <= place);
+        let (_, line) = self.0[..behind].last()?;
+        Some(*line)
     }
-    Ok(week.bytes)
+}
+
+/// The records and their lines; or the first error.
+pub(crate) fn parsed(text: &[u8]) -> Result<Parsed, Error> {
+    let mut week = Week::default();
+    let mut starts = Starts::default();
+    for (number, line) in (1..).zip(utf8(text)?.lines()) {
+        let first = week.bytes.len();
+        week.line(&mut Words::new(number, line))?;
+        if week.bytes.len() > first {
+            starts.0.push((first, number));
+        }
+    }
+    Ok(Parsed {
+        bytes: week.bytes,
+        starts,
+    })
 }
 
 fn utf8(text: &[u8]) -> Result<&str, Error> {

@@ -1,15 +1,10 @@
 //! From the records to the text.
 
-use std::collections::HashMap;
-use std::fmt::{self, Write};
-
 use reference::{
-    Input, MINT_LENGTH, Output, REGISTER_LENGTH, Record, SLOTS, TURN_LENGTH, Transaction,
-    VOTE_LENGTH, decode, rest,
+    MINT_LENGTH, REGISTER_LENGTH, Record, TURN_LENGTH, Transaction, VOTE_LENGTH, decode, rest,
 };
 
-/// Bytes on a line of them.
-const BYTES: usize = 16;
+use crate::lines::{BYTES, Fields, Labels, carried, raw};
 
 /// The text of these bytes: a line for each record, and each swap's fields in
 /// front of its first. From an unknown kind or a cut record on, all bytes are
@@ -17,81 +12,55 @@ const BYTES: usize = 16;
 pub fn text(mut bytes: &[u8]) -> String {
     let mut week = Week::default();
     while let Some(record) = decode(bytes) {
-        week.record(&record).expect(GROWS);
+        week.record(&record);
         bytes = rest(bytes);
     }
-    week.strange(bytes).expect(GROWS);
+    week.strange(bytes);
     week.text
 }
-
-const GROWS: &str = "a string takes every text";
 
 #[derive(Default)]
 struct Week {
     text: String,
-    labels: HashMap<Transaction, String>,
-    /// How many different swaps have this number.
-    numbers: HashMap<u32, usize>,
+    labels: Labels,
 }
 
 impl Week {
-    fn record(&mut self, record: &Record) -> fmt::Result {
-        match *record {
-            Record::Mint {
-                receiver,
-                index,
-                owner,
-                amount,
-            } => writeln!(
-                self.text,
-                "opening pantry {receiver} position {index} household {owner} portions {amount}"
-            ),
-            Record::Register {
-                receiver,
-                ref transaction,
-            } => {
-                let label = self.label(transaction)?;
-                writeln!(self.text, "register {label} at {receiver}")
-            }
-            Record::Vote {
-                receiver,
-                sender,
-                verdict,
-                ref transaction,
-            } => {
-                let label = self.label(transaction)?;
-                match verdict {
-                    1 => write!(self.text, "vote yes")?,
-                    0 => write!(self.text, "vote no")?,
-                    other => write!(self.text, "vote {other}")?,
-                }
-                writeln!(self.text, " on {label} from {sender} to {receiver}")
-            }
-            Record::Turn { receiver } => writeln!(self.text, "turn pantry {receiver}"),
+    /// A record's line; its swap's fields stand where it is met first.
+    fn record(&mut self, record: &Record) {
+        if let Some(transaction) = carried(record).filter(|swap| !self.labels.knows(swap)) {
+            self.swap(transaction);
         }
+        let line = self.labels.record(record);
+        self.line(&line);
     }
 
-    /// The swap's label; its fields are shown where it is met first.
-    fn label(&mut self, transaction: &Transaction) -> Result<String, fmt::Error> {
-        if let Some(label) = self.labels.get(transaction) {
-            return Ok(label.clone());
-        }
+    /// The swap with its label and its fields.
+    fn swap(&mut self, transaction: &Transaction) {
         self.gap();
         let number = transaction.number;
-        let same = self.numbers.entry(number).or_default();
-        *same += 1;
-        let label = if *same == 1 {
-            writeln!(self.text, "swap {number}")?;
-            number.to_string()
+        let label = self.labels.label(transaction);
+        let named = if label == number.to_string() {
+            format!("swap {number}")
         } else {
-            let label = format!("{number}-{same}");
-            writeln!(self.text, "swap {number} as {label}")?;
-            label
+            format!("swap {number} as {label}")
         };
-        self.labels.insert(*transaction, label.clone());
-        self.fields(transaction)?;
+        self.line(&named);
+        let Fields {
+            counts,
+            takes,
+            gives,
+        } = Fields::of(transaction);
+        for field in counts.iter().chain(&takes).chain(&gives) {
+            self.text += "  ";
+            self.line(field);
+        }
         self.text.push('\n');
-        Ok(label)
+    }
+
+    fn line(&mut self, line: &str) {
+        self.text += line;
+        self.text.push('\n');
     }
 
     /// A blank line, unless one is there.
@@ -101,81 +70,23 @@ impl Week {
         }
     }
 
-    fn fields(&mut self, transaction: &Transaction) -> fmt::Result {
-        let takes = shown(&transaction.inputs, transaction.input_count);
-        let gives = shown(&transaction.outputs, transaction.output_count);
-        let lines = (takes.len(), gives.len());
-        let counts = (transaction.input_count, transaction.output_count);
-        if lines != (counts.0.into(), counts.1.into()) {
-            writeln!(
-                self.text,
-                "  counts inputs {} outputs {}",
-                counts.0, counts.1
-            )?;
-        }
-        takes.iter().try_for_each(|input| self.take(input))?;
-        gives.iter().try_for_each(|output| self.give(output))
-    }
-
-    fn take(&mut self, input: &Input) -> fmt::Result {
-        let token = input.token;
-        write!(self.text, "  take pantry {} ", token.shard)?;
-        match token.creator {
-            0 => write!(self.text, "opening {}", token.index)?,
-            creator => write!(self.text, "swap {creator} position {}", token.index)?,
-        }
-        let Input { owner, amount, .. } = input;
-        writeln!(self.text, " household {owner} portions {amount}")
-    }
-
-    fn give(&mut self, output: &Output) -> fmt::Result {
-        let Output {
-            shard,
-            owner,
-            amount,
-        } = output;
-        writeln!(
-            self.text,
-            "  give pantry {shard} household {owner} portions {amount}"
-        )
-    }
-
     /// Bytes at the end that are no whole record.
-    fn strange(&mut self, bytes: &[u8]) -> fmt::Result {
+    fn strange(&mut self, bytes: &[u8]) {
         let Some(&kind) = bytes.first() else {
-            return Ok(());
+            return;
         };
         self.gap();
-        match length(kind) {
-            Some(whole) => writeln!(
-                self.text,
-                "# a record of kind {kind}, cut: {} of {whole} bytes",
-                bytes.len()
-            )?,
-            None => writeln!(self.text, "# kind {kind} is unknown")?,
-        }
-        for part in bytes.chunks(BYTES) {
-            write!(self.text, "bytes")?;
-            for byte in part {
-                write!(self.text, " {byte:02x}")?;
+        let remark = match length(kind) {
+            Some(whole) => {
+                let there = bytes.len();
+                format!("# a record of kind {kind}, cut: {there} of {whole} bytes")
             }
-            writeln!(self.text)?;
+            None => format!("# kind {kind} is unknown"),
+        };
+        self.line(&remark);
+        for part in bytes.chunks(BYTES) {
+            self.line(&raw(part));
         }
-        Ok(())
-    }
-}
-
-/// The slots that need a line: those that count, and unused ones up to the last
-/// that is not all zero.
-fn shown<T: Default + PartialEq>(slots: &[T; SLOTS], count: u8) -> &[T] {
-    let zero = T::default();
-    let last = slots.iter().rposition(|slot| *slot != zero);
-    let filled = last.map_or(0, |place| place + 1);
-    let counted = usize::from(count);
-    if counted <= SLOTS {
-        &slots[..filled.max(counted)]
-    } else {
-        &slots[..filled]
     }
 }
 

@@ -1,7 +1,7 @@
 //! Pieces that the page's tables and sentences are made of.
 
+use ask::Found;
 use plankeeper::{Finding, TokenId, Verdict};
-use why::Found;
 
 use super::markup::{Attributes, Markup};
 use crate::reading::Week;
@@ -99,7 +99,7 @@ pub(crate) fn spoiler(html: &mut Markup, week: &Week, found: &Found) {
     html.text("token ");
     token(html, id);
     html.text(format_args!(", {holding}: "));
-    let words = why::words(&found.finding);
+    let words = ask::words(&found.finding);
     match found.finding {
         Finding::Pledged(number) => link(html, week.known(id.shard, number), &words),
         _ => html.text(words),

@@ -2,8 +2,8 @@
 
 use std::collections::HashMap;
 
+use ask::Found;
 use plankeeper::{Answer, Cluster, Known, Outcome, Refusal, Transaction, Verdict};
-use why::Found;
 
 use super::end::ShardState;
 use super::rows::{Subject, unavailable};

@@ -1,7 +1,7 @@
 //! One record, what it was answered, and what it has decided.
 
+use ask::{Found, found};
 use plankeeper::{Answer, Cluster, Finding, Outcome, Record, Refusal, Transaction, Verdict};
-use why::{Found, found};
 
 use super::history::Gathered;
 

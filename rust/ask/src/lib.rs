@@ -8,8 +8,11 @@
 #![forbid(unsafe_code)]
 #![warn(missing_docs)]
 
+mod cause;
+
 use std::fmt::{self, Display, Formatter};
 
+pub use cause::cause;
 use plankeeper::{Cluster, Finding, Input, Known, Refusal, Transaction, Verdict, records};
 
 /// What is asked: a pantry, and a swap's number.

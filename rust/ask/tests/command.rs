@@ -1,4 +1,4 @@
-//! The command `why`, and `./list` as far as it builds nothing: arguments,
+//! The command `ask`, and `./list` as far as it builds nothing: arguments,
 //! messages, exit status.
 
 use std::fs;
@@ -8,7 +8,7 @@ use std::process::{Command, Output, Stdio};
 use program::{fed, full_device, root};
 
 fn started(arguments: &[&str], stdout: Stdio) -> std::process::Child {
-    let mut command = Command::new(env!("CARGO_BIN_EXE_why"));
+    let mut command = Command::new(env!("CARGO_BIN_EXE_ask"));
     command.args(arguments).stdout(stdout);
     command.stdin(Stdio::piped()).stderr(Stdio::piped());
     command.spawn().expect("the command starts")
@@ -60,7 +60,7 @@ fn refused_questions() {
         ("0", "0", "there is no swap 0: swap numbers are not 0"),
     ] {
         let output = run(&[pantry, swap], &week());
-        let message = format!("why: {sentence}\n");
+        let message = format!("ask: {sentence}\n");
         assert_eq!(told(&output), (Some(1), "", message.as_str()));
     }
 }
@@ -70,7 +70,7 @@ fn a_file_that_is_not_there() {
     let output = run(&["0", "8", "no-such.records"], b"");
     let (status, text, message) = told(&output);
     assert_eq!((status, text), (Some(1), ""));
-    assert!(message.starts_with("why: no-such.records: "), "{message}");
+    assert!(message.starts_with("ask: no-such.records: "), "{message}");
 }
 
 #[test]
@@ -79,7 +79,7 @@ fn help_and_bad_usage() {
         let output = run(&[help], b"");
         let (status, text, message) = told(&output);
         assert_eq!((status, message), (Some(0), ""));
-        assert!(text.starts_with("usage: why PANTRY SWAP [FILE]\n"));
+        assert!(text.starts_with("usage: ask PANTRY SWAP [FILE]\n"));
     }
     for arguments in [
         &[][..],
@@ -103,7 +103,7 @@ fn an_output_that_fails() {
     let output = fed(started(&["0", "8"], full_device().into()), &week());
     let (status, _, message) = told(&output);
     assert_eq!(status, Some(1));
-    assert!(message.starts_with("why: standard output: "), "{message}");
+    assert!(message.starts_with("ask: standard output: "), "{message}");
     let mut closed = started(&["0", "8"], Stdio::piped());
     drop(closed.stdout.take());
     assert_eq!(told(&fed(closed, &week())), (Some(0), "", ""));

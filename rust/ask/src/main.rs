@@ -1,15 +1,15 @@
-//! `why`: which token spoiled a swap.
+//! `ask`: which token spoiled a swap.
 
 #![forbid(unsafe_code)]
 
 use std::ffi::OsString;
 use std::process::ExitCode;
 
+use ask::{Question, played, report};
 use command::{Failure, contents, is_help, print};
-use why::{Question, played, report};
 
 const HELP: &str = "\
-usage: why PANTRY SWAP [FILE]
+usage: ask PANTRY SWAP [FILE]
 
 Plays a week's records, from FILE or from standard input where none is named,
 and prints what the pantry found of each input there when it registered the
@@ -21,7 +21,7 @@ read or written; 2 bad usage.
 ";
 
 fn main() -> ExitCode {
-    command::main("why", HELP, run)
+    command::main("ask", HELP, run)
 }
 
 fn run(arguments: &[OsString]) -> Result<(), Failure> {

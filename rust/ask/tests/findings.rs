@@ -1,9 +1,9 @@
 //! What the pantries tell of weeks, by hand from documents 01 and 02.
 
+use ask::{Question, Refused, played, report};
 use plankeeper::Cluster;
 use program::{root, weeks};
 use reference::{Finding, LIMITS};
-use why::{Question, Refused, played, report};
 
 fn week(text: &str) -> Cluster {
     played(&weektext::records(text.as_bytes()).expect("the week has no error"))
