@@ -1,13 +1,12 @@
-//! The command `ask`, and `./list` as far as it builds nothing: arguments,
-//! messages, exit status.
+//! The command `ask`: arguments, messages, exit status.
 
 use std::fs;
 use std::path::PathBuf;
-use std::process::{Command, Output, Stdio};
+use std::process::{Child, Command, Output, Stdio};
 
-use program::{fed, full_device, root};
+use program::{fed, full_device};
 
-fn started(arguments: &[&str], stdout: Stdio) -> std::process::Child {
+fn started(arguments: &[&str], stdout: Stdio) -> Child {
     let mut command = Command::new(env!("CARGO_BIN_EXE_ask"));
     command.args(arguments).stdout(stdout);
     command.stdin(Stdio::piped()).stderr(Stdio::piped());
@@ -26,51 +25,111 @@ fn told(output: &Output) -> (Option<i32>, &str, &str) {
     (output.status.code(), text, message)
 }
 
-/// Pantry 0 votes no on swap 8, which takes a token that nobody has given.
-fn week() -> Vec<u8> {
-    let text = "swap 8\n  take pantry 0 opening 3 household 9 portions 4\n  \
-                give pantry 1 household 9 portions 4\nregister 8 at 0\n";
-    weektext::records(text.as_bytes()).expect("the week has no error")
-}
+/// Pantry 0 votes no on swap 8, which takes a token that nobody has given. Swap 9
+/// is refused.
+const WEEK: &str = "\
+swap 8
+  take pantry 0 opening 3 household 9 portions 4
+  give pantry 1 household 9 portions 4
+register 8 at 0
+swap 9
+  take pantry 0 opening 3 household 9 portions 4
+  give pantry 1 household 9 portions 3
+register 9 at 0
+";
 
 const TEXT: &str = "swap 8 at pantry 0, voted NO, outcome ABORT\n\
     input 1, token (pantry 0, making swap 0, position 3), household 9, 4 portions: not held\n";
 
-#[test]
-fn from_a_pipe_and_from_a_file() {
-    let file = PathBuf::from(env!("CARGO_TARGET_TMPDIR")).join("why.records");
-    fs::write(&file, week()).expect("the file can be written");
-    let file = file.to_str().expect("the path is UTF-8");
-    assert_eq!(told(&run(&["0", "8"], &week())), (Some(0), TEXT, ""));
-    assert_eq!(told(&run(&["0", "8", file], b"")), (Some(0), TEXT, ""));
-    assert_eq!(told(&run(&["00", "08", file], b"")), (Some(0), TEXT, ""));
+/// A file of the tests' own.
+fn stored(name: &str, contents: &[u8]) -> String {
+    let file = PathBuf::from(env!("CARGO_TARGET_TMPDIR")).join(name);
+    fs::write(&file, contents).expect("the file can be written");
+    file.into_os_string()
+        .into_string()
+        .expect("the path is UTF-8")
+}
+
+/// The week as records.
+fn records() -> Vec<u8> {
+    weektext::records(WEEK.as_bytes()).expect("the week has no error")
 }
 
 #[test]
+fn from_a_pipe_and_from_files() {
+    let text = stored("ask.txt", WEEK.as_bytes());
+    let records = stored("ask.records", &records());
+    let output = run(&["-", "why", "0", "8"], WEEK.as_bytes());
+    assert_eq!(told(&output), (Some(0), TEXT, ""));
+    for file in [&text, &records] {
+        for (pantry, swap) in [("0", "8"), ("00", "08")] {
+            let output = run(&[file, "why", pantry, swap], b"");
+            assert_eq!(told(&output), (Some(0), TEXT, ""), "{file}");
+        }
+    }
+}
+
+/// There is nothing to tell: the sentences, and the records that were refused.
+#[test]
 fn refused_questions() {
-    for (pantry, swap, sentence) in [
-        ("1", "8", "pantry 1 knows no swap 8"),
-        ("0", "7", "pantry 0 knows no swap 7"),
-        ("8", "8", "there is no pantry 8: pantries are 0 to 7"),
+    let sums = "refused, 5: the portions taken and given have different sums";
+    let (file, records) = (
+        stored("refused.txt", WEEK.as_bytes()),
+        stored("refused.records", &records()),
+    );
+    for (week, pantry, swap, sentence) in [
+        (&file, "1", "8", "pantry 1 knows no swap 8".into()),
+        (&file, "0", "7", "pantry 0 knows no swap 7".to_owned()),
         (
+            &file,
+            "0",
+            "9",
+            format!("pantry 0 knows no swap 9\nline 8, register 9 at 0: {sums}"),
+        ),
+        (
+            &records,
+            "0",
+            "9",
+            format!("pantry 0 knows no swap 9\nstep 2, register 9 at 0: {sums}"),
+        ),
+        (
+            &file,
+            "8",
+            "8",
+            "there is no pantry 8: pantries are 0 to 7".into(),
+        ),
+        (
+            &file,
             "4294967295",
             "8",
-            "there is no pantry 4294967295: pantries are 0 to 7",
+            "there is no pantry 4294967295: pantries are 0 to 7".into(),
         ),
-        ("0", "0", "there is no swap 0: swap numbers are not 0"),
+        (
+            &file,
+            "0",
+            "0",
+            "there is no swap 0: swap numbers are not 0".into(),
+        ),
     ] {
-        let output = run(&[pantry, swap], &week());
+        let output = run(&[week, "why", pantry, swap], b"");
         let message = format!("ask: {sentence}\n");
         assert_eq!(told(&output), (Some(1), "", message.as_str()));
     }
 }
 
 #[test]
-fn a_file_that_is_not_there() {
-    let output = run(&["0", "8", "no-such.records"], b"");
+fn weeks_that_cannot_be_read() {
+    let output = run(&["no-such.txt", "why", "0", "8"], b"");
     let (status, text, message) = told(&output);
     assert_eq!((status, text), (Some(1), ""));
-    assert!(message.starts_with("ask: no-such.records: "), "{message}");
+    assert!(message.starts_with("ask: no-such.txt: "), "{message}");
+    let wrong = stored("wrong.txt", b"turn pantry 0\nturn 1\n");
+    let error = "line 2: pantry: expected the word 'pantry', found '1'";
+    for (week, name) in [(&*wrong, &*wrong), ("-", "standard input")] {
+        let output = run(&[week, "why", "0", "8"], b"turn pantry 0\nturn 1\n");
+        let message = format!("ask: {name}: {error}\n");
+        assert_eq!(told(&output), (Some(1), "", message.as_str()));
+    }
 }
 
 #[test]
@@ -79,17 +138,24 @@ fn help_and_bad_usage() {
         let output = run(&[help], b"");
         let (status, text, message) = told(&output);
         assert_eq!((status, message), (Some(0), ""));
-        assert!(text.starts_with("usage: ask PANTRY SWAP [FILE]\n"));
+        assert!(text.starts_with("usage: ask WEEK QUESTION\n"));
     }
     for arguments in [
         &[][..],
-        &["0"],
-        &["0", "x"],
-        &["-1", "8"],
-        &["+1", "8"],
-        &["", "8"],
-        &["0", "4294967296"],
-        &["0", "8", "a", "b"],
+        &["-"],
+        &["-", "what"],
+        &["-", "why"],
+        &["-", "why", "0"],
+        &["-", "why", "0", "x"],
+        &["-", "why", "-1", "8"],
+        &["-", "why", "+1", "8"],
+        &["-", "why", "", "8"],
+        &["-", "why", "0", "4294967296"],
+        &["-", "why", "0", "8", "9"],
+        &["", "why", "0", "8"],
+        &["--why", "0", "8"],
+        &["--text", "why", "0", "8"],
+        &["--help", "why"],
     ] {
         let output = run(arguments, b"");
         let (status, text, message) = told(&output);
@@ -100,51 +166,12 @@ fn help_and_bad_usage() {
 
 #[test]
 fn an_output_that_fails() {
-    let output = fed(started(&["0", "8"], full_device().into()), &week());
+    let question = ["-", "why", "0", "8"];
+    let output = fed(started(&question, full_device().into()), WEEK.as_bytes());
     let (status, _, message) = told(&output);
     assert_eq!(status, Some(1));
     assert!(message.starts_with("ask: standard output: "), "{message}");
-    let mut closed = started(&["0", "8"], Stdio::piped());
+    let mut closed = started(&question, Stdio::piped());
     drop(closed.stdout.take());
-    assert_eq!(told(&fed(closed, &week())), (Some(0), "", ""));
-}
-
-/// `./list` with these arguments, which has nothing to build for them.
-fn list(arguments: &[&str]) -> Output {
-    let mut command = Command::new(root().join("list"));
-    let output = command.args(arguments).stdin(Stdio::null()).output();
-    output.expect("the script starts")
-}
-
-#[test]
-fn help_and_bad_usage_of_list() {
-    let output = list(&["--help"]);
-    let (status, text, message) = told(&output);
-    assert_eq!((status, message), (Some(0), ""));
-    assert!(text.starts_with("usage: ./list [WEEK] [--why PANTRY SWAP]\n"));
-    for arguments in [
-        &["--why"][..],
-        &["--why", "1"],
-        &["--why", "1", "x"],
-        &["--why", "-1", "2"],
-        &["--why", "1", "4294967296"],
-        &["--why", "1", "2", "--why", "1", "2"],
-        &["one.txt", "two.txt"],
-        &["--what"],
-        &[""],
-        &["--help", "one.txt"],
-    ] {
-        let output = list(arguments);
-        let (status, text, message) = told(&output);
-        assert_eq!((status, text), (Some(2), ""), "{arguments:?}");
-        assert!(message.starts_with("usage: "), "{arguments:?}: {message}");
-    }
-    for arguments in [
-        &["no-such.txt", "--why", "1", "2"][..],
-        &["--why", "1", "2", "no-such.txt"],
-    ] {
-        let output = list(arguments);
-        let message = "list: 'no-such.txt' is not there or cannot be read\n";
-        assert_eq!(told(&output), (Some(1), "", message));
-    }
+    assert_eq!(told(&fed(closed, WEEK.as_bytes())), (Some(0), "", ""));
 }

@@ -6,7 +6,7 @@ use std::path::PathBuf;
 
 use program::{CHUNKS, Week, assert_same, input, list, root, week_files, weeks};
 use reference::listing;
-use weektext::{records, text};
+use weektext::{entries, entries_of_text, records, text};
 
 #[test]
 fn every_week() {
@@ -63,5 +63,27 @@ fn random_and_damaged_inputs_come_back_as_text() {
         let bytes = input(case, false).bytes;
         let again = records(text(&bytes).as_bytes());
         assert!(again.as_ref() == Ok(&bytes), "input {case}");
+    }
+}
+
+/// Likewise: the entries are as many as the listing has lines for records, and
+/// each stands on its line of the text.
+#[test]
+fn random_and_damaged_inputs_one_by_one() {
+    for case in 0..2_000 {
+        let bytes = input(case, false).bytes;
+        let listing = listing(&bytes);
+        let lines = listing.iter().filter(|&&byte| byte == b'\n').count();
+        let text = text(&bytes);
+        let found = entries_of_text(text.as_bytes()).expect("the text has no error");
+        assert_eq!(found.len(), lines - 1, "input {case}");
+        let text: Vec<&str> = text.lines().collect();
+        for (mut entry, of_records) in found.into_iter().zip(entries(&bytes)) {
+            let line = entry.line.take().expect("it came as text");
+            let (line, told) = (text[line - 1], &entry.text);
+            // More bytes than a line has are counted.
+            assert!(line == told || told.starts_with(&format!("{line} and ")));
+            assert_eq!(entry, of_records, "input {case}");
+        }
     }
 }
