@@ -7,6 +7,9 @@ use reference::{Input, Output, Record, SLOTS, TokenId, Transaction, encode};
 use crate::Error;
 use crate::words::{Words, decimal};
 
+/// What some editors put in front of a text.
+const BYTE_ORDER_MARK: &[u8] = b"\xef\xbb\xbf";
+
 const FIRST_WORDS: &str = "opening, swap, take, give, counts, register, vote, turn or bytes";
 
 /// The records of a week's text, one behind the other; or the first error.
@@ -54,7 +57,9 @@ pub(crate) fn parsed(text: &[u8]) -> Result<Parsed, Error> {
     })
 }
 
+/// The text, without a byte order mark at its front.
 fn utf8(text: &[u8]) -> Result<&str, Error> {
+    let text = text.strip_prefix(BYTE_ORDER_MARK).unwrap_or(text);
     str::from_utf8(text).map_err(|error| {
         let (before, behind) = text.split_at(error.valid_up_to());
         let line = 1 + before.iter().filter(|&&byte| byte == b'\n').count();

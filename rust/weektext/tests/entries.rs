@@ -93,7 +93,7 @@ fn unlabelled(line: &str) -> (String, Option<&str>) {
 
 /// The number of the swap that the text defines by this label.
 fn number_of(text: &str, label: &str) -> u32 {
-    let numbers = text.lines().filter_map(|line| {
+    let mut numbers = text.lines().filter_map(|line| {
         let words = words(line);
         let words: Vec<&str> = words.split(' ').collect();
         match words[..] {
@@ -102,7 +102,7 @@ fn number_of(text: &str, label: &str) -> u32 {
             _ => None,
         }
     });
-    numbers.last().expect("the label is defined")
+    numbers.next().expect("the label is defined")
 }
 
 const SWAP: &str = "\
@@ -263,6 +263,14 @@ fn a_damaged_record() {
     };
     assert!(cut.text.ends_with(" and 83 more"), "{}", cut.text);
     assert_eq!(cut.swap, None);
+}
+
+/// A byte order mark at the front has no line of its own.
+#[test]
+fn a_byte_order_mark() {
+    let week = "\u{feff}turn pantry 1\nturn pantry 2\n";
+    let expected = [(1, "turn pantry 1"), (2, "turn pantry 2")];
+    assert_eq!(told(&of_text(week)), expected);
 }
 
 #[test]

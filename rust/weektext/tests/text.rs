@@ -384,6 +384,40 @@ fn text_that_is_none() {
     assert_eq!(error.line(), 2);
 }
 
+/// Some editors put one in front of a text. Anywhere else it is a word's part.
+#[test]
+fn a_byte_order_mark() {
+    assert_eq!(bytes(&format!("\u{feff}{EXAMPLE}")), week());
+    assert_eq!(bytes("\u{feff}"), []);
+    assert_eq!(bytes("\u{feff}\n# nothing\n"), []);
+    assert_eq!(bytes("# \u{feff}\nturn pantry 1"), [4, 1]);
+    for (week, message) in [
+        (
+            "\u{feff}\u{feff}turn pantry 1",
+            "line 1: first word: expected opening, swap, take, give, counts, register, vote, turn \
+             or bytes, found '\\u{feff}turn'",
+        ),
+        (
+            "turn pantry 1\n\u{feff}turn pantry 2",
+            "line 2: first word: expected opening, swap, take, give, counts, register, vote, turn \
+             or bytes, found '\\u{feff}turn'",
+        ),
+        (
+            "\u{feff}turn pantry\u{feff} 1",
+            "line 1: pantry: expected the word 'pantry', found 'pantry\\u{feff}'",
+        ),
+    ] {
+        let error = records(week.as_bytes()).expect_err(week);
+        assert_eq!(error.to_string(), message);
+    }
+    // Not a whole one, and that of UTF-16.
+    for (week, byte) in [(&b"\xef\xbbturn"[..], "ef"), (b"\xff\xfet\0", "ff")] {
+        let error = records(week).expect_err("no UTF-8");
+        let message = format!("line 1: text: expected UTF-8, found the byte {byte}");
+        assert_eq!(error.to_string(), message);
+    }
+}
+
 /// The bytes come back.
 fn comes_back(bytes: &[u8]) {
     let text = text(bytes);

@@ -15,8 +15,9 @@ week: weeks of records as text
   week text [FILE]      writes the text of a week's records
   week --help           writes this
 
-Reads FILE, or standard input where no file is named. A text has one record a
-line; # begins a comment.
+Reads FILE, or standard input where no file is named. A text is UTF-8, with or
+without a byte order mark at its front. It has one record a line; # begins a
+comment.
 
   opening pantry 0 position 0 household 10 portions 3
 
