@@ -10,13 +10,14 @@ fn main() {
     println!("cargo::rerun-if-changed=build.rs");
     // Named even while it is missing, so that cargo looks again once it is built.
     println!("cargo::rerun-if-changed={}", archive.display());
-    if archive.is_file() {
-        println!("cargo::rustc-link-search=native={}", folder.display());
-        println!("cargo::rustc-link-lib=static=probes");
-    } else {
+    println!("cargo::rustc-link-search=native={}", folder.display());
+    println!("cargo::rustc-link-lib=static=probes");
+    // Documentation and checks need none. Where they are to be linked, the
+    // compiler stops, and cargo shows this beside it.
+    if !archive.is_file() {
         println!(
-            "cargo::error=the probes of the proved engine are not built: {} is missing; \
-             run `rt staticlib probes` in the repository's root first",
+            "cargo::warning=the probes of the proved engine are not built: {} is missing; run `rt \
+             staticlib probes` in the repository's root first",
             archive.display()
         );
     }

@@ -11,13 +11,15 @@ fn main() {
     let archive = folder.join("libengine.a");
     // Named even while it is missing, so that cargo looks again once it is built.
     println!("cargo::rerun-if-changed={}", archive.display());
-    if archive.is_file() {
-        println!("cargo::rustc-link-search=native={}", folder.display());
-        println!("cargo::rustc-link-lib=static=engine");
-    } else {
+    println!("cargo::rustc-link-search=native={}", folder.display());
+    println!("cargo::rustc-link-lib=static=engine");
+    // Documentation and checks need no library. Where it is to be linked, the
+    // compiler stops, and cargo shows this beside it.
+    if !archive.is_file() {
         println!(
-            "cargo::error=the proved engine is not built: {} is missing; run `rt staticlib engine` \
-             in the repository's root first, or name the folder that has it in PLANKEEPER_LIB",
+            "cargo::warning=the proved engine is not built: {} is missing; run `rt staticlib \
+             engine` in the repository's root first, or name the folder that has it in \
+             PLANKEEPER_LIB",
             archive.display()
         );
     }

@@ -87,6 +87,8 @@
 //! crate is part of; `rt staticlib engine` in the repository's root makes it.
 //! Elsewhere the environment variable `PLANKEEPER_LIB` names the folder that it
 //! stands in. It is linked into the program, which needs nothing else to run.
+//! While it is missing, cargo says so: `cargo doc` and `cargo check` pass, a build
+//! stops.
 //!
 //! # Panics
 //!
