@@ -63,14 +63,14 @@ impl Page {
         })
     }
 
-    /// The paragraphs outside of blocks of code, tables and lists, each with the
-    /// number of its first line.
+    /// The paragraphs and items of lists outside of blocks of code and tables, each
+    /// with the number of its first line.
     pub fn paragraphs(&self) -> Vec<(usize, String)> {
         let mut paragraphs: Vec<(usize, String)> = Vec::new();
         let mut goes_on = false;
         for (number, line, code) in self.lines() {
             let other = code || line.is_empty() || line.starts_with(['|', '#']);
-            let item = line.trim_start().starts_with("- ");
+            let item = is_item(line.trim_start());
             match paragraphs.last_mut() {
                 _ if other => {}
                 Some((_, text)) if goes_on && !item => *text = format!("{text} {line}"),
@@ -80,4 +80,10 @@ impl Page {
         }
         paragraphs
     }
+}
+
+/// Whether an item of a list begins so: `- ` or `12. `.
+fn is_item(text: &str) -> bool {
+    let digits = text.trim_start_matches(|letter: char| letter.is_ascii_digit());
+    text.starts_with("- ") || digits.len() < text.len() && digits.starts_with(". ")
 }

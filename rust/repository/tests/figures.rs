@@ -63,6 +63,21 @@ fn the_version_of_rust() {
     says("rust/README.md", "(Rust # or later)", &version);
 }
 
+/// What the header says of the memory's words.
+#[test]
+fn words_of_a_shard_and_of_a_cluster() {
+    let header = fs::read_to_string(root().join("include/plankeeper.h")).expect("it can be read");
+    let number = |name: &str| {
+        let mut lines = header.lines();
+        let found = lines.find_map(|line| line.strip_prefix(&format!("#define {name} ")));
+        let found = found.expect("the header has it");
+        written(found.parse().expect("it is a number"))
+    };
+    let shard = number("PLANKEEPER_SHARD_WORDS");
+    let words = format!("{shard} words of 32 bits for a shard, # for a cluster");
+    says("rust/README.md", &words, number("PLANKEEPER_WORDS"));
+}
+
 /// A figure with three digits and with four.
 #[test]
 fn figures_as_people_write_them() {

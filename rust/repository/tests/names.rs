@@ -17,25 +17,43 @@ const FOLDERS: [&str; 10] = [
     "edits/",
     "tools/",
     ".ci/",
-    "target/",
+    "../",
 ];
 
-/// Stands for any number, any crate, any file.
+/// Whether it stands for any number, any crate, any file, or for what is built.
 fn is_open(place: &str) -> bool {
-    ["*", "NN", "NAME", "CRATE", ".."]
-        .iter()
-        .any(|part| place.contains(part))
+    let place = place.trim_start_matches("../");
+    let open = ["*", "NN", "NAME", "CRATE", "..", "target/"];
+    open.iter().any(|part| place.contains(part))
+}
+
+/// Names that are in no source: the checker makes them.
+const CHECKERS: [&str; 1] = ["Code"];
+
+/// Whether it stands for any name, or is the checker's.
+fn is_any(name: &str) -> bool {
+    name.contains("NAME") || name.ends_with("-N") || CHECKERS.contains(&name)
+}
+
+/// Whether it is a commit of the repository.
+fn is_commit(text: &str) -> bool {
+    text.len() == 7
+        && text
+            .bytes()
+            .all(|byte| matches!(byte, b'0'..=b'9' | b'a'..=b'f'))
 }
 
 /// Whether it is a name, or names that lead from one to the next.
 fn is_name(text: &str) -> bool {
-    parts(text).all(|part| {
-        let mut letters = part.chars();
-        letters
-            .next()
-            .is_some_and(|first| first.is_ascii_alphabetic())
-            && letters.all(|letter| letter.is_ascii_alphanumeric() || matches!(letter, '_' | '-'))
-    })
+    !is_commit(text)
+        && parts(text).all(|part| {
+            let mut letters = part.chars();
+            letters
+                .next()
+                .is_some_and(|first| first.is_ascii_alphabetic())
+                && letters
+                    .all(|letter| letter.is_ascii_alphanumeric() || matches!(letter, '_' | '-'))
+        })
 }
 
 /// `shard::turning`, `Demand3.agreement`, `model/proofs/Votes`.
@@ -69,8 +87,7 @@ fn places_are_there() {
     for page in pages(root).iter().filter(|page| !page.is_history()) {
         for (line, word) in words_of(page) {
             let place = FOLDERS.iter().any(|folder| word.starts_with(folder));
-            let built = word.starts_with("target/") || word.contains("/target/");
-            if place && !built && !is_open(word) && !is_there(root, page, word) {
+            if place && !is_open(word) && !is_there(root, page, word) {
                 wrong.push(format!("{}:{line}: {word}", page.name));
             }
         }
@@ -104,11 +121,26 @@ fn names_are_in_the_sources() {
     let mut wrong = Vec::new();
     for page in pages(root).iter().filter(|page| !page.is_history()) {
         for span in page.spans().filter(|span| is_name(span.text)) {
-            let missing = parts(span.text).find(|part| !sources.have(part));
+            let missing = parts(span.text).find(|part| !sources.have(part) && !is_any(part));
             if let Some(missing) = missing {
                 wrong.push(format!("{}:{}: {missing}", page.name, span.line));
             }
         }
     }
     assert!(wrong.is_empty(), "{}", wrong.join("\n"));
+}
+
+/// Every week has its place in the table of weeks, and none that is not there.
+#[test]
+fn every_week_is_told_of() {
+    let page = std::fs::read_to_string(root().join("weeks/README.md")).expect("it can be read");
+    let rows = page.lines().filter(|line| line.starts_with("| `"));
+    let firsts = rows.filter_map(|line| line.split('|').nth(1));
+    let mut told: Vec<&str> = firsts
+        .flat_map(|cell| cell.split('`').skip(1).step_by(2))
+        .collect();
+    told.sort();
+    let stored = program::weeks();
+    let stored: Vec<&str> = stored.iter().map(|week| week.name.as_str()).collect();
+    assert_eq!(told, stored);
 }
