@@ -4,8 +4,8 @@
 //!
 //! [`reading`] gathers what is shown and decides nothing: the lines are the
 //! proved listing program's, and the tokens, votes, outcomes and findings are
-//! what the proved library answers through the interface for planners.
-//! [`drawing`] makes the page of it.
+//! what the proved library answers through the interface for planners; only
+//! what a refused record says is its text. [`drawing`] makes the page of it.
 //!
 //! The people of the trade look at it, so the page speaks document 01's words
 //! (pantry, swap, household, portions); the code speaks of shards,

@@ -11,10 +11,12 @@ use std::process::{Child, Command, Output, Stdio};
 use by_hand::by_hand;
 use program::full_device;
 use weekpage::{Week, page, picture};
+use weektext::{entries, entries_of_text};
 
+/// Its last record is refused.
 const WEEK: &str = "opening pantry 0 position 3 household 9 portions 4\n\
     swap 8\n  take pantry 0 opening 3 household 9 portions 4\n  \
-    give pantry 1 household 9 portions 4\nregister 8 at 0\n";
+    give pantry 1 household 9 portions 4\nregister 8 at 0\nregister 8 at 9\n";
 
 /// The command with these arguments.
 fn command(arguments: &[&str]) -> Command {
@@ -53,7 +55,8 @@ fn files(test: &str) -> [String; 2] {
 #[test]
 fn a_page_and_a_picture() {
     let (bytes, listing) = by_hand(WEEK);
-    let week = Week::read(&bytes, &listing).expect("they are of one week");
+    let week = Week::read(&bytes, &listing, entries(&bytes));
+    let week = week.expect("they are of one week");
     let [records, listing] = files("page");
     for name in ["one", "a < b & c", "früh", ""] {
         let output = run(&[name, &records, &listing]);
@@ -63,6 +66,46 @@ fn a_page_and_a_picture() {
     let output = run(&["--picture", &records, &listing]);
     let expected = picture(&week);
     assert_eq!(told(&output), (Some(0), expected.as_str(), ""));
+}
+
+/// With the text that the records were made of, lines are told.
+#[test]
+fn a_page_with_lines() {
+    let (bytes, listing) = by_hand(WEEK);
+    let written = entries_of_text(WEEK.as_bytes()).expect("the text has no error");
+    let week = Week::read(&bytes, &listing, written).expect("they are of one week");
+    let [records, listing] = files("lines");
+    let text = file("lines.txt", WEEK);
+    let output = run(&["one", &records, &listing, &text]);
+    let expected = page("one", &week);
+    assert_eq!(told(&output), (Some(0), expected.as_str(), ""));
+    let lined = "line 6: <span class=\"own\">";
+    assert!(expected.contains(lined));
+    let output = run(&["one", &records, &listing]);
+    let (status, without, message) = told(&output);
+    assert_eq!((status, message), (Some(0), ""));
+    assert!(!without.contains("line 6"));
+}
+
+/// A text of other records, and one with an error.
+#[test]
+fn a_text_of_another_week() {
+    let [records, listing] = files("text");
+    let message = "weekpage: record 2 of the text is not that of the records: they are not of \
+        one week\n";
+    let text = file("another.txt", WEEK.replace("household 9", "household 7"));
+    let output = run(&["one", &records, &listing, &text]);
+    let first = message.replace("record 2", "record 1");
+    assert_eq!(told(&output), (Some(1), "", first.as_str()));
+    let text = file("another.txt", WEEK.replace("register 8 at 0", ""));
+    let output = run(&["one", &records, &listing, &text]);
+    assert_eq!(told(&output), (Some(1), "", message));
+    let text = file("wrong.txt", "turn pantry 0\nturn\n");
+    let output = run(&["one", &records, &listing, &text]);
+    let message = format!(
+        "weekpage: {text}: line 2: pantry: expected the word 'pantry', found the end of the line\n"
+    );
+    assert_eq!(told(&output), (Some(1), "", message.as_str()));
 }
 
 #[test]
@@ -81,7 +124,7 @@ fn help_and_bad_usage() {
         let output = run(&[help]);
         let (status, text, message) = told(&output);
         assert_eq!((status, message), (Some(0), ""));
-        assert!(text.starts_with("usage: weekpage NAME RECORDS LISTING\n"));
+        assert!(text.starts_with("usage: weekpage NAME RECORDS LISTING [TEXT]\n"));
     }
     let [records, listing] = files("usage");
     let (records, listing) = (records.as_str(), listing.as_str());
@@ -91,8 +134,9 @@ fn help_and_bad_usage() {
         &["one", records],
         &["--picture"],
         &["--picture", records],
-        &["one", records, listing, "two"],
+        &["one", records, listing, "two", "three"],
         &["--picture", "one", records, listing],
+        &["--picture", records, listing, "one"],
         &["--what", records, listing],
         &["-", records, listing],
         &["--help", records, listing],
@@ -109,10 +153,11 @@ fn files_that_are_not_there() {
     let [records, listing] = files("missing");
     for first in ["one", "--picture"] {
         for arguments in [
-            [first, "no-such.file", &listing],
-            [first, &records, "no-such.file"],
+            &[first, "no-such.file", &listing][..],
+            &[first, &records, "no-such.file"],
+            &["one", &records, &listing, "no-such.file"],
         ] {
-            let output = run(&arguments);
+            let output = run(arguments);
             let (status, text, message) = told(&output);
             assert_eq!((status, text), (Some(1), ""), "{arguments:?}");
             let front = "weekpage: no-such.file: ";
@@ -124,7 +169,8 @@ fn files_that_are_not_there() {
 #[test]
 fn a_listing_of_another_week() {
     let [records, _] = files("other");
-    let listing = file("other-week.listing", "1 0 OPENED\n2 0 NO ABORT\nTOTAL 4\n");
+    let listing = "1 0 OPENED\n2 0 NO ABORT\n3 - REFUSED 3\nTOTAL 4\n";
+    let listing = file("other-week.listing", listing);
     let message = "weekpage: line 2 of the listing is '2 0 NO ABORT', and the records give \
         '2 0 YES WAIT': they are not of one week\n";
     for first in ["one", "--picture"] {

@@ -3,6 +3,8 @@
 
 #[path = "common/by_hand.rs"]
 mod by_hand;
+#[path = "common/carried.rs"]
+mod carried;
 mod common;
 #[path = "common/drawn.rs"]
 mod drawn;
@@ -19,23 +21,30 @@ mod stored;
 
 use std::collections::{BTreeSet, HashMap};
 
-use common::cases::{cases, tree};
+use carried::carried;
+use common::cases::{Case, cases, tree};
 use common::tree::Element;
 use drawn::drawn;
 use ended::{Ended, Told};
-use entries::{numbers, paragraphs, rows_behind, steps};
-use reasons::{check_reason, token_name};
-use reference::{Known, Outcome, Shard, Token, Verdict};
+use entries::{paragraphs, rows_behind, steps};
+use reasons::{check_reason, numbers, token_name};
+use reference::{Known, Outcome, Shard, Token, Transaction, Verdict};
 use stored::stored;
 use weeks::Tally;
+use weektext::Carried;
 
 /// What has to be met among all ends.
-const MET: [&str; 13] = [
+const MET: [&str; 18] = [
     "token",
     "pledged token",
     "turned pantry",
+    "pantry without anything",
     "known swap",
     "second of its number",
+    "not read, 3",
+    "not read, 4",
+    "not read, 5",
+    "read or not",
     "committed",
     "aborted",
     "undecided",
@@ -51,9 +60,9 @@ fn every_end() {
     let mut tally = Tally::default();
     for case in cases() {
         let page = tree(&case.name, &case.page());
-        Beside::new(&case.name, &page, Ended::of(&case.bytes)).check(&mut tally);
+        Beside::new(&case, &page).check(&mut tally);
     }
-    tally.report("ends of weeks", &MET, 50);
+    tally.report("ends of weeks", &MET, 20);
 }
 
 /// A page beside what it has to show.
@@ -61,13 +70,21 @@ struct Beside<'a> {
     case: &'a str,
     page: &'a Element,
     ended: Ended,
+    /// The swaps' lines in the words of a week's text.
+    carried: HashMap<Transaction, Carried>,
     /// The page's keys of the swaps by name, from their entries.
     keys: HashMap<String, &'a str>,
 }
 
 impl<'a> Beside<'a> {
-    /// Every swap that a record names has one entry.
-    fn new(case: &'a str, page: &'a Element, ended: Ended) -> Self {
+    /// Every swap that a record carries has one entry.
+    fn new(case: &'a Case, page: &'a Element) -> Self {
+        let (ended, written) = (Ended::of(case), case.written());
+        let swaps = written.into_iter().map(|entry| entry.swap);
+        let swaps = carried(&case.bytes).into_iter().zip(swaps);
+        let swaps = swaps.filter_map(|(transaction, swap)| transaction.zip(swap));
+        let carried = swaps.collect();
+        let case = case.name.as_str();
         let rows = ["committed", "others"].map(|id| rows_behind(page, id));
         let rows = rows.concat();
         let names: BTreeSet<String> = rows.iter().map(|row| row.one("th").text()).collect();
@@ -83,13 +100,17 @@ impl<'a> Beside<'a> {
             page,
             keys: keys.collect(),
             ended,
+            carried,
         }
     }
 
     fn check(&self, tally: &mut Tally) {
-        for shard in self.ended.cluster.shards() {
-            self.check_pantry(shard, tally);
-        }
+        let shards = self.ended.cluster.shards().iter();
+        let (blank, others): (Vec<_>, Vec<_>) = shards.partition(|shard| is_blank(shard));
+        others
+            .iter()
+            .for_each(|shard| self.check_pantry(shard, tally));
+        self.check_blank(&blank, tally);
         let total = format!("TOTAL {}", self.ended.cluster.total());
         assert_eq!(self.page.one("table.lanes tfoot code").text(), total);
         let mut codes = self.page.select("#end code").into_iter();
@@ -108,6 +129,33 @@ impl<'a> Beside<'a> {
         let told = told.into_iter();
         let told = told.map(|told| format!("{} {}", told.name, self.ended.end(told)));
         assert_eq!(items, Vec::from_iter(told), "{}", self.case);
+    }
+
+    /// The pantries without anything, in one line; each has its place there, and no
+    /// section of its own.
+    fn check_blank(&self, blank: &[&Shard], tally: &mut Tally) {
+        let all: Vec<String> = blank
+            .iter()
+            .map(|shard| shard.number().to_string())
+            .collect();
+        let sentence = match &all[..] {
+            [] => None,
+            [one] => Some(format!("Pantry {one} holds nothing and knows no swap.")),
+            [front @ .., last] => Some(format!(
+                "Pantries {} and {last} hold nothing and know no swap.",
+                front.join(", ")
+            )),
+        };
+        let told = self.page.select("p.empty").into_iter();
+        let told: Vec<String> = told.map(Element::text).collect();
+        assert_eq!(told, Vec::from_iter(sentence), "{}", self.case);
+        for number in &all {
+            let place = self.page.one(&format!("p.empty span#pantry-{number}"));
+            assert_eq!(place.text(), *number, "{}", self.case);
+            tally.add("pantry without anything");
+        }
+        let sections = self.page.select("section.pantry").len();
+        assert_eq!(sections + all.len(), 8, "{}", self.case);
     }
 
     /// What the pantry holds, in any order, and knows, in the order of
@@ -141,7 +189,7 @@ impl<'a> Beside<'a> {
             let mut known = shard.known().iter();
             let known = known.find(|known| known.transaction.number == number);
             let known = known.expect("the pantry knows what a token is pledged to");
-            (format!("swap {number}"), self.key(known))
+            (self.told(known).name.clone(), self.key(known))
         });
         let (pledge, key) = pledge.unzip();
         let cells = vec![
@@ -216,28 +264,63 @@ impl<'a> Beside<'a> {
 
     /// What the swap takes and gives, and what each of its pantries has decided.
     fn check_entry(&self, row: &Element, told: &Told, tally: &mut Tally) {
-        let transaction = &told.transaction;
-        let takes = transaction.used_inputs().iter().map(|input| {
-            let held = holding(input.owner, input.amount);
-            format!("{}: {held}", token_name(input))
-        });
-        let gives = transaction.used_outputs().iter().map(|output| {
-            let held = holding(output.owner, output.amount);
-            format!("pantry {}: {held}", output.shard)
-        });
         let outcomes = self.ended.outcomes(told).into_iter();
         let outcomes = outcomes.map(|(shard, outcome)| format!("pantry {shard} {}", word(outcome)));
-        let mut expected: Vec<String> = takes.chain(gives).chain(outcomes).collect();
+        let mut expected = match told.is_read {
+            true => read_fields(&told.transaction),
+            false => unread_fields(&self.carried[&told.transaction]),
+        };
+        expected.extend(outcomes);
         // The reason is checked apart.
         let cells = row.elements().filter(|cell| !cell.has_class("why"));
         let mut shown: Vec<String> = cells.flat_map(paragraphs).collect();
         expected.sort();
         shown.sort();
         assert_eq!(shown, expected, "{}, {}", self.case, told.name);
-        if told.name.ends_with("(2nd)") {
-            tally.add("second of its number");
+        count_entry(told, tally);
+    }
+}
+
+/// What a swap that was read takes and gives.
+fn read_fields(transaction: &Transaction) -> Vec<String> {
+    let takes = transaction.used_inputs().iter().map(|input| {
+        let held = holding(input.owner, input.amount);
+        format!("{}: {held}", token_name(input))
+    });
+    let gives = transaction.used_outputs().iter().map(|output| {
+        let held = holding(output.owner, output.amount);
+        format!("pantry {}: {held}", output.shard)
+    });
+    takes.chain(gives).collect()
+}
+
+/// The lines of one that could not be read, and that its pantries are not known.
+fn unread_fields(carried: &Carried) -> Vec<String> {
+    let lines = carried.counts.iter().chain(&carried.takes);
+    let lines = lines.chain(&carried.gives).cloned();
+    lines.chain(["–".into()]).collect()
+}
+
+/// Counts what is special about the swap: which one of its number it is, and
+/// whether all or some of its records could not be read.
+fn count_entry(told: &Told, tally: &mut Tally) {
+    if told.name.ends_with("-2") {
+        tally.add("second of its number");
+    }
+    let mut unread = told.refused.iter().filter(|(_, shard, _)| shard.is_none());
+    match (told.is_read, unread.next()) {
+        (true, None) => {}
+        (true, Some(_)) => tally.add("read or not"),
+        (false, first) => {
+            let (_, _, refusal) = first.expect("its records were refused");
+            tally.add(&format!("not read, {}", refusal.number()));
         }
     }
+}
+
+/// Whether there is nothing to tell of the pantry.
+fn is_blank(shard: &Shard) -> bool {
+    shard.tokens().is_empty() && shard.known().is_empty() && !shard.is_turned()
 }
 
 /// A row of a pantry's table: the texts of its cells, and the swap's key.
@@ -391,9 +474,10 @@ fn the_week_of_brought_swaps() {
     let undecided = [
         "Undecided: no pantry said no.",
         "Pantry 2 has not heard the vote of pantry 6.",
-        "Pantry 6 does not know it. Refused at step 38, 7: number known here for a different swap.",
+        "Pantry 6 does not know it. Refused at step 38 (line 81), 7: number known here for a \
+         different swap.",
     ];
-    assert_eq!(reason(&page, "swap 5 (2nd)"), undecided);
+    assert_eq!(reason(&page, "swap 5-2"), undecided);
     let tokens = "token (7, 0, 0), household 80, 1 portion: not held";
     assert_eq!(reason(&page, "swap 6"), [no(7, tokens)]);
 }
@@ -442,17 +526,17 @@ fn the_week_of_findings() {
 /// Two swaps of one number, known nowhere or both committed.
 #[test]
 fn swaps_of_one_number() {
-    let refused = "No pantry knows it. Refused at step 36, 7: number known here for a different \
-        swap.";
-    assert_eq!(reason(&stored("full-swaps"), "swap 32 (2nd)"), [refused]);
+    let refused = "No pantry knows it. Refused at step 36 (line 147), 7: number known here for a \
+        different swap.";
+    assert_eq!(reason(&stored("full-swaps"), "swap 32-2"), [refused]);
     let page = stored("edge-numbers");
-    let refused = "No pantry knows it. Refused at step 7 and once more, 7: number known here for a \
-        different swap. Refused at step 10, 16: round, kind 2: sender has not given this vote on \
-        this swap.";
-    assert_eq!(reason(&page, "swap 5 (2nd)"), [refused]);
+    let refused = "No pantry knows it. Refused at step 7 (line 17) and once more, 7: number known \
+        here for a different swap. Refused at step 10 (line 20), 16: sender has not given this vote \
+        on this swap.";
+    assert_eq!(reason(&page, "swap 5-2"), [refused]);
     let serial = [
         ("swap 7".into(), vec![12]),
-        ("swap 7 (2nd)".into(), vec![14]),
+        ("swap 7-2".into(), vec![14]),
         ("swap 8".into(), vec![20]),
     ];
     assert_eq!(committed(&page), serial);
@@ -495,8 +579,8 @@ fn a_swap_that_nobody_knows() {
          register 1 at 1\nregister 2 at 1\nvote yes on 2 from 1 to 1\nregister 2 at 1\n\
          register 2 at 1\n",
     );
-    let refused = "No pantry knows it. Refused at step 2 and 2 times more, 17: kind 1 or 2: takes \
-        what an undecided swap is to make here. Refused at step 3, 16: round, kind 2: sender has \
-        not given this vote on this swap.";
+    let refused = "No pantry knows it. Refused at step 2 (line 8) and 2 times more, 17: takes what \
+        an undecided swap is to make here. Refused at step 3 (line 9), 16: sender has not given \
+        this vote on this swap.";
     assert_eq!(reason(&page, "swap 2"), [refused]);
 }

@@ -18,9 +18,9 @@ use common::cases::{Case, cases, tree};
 use common::tree::Element;
 use drawn::drawn;
 use lanes::{Arrow, LANES, Mark, lane, marks, middle, number, reach, shape, start, told};
-use played::{Played, play, transaction};
+use played::{Played, play};
 use program::root;
-use reference::{Cluster, Done, Outcome, Record, Refusal, Verdict};
+use reference::{Cluster, Done, Outcome, Record, Refusal, Transaction, Verdict};
 use weekpage::picture;
 use weeks::{Tally, receiver};
 
@@ -66,7 +66,7 @@ fn every_row() {
 /// Each row has the marks that the record's answer asks for, each in its lane.
 /// Gives how many commits and how many aborts were decided.
 fn check_rows(page: &Element, case: &Case, tally: &mut Tally) -> [usize; 2] {
-    let mut rows = page.select("table.lanes tbody tr").into_iter();
+    let mut rows = page.select("table.lanes tr.record").into_iter();
     let (mut before, mut counts) = (Decided::new(), [0; 2]);
     play(&case.bytes, |played, after| {
         let row = rows.next().expect("each record has a row");
@@ -115,6 +115,16 @@ fn decision((record, _): Played, before: &Decided, after: &Decided) -> Option<&'
     let number = transaction(record).map(|transaction| transaction.number);
     assert_eq!((at.0, Some(at.1)), (receiver(record), number));
     Some(outcome)
+}
+
+/// The transaction that a record is about, if it is about one.
+fn transaction(record: &Record) -> Option<&Transaction> {
+    match record {
+        Record::Register { transaction, .. } | Record::Vote { transaction, .. } => {
+            Some(transaction)
+        }
+        Record::Mint { .. } | Record::Turn { .. } => None,
+    }
 }
 
 /// The marks for an answer and a decision.

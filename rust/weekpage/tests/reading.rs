@@ -1,5 +1,5 @@
-//! A week and a listing that do not belong together are told apart, and so are
-//! swaps that share a number.
+//! A week and a listing or a text that do not belong together are told apart, and so
+//! are swaps that share a number.
 
 #[path = "common/by_hand.rs"]
 mod by_hand;
@@ -8,6 +8,7 @@ use by_hand::by_hand;
 use program::weeks;
 use weekpage::reading::{End, History};
 use weekpage::{Mismatch, Week};
+use weektext::{entries, entries_of_text};
 
 /// Pantries 0 and 1 get a token each, pantry 0 one more.
 const OPENINGS: &str = "opening pantry 0 position 0 household 10 portions 3\n\
@@ -17,7 +18,7 @@ const OPENINGS: &str = "opening pantry 0 position 0 household 10 portions 3\n\
 /// What is wrong with this listing of the openings.
 fn mismatch(listing: &str) -> Mismatch {
     let (bytes, _) = by_hand(OPENINGS);
-    let mismatch = Week::read(&bytes, listing).err();
+    let mismatch = Week::read(&bytes, listing, entries(&bytes)).err();
     mismatch.unwrap_or_else(|| panic!("it was taken: {listing}"))
 }
 
@@ -73,13 +74,13 @@ fn listings_of_another_week() {
 /// The parts of what is told.
 #[test]
 fn what_a_mismatch_says() {
-    let wrong = Mismatch {
+    let wrong = Mismatch::Listing {
         number: 2,
         listed: Some("2 1 YES WAIT".into()),
         played: Some("2 1 OPENED".into()),
     };
     assert_eq!(mismatch("1 0 OPENED\n2 1 YES WAIT\n"), wrong);
-    let short = Mismatch {
+    let short = Mismatch::Listing {
         number: 2,
         listed: None,
         played: Some("2 1 OPENED".into()),
@@ -87,16 +88,82 @@ fn what_a_mismatch_says() {
     assert_eq!(mismatch("1 0 OPENED"), short);
 }
 
-/// Every stored week is taken with its own listing, and with no other's.
+/// Texts of other weeks than the openings: where the first record is that differs.
+#[test]
+fn texts_of_another_week() {
+    let (bytes, listing) = by_hand(OPENINGS);
+    let lines: Vec<&str> = OPENINGS.lines().collect();
+    for (text, number) in [
+        (OPENINGS.replacen("household 20", "household 21", 1), 2),
+        (
+            OPENINGS.replacen("opening pantry 1", "opening pantry 9", 1),
+            2,
+        ),
+        (lines[..2].join("\n"), 3),
+        (format!("{OPENINGS}turn pantry 0\n"), 4),
+        (format!("{OPENINGS}bytes 07\n"), 4),
+        (String::new(), 1),
+    ] {
+        let written = entries_of_text(text.as_bytes()).expect("the text has no error");
+        let mismatch = Week::read(&bytes, &listing, written).err();
+        assert_eq!(mismatch, Some(Mismatch::Text { number }), "{text}");
+    }
+    let told = Mismatch::Text { number: 3 }.to_string();
+    let message = "record 3 of the text is not that of the records: they are not of one week";
+    assert_eq!(told, message);
+}
+
+/// Records that are written alike may carry swaps that differ.
+#[test]
+fn a_text_with_another_swap() {
+    let swap = |household: u32| {
+        format!(
+            "{OPENINGS}swap 7\n  take pantry 0 opening 0 household 10 portions 3\n  \
+             give pantry 0 household {household} portions 3\nregister 7 at 0\n"
+        )
+    };
+    let (bytes, listing) = by_hand(&swap(30));
+    for (household, taken) in [(30, None), (31, Some(Mismatch::Text { number: 4 }))] {
+        let written = entries_of_text(swap(household).as_bytes()).expect("it has no error");
+        assert_eq!(Week::read(&bytes, &listing, written).err(), taken);
+    }
+}
+
+/// With a text each record has its line, and without one none has.
+#[test]
+fn lines_of_a_text() {
+    let text = OPENINGS.replace('\n', "\n\n# a comment\n");
+    let (bytes, listing) = by_hand(&text);
+    let written = entries_of_text(text.as_bytes()).expect("the text has no error");
+    for (written, lines) in [
+        (written, [Some(1), Some(4), Some(7)]),
+        (entries(&bytes), [None; 3]),
+    ] {
+        let week = Week::read(&bytes, &listing, written).expect("they are of one week");
+        let rows = week.rows.iter();
+        let found: Vec<_> = rows.map(|row| (row.written, row.text.as_str())).collect();
+        assert_eq!(
+            found,
+            Vec::from_iter(lines.into_iter().zip(OPENINGS.lines()))
+        );
+    }
+}
+
+/// Every stored week is taken with its own listing and records, and with no other's.
 #[test]
 fn every_week_has_its_own_listing() {
     let weeks = weeks();
     let text = |listing: &[u8]| String::from_utf8(listing.to_vec()).expect("it is ASCII");
     for week in &weeks {
         for other in &weeks {
-            let taken = Week::read(&week.bytes, &text(&other.listing)).is_ok();
+            let (bytes, listing) = (&week.bytes, text(&other.listing));
+            let taken = Week::read(bytes, &listing, entries(bytes)).is_ok();
             let same = week.listing == other.listing;
             assert_eq!(taken, same, "{} with {}", week.name, other.name);
+            let listing = text(&week.listing);
+            let taken = Week::read(bytes, &listing, entries(&other.bytes)).is_ok();
+            let same = week.bytes == other.bytes;
+            assert_eq!(taken, same, "{} written as {}", week.name, other.name);
         }
     }
 }
@@ -111,20 +178,12 @@ fn seven(household: u32) -> String {
 
 fn read(text: &str) -> Week {
     let (bytes, listing) = by_hand(text);
-    Week::read(&bytes, &listing).unwrap_or_else(|mismatch| panic!("{mismatch}"))
+    let week = Week::read(&bytes, &listing, entries(&bytes));
+    week.unwrap_or_else(|mismatch| panic!("{mismatch}"))
 }
 
-/// What some of the swaps of number 7 are called, by which of them it is.
-#[rustfmt::skip]
-const NAMES: [(usize, &str); 19] = [
-    (1, "7"), (2, "7 (2nd)"), (3, "7 (3rd)"), (4, "7 (4th)"), (10, "7 (10th)"),
-    (11, "7 (11th)"), (12, "7 (12th)"), (13, "7 (13th)"), (14, "7 (14th)"), (20, "7 (20th)"),
-    (21, "7 (21st)"), (22, "7 (22nd)"), (23, "7 (23rd)"), (24, "7 (24th)"), (101, "7 (101st)"),
-    (111, "7 (111th)"), (112, "7 (112th)"), (113, "7 (113th)"), (121, "7 (121st)"),
-];
-
 /// The first is registered and the others are refused; each is told of once, and
-/// by the same name wherever it comes.
+/// by the same name wherever it comes: by the label that texts have for it.
 #[test]
 fn many_swaps_of_one_number() {
     let mut text = String::new();
@@ -139,9 +198,12 @@ fn many_swaps_of_one_number() {
         .map(|told| told.name.as_str())
         .collect();
     assert_eq!(names.len(), 124);
-    for (place, name) in NAMES {
-        assert_eq!(names[place - 1], name);
+    assert_eq!(names[..3], ["7", "7-2", "7-3"]);
+    assert_eq!(names[123], "7-124");
+    for (name, row) in names.iter().zip(&week.rows) {
+        assert_eq!(row.text, format!("register {name} at 0"));
     }
+    assert_eq!(week.rows[124].text, "register 7-3 at 0");
     let about = |step: usize| week.rows[step - 1].about;
     assert_eq!((about(3), about(125)), (Some(2), Some(2)));
     assert_eq!((about(1), about(126)), (Some(0), Some(0)));
@@ -172,7 +234,7 @@ fn two_swaps_of_one_number() {
         .iter()
         .map(|told| told.name.as_str())
         .collect();
-    assert_eq!(names, ["7", "7 (2nd)"]);
+    assert_eq!(names, ["7", "7-2"]);
     assert_eq!(week.known(4, 7), Some(0));
     assert_eq!(week.known(0, 7), Some(1));
     assert_eq!(week.known(1, 7), None);

@@ -7,6 +7,7 @@ use std::sync::Mutex;
 
 use program::{fed, root, weeks};
 use weekpage::{Week, page};
+use weektext::{entries, entries_of_text};
 
 /// What it builds is built by one at a time.
 static BUILDING: Mutex<()> = Mutex::new(());
@@ -91,26 +92,30 @@ fn made(output: &Output, name: &str) -> String {
 }
 
 /// A week as text, as records, from standard input and under another name: one
-/// page, but for its title.
+/// page, but for its title and, where there is no text, for the lines.
 #[test]
 fn the_page_of_a_week() {
-    let example = weeks().into_iter().find(|week| week.name == "example");
-    let example = example.expect("there is an example");
-    let listing = String::from_utf8(example.listing).expect("a listing is ASCII");
-    let week = Week::read(&example.bytes, &listing).expect("it is that week's");
-    let text = fs::read(root().join("weeks/example.txt")).expect("the week can be read");
+    let stored = weeks().into_iter().find(|week| week.name == "damaged");
+    let stored = stored.expect("there is a damaged week");
+    let listing = String::from_utf8(stored.listing).expect("a listing is ASCII");
+    let text = fs::read(root().join("weeks/damaged.txt")).expect("the week can be read");
+    let written = entries_of_text(&text).expect("the text has no error");
+    let read = |written| Week::read(&stored.bytes, &listing, written).expect("it is that week's");
+    let (lined, bare) = (read(written), read(entries(&stored.bytes)));
     fs::write(folder().join("a & b.txt"), &text).expect("the week can be written");
-    fs::write(folder().join("sent.records"), &example.bytes).expect("so can its records");
-    let cases: [(&[&str], &str, &str); 4] = [
-        (&["a & b.txt"], "a & b.html", "a & b"),
-        (&["sent.records"], "sent.html", "sent"),
-        (&["-"], "week.html", "standard input"),
-        (&["sent.records", "other.html"], "other.html", "sent"),
+    fs::write(folder().join("sent.records"), &stored.bytes).expect("so can its records");
+    let cases: [(&[&str], &str, &str, &Week); 5] = [
+        (&["a & b.txt"], "a & b.html", "a & b", &lined),
+        (&["sent.records"], "sent.html", "sent", &bare),
+        (&["-"], "week.html", "standard input", &lined),
+        (&["/dev/stdin", "in.html"], "in.html", "stdin", &lined),
+        (&["sent.records", "other.html"], "other.html", "sent", &bare),
     ];
-    for (arguments, file, name) in cases {
+    for (arguments, file, name, week) in cases {
         let output = show(arguments, &text);
-        assert!(made(&output, file) == page(name, &week), "{arguments:?}");
+        assert!(made(&output, file) == page(name, week), "{arguments:?}");
     }
+    assert!(page("one", &lined) != page("one", &bare));
 }
 
 /// A text with an error makes no page, and leaves one that is there.

@@ -1,10 +1,13 @@
 //! How the swaps have ended: the committed ones in their serial order, and why the
 //! others did not commit.
 
+use plankeeper::Transaction;
+use weektext::Carried;
+
 use super::markup::Markup;
 use super::reasons::{outcomes, reason};
 use super::tables::{holding, row_of, step, swap, swap_id, table, token};
-use crate::reading::{End, History, Week};
+use crate::reading::{End, Week};
 
 /// The committed swaps, one after the other.
 pub(crate) fn committed(html: &mut Markup, week: &Week) {
@@ -61,7 +64,8 @@ pub(crate) fn others(html: &mut Markup, week: &Week) {
         &[],
         "A pantry says no where a token that the swap takes there is not available: it is not \
          held, it has another household or other portions than the swap says, or it is pledged to \
-         another swap.",
+         another swap. A swap whose records were all refused is known at no pantry; where none of \
+         them could be read, what it takes and gives is shown as it was written.",
     );
     let names = ["Swap", "Takes", "Gives", "Pantries", "Why"];
     table(html, "swaps", &names, &places, |html, _, &place| {
@@ -84,10 +88,18 @@ fn entry(html: &mut Markup, place: usize, content: impl FnOnce(&mut Markup)) {
 
 /// Its name, what it takes and what it gives.
 fn fields(html: &mut Markup, week: &Week, place: usize) {
-    let History { transaction, .. } = &week.histories[place];
     html.element("th", &[("scope", &"row")], |html| {
         swap(html, week, Some(place))
     });
+    let history = &week.histories[place];
+    match &history.transaction {
+        Some(transaction) => read(html, transaction),
+        None => unread(html, &history.carried),
+    }
+}
+
+/// The tokens of a transaction that was read.
+fn read(html: &mut Markup, transaction: &Transaction) {
     html.element("td", &[], |html| {
         for input in transaction.inputs() {
             html.element("p", &[], |html| {
@@ -102,4 +114,22 @@ fn fields(html: &mut Markup, week: &Week, place: usize) {
             html.worded("p", &[], format_args!("pantry {pantry}: {held}"));
         }
     });
+}
+
+/// The lines of one that could not be read, as they stand in a week's text.
+fn unread(html: &mut Markup, carried: &Carried) {
+    let Carried {
+        counts,
+        takes,
+        gives,
+        ..
+    } = carried;
+    let takes: Vec<&String> = counts.iter().chain(takes).collect();
+    for lines in [takes, gives.iter().collect()] {
+        html.element("td", &[], |html| {
+            for line in lines {
+                html.worded("p", &[("class", &"own")], line);
+            }
+        });
+    }
 }

@@ -2,7 +2,7 @@
 //!
 //! `page` puts the parts together. `marks` has a function for each
 //! mark, `row` the marks of one record; `records`, `endings` and `pantries` are
-//! the page's tables.
+//! the page's tables, `runs` what of the records can be folded.
 
 mod endings;
 mod lanes;
@@ -16,6 +16,7 @@ mod picture;
 mod reasons;
 mod records;
 mod row;
+mod runs;
 mod sentences;
 mod tables;
 

@@ -59,7 +59,7 @@ pub(crate) fn swaps(html: &mut Markup, week: &Week) {
         html.worded("p", &[], "There are none.");
     }
     let mut places: Vec<usize> = (0..week.histories.len()).collect();
-    places.sort_by_key(|&place| week.histories[place].transaction.number());
+    places.sort_by_key(|&place| week.histories[place].number());
     html.element("ul", &[("class", &"swaps")], |html| {
         for place in places {
             let (class, word) = ended(week.histories[place].end());

@@ -1,6 +1,6 @@
 "use strict";
-// Lets a reader choose a swap: its rows stand out. All that the page says stands
-// there without this.
+// Folds long runs of openings, and lets a reader choose a swap, whose rows stand
+// out. All that the page says stands there without this.
 (() => {
   const rows = new Map();
   for (const row of document.querySelectorAll("tr[data-swap]")) {
@@ -66,4 +66,39 @@
   document.addEventListener("keydown", (event) => {
     if (event.key === "Escape") choose(null);
   });
+})();
+(() => {
+  const fold = (run, folded) => {
+    run.classList.toggle("folded", folded);
+    run.querySelector("button").setAttribute("aria-expanded", String(!folded));
+  };
+
+  // The heading's text becomes a button.
+  for (const heading of document.querySelectorAll("tr.run th")) {
+    const run = heading.closest("tbody");
+    const button = document.createElement("button");
+    button.type = "button";
+    button.append(...heading.childNodes);
+    button.setAttribute("aria-controls", run.id);
+    button.addEventListener("click", () => fold(run, !run.classList.contains("folded")));
+    heading.append(button);
+    fold(run, true);
+  }
+
+  // Where a link leads into a folded run, it is unfolded; tells whether it was folded.
+  const unfold = (hash) => {
+    const run = document.getElementById(hash.slice(1))?.closest("tbody.folded") ?? null;
+    if (run !== null) fold(run, false);
+    return run !== null;
+  };
+  const lead = () => {
+    if (unfold(location.hash)) document.getElementById(location.hash.slice(1)).scrollIntoView();
+  };
+
+  document.addEventListener("click", (event) => {
+    const link = event.target.closest("a[href]");
+    if (link) unfold(link.hash);
+  });
+  window.addEventListener("hashchange", lead);
+  lead();
 })();

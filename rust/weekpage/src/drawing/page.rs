@@ -81,7 +81,8 @@ const CHOOSING: &str = "Choose a swap, with the mouse or the keyboard, and its r
     all lanes; Escape ends that.";
 
 const FOOTER: &str = "The lines are those of the proved listing program. Tokens, votes, outcomes \
-    and findings are what the proved library answers. This page draws them and decides nothing.";
+    and findings are what the proved library answers. A refused record is shown as it was \
+    written. This page draws all that and decides nothing.";
 
 /// What is shown while a swap is chosen; the script fills it in.
 fn bar(html: &mut Markup) {

@@ -4,18 +4,26 @@ use plankeeper::{Known, Token};
 
 use super::markup::Markup;
 use super::reasons::outcome_word;
-use super::tables::{count, link, portions, row_of, swap, table, token, vote};
+use super::tables::{count, known_swap, portions, row_of, swap, table, token, vote};
 use crate::reading::{ShardState, Week};
 
 /// All pantries, and their portions together.
 pub(crate) fn pantries(html: &mut Markup, week: &Week) {
     let heading = "What the pantries hold and know";
     html.worded("h3", &[("id", &"pantries")], heading);
-    html.element("div", &[("class", &"pantries")], |html| {
-        for (shard, state) in (0..).zip(&week.shards) {
-            pantry(html, week, shard, state);
-        }
-    });
+    let shards = (0..).zip(&week.shards);
+    let (blank, others): (Vec<_>, Vec<_>) = shards.partition(|(_, state)| state.is_blank());
+    if !others.is_empty() {
+        html.element("div", &[("class", &"pantries")], |html| {
+            for (shard, state) in others {
+                pantry(html, week, shard, state);
+            }
+        });
+    }
+    if !blank.is_empty() {
+        let shards: Vec<u8> = blank.into_iter().map(|(shard, _)| shard).collect();
+        empty(html, &shards);
+    }
     html.element("p", &[("class", &"total")], |html| {
         let all = week.shards.iter().map(|state| state.total).sum();
         let portions = portions(all);
@@ -38,9 +46,32 @@ fn pantry(html: &mut Markup, week: &Week, shard: u8, state: &ShardState) {
         if !known.is_empty() {
             let names = ["Swap", "Votes heard", "Outcome"];
             table(html, "known", &names, known, |html, _, known| {
-                known_swap(html, week, shard, known);
+                known_row(html, week, shard, known);
             });
         }
+    });
+    html.end_line();
+}
+
+/// The pantries without anything, in one line; what leads to one of them leads to
+/// its number there.
+fn empty(html: &mut Markup, shards: &[u8]) {
+    let (pantries, hold) = match shards {
+        [_] => ("Pantry", "holds nothing and knows"),
+        _ => ("Pantries", "hold nothing and know"),
+    };
+    html.element("p", &[("class", &"empty")], |html| {
+        html.text(pantries);
+        for (k, shard) in shards.iter().enumerate() {
+            html.text(match k {
+                0 => " ",
+                _ if k + 1 == shards.len() => " and ",
+                _ => ", ",
+            });
+            let id = format!("pantry-{shard}");
+            html.worded("span", &[("id", &id)], shard);
+        }
+        html.text(format_args!(" {hold} no swap."));
     });
     html.end_line();
 }
@@ -62,13 +93,13 @@ fn held_token(html: &mut Markup, week: &Week, held: &Token) {
         html.worded("td", &[("class", &"number")], held.owner);
         html.worded("td", &[("class", &"number")], held.amount);
         html.element("td", &[], |html| match held.pledge {
-            Some(number) => link(html, place, &format!("swap {number}")),
+            Some(number) => known_swap(html, week, held.id.shard, number),
             None => html.text("–"),
         });
     });
 }
 
-fn known_swap(html: &mut Markup, week: &Week, shard: u8, known: &Known) {
+fn known_row(html: &mut Markup, week: &Week, shard: u8, known: &Known) {
     let place = week.known(shard, known.transaction.number());
     row_of(html, place, &[], |html| {
         html.element("th", &[("scope", &"row")], |html| swap(html, week, place));

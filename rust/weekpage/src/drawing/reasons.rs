@@ -3,7 +3,7 @@
 use plankeeper::{Known, Outcome, Verdict};
 
 use super::markup::Markup;
-use super::tables::{listed, spoilers, step};
+use super::tables::{cause, listed, spoilers, step, written};
 use crate::reading::{AtShard, End, History, Refused, Week};
 
 /// The reason, in the pantries' own words: who said no and which token spoiled
@@ -12,8 +12,8 @@ pub(crate) fn reason(html: &mut Markup, week: &Week, history: &History) {
     match history.end() {
         End::Committed => {}
         End::Aborted => noes(html, week, history),
-        End::Undecided => missing(html, history),
-        End::Unknown => nowhere(html, history),
+        End::Undecided => missing(html, week, history),
+        End::Unknown => nowhere(html, week, history),
     }
 }
 
@@ -29,8 +29,8 @@ fn noes(html: &mut Markup, week: &Week, history: &History) {
 }
 
 /// Every pantry that waits, and whose votes it has not heard; every pantry that
-/// does not know it, and why.
-fn missing(html: &mut Markup, history: &History) {
+/// does not know it, and why; and what reached no pantry.
+fn missing(html: &mut Markup, week: &Week, history: &History) {
     html.worded("p", &[], "Undecided: no pantry said no.");
     for at in &history.at {
         let pantry = at.shard;
@@ -41,14 +41,24 @@ fn missing(html: &mut Markup, history: &History) {
             }
             None => {
                 html.text(format_args!("Pantry {pantry} does not know it."));
-                let here = history
-                    .refused
-                    .iter()
-                    .filter(|record| record.shard == pantry);
-                refusals(html, here);
+                refusals(html, week, refused_at(history, Some(pantry)));
             }
         });
     }
+    let mut unread = refused_at(history, None).peekable();
+    if unread.peek().is_some() {
+        html.element("p", &[], |html| {
+            html.text("Not every record reached a pantry.");
+            refusals(html, week, unread);
+        });
+    }
+}
+
+/// The refused records about it that were for this shard; with none named, those
+/// that could not be read.
+fn refused_at(history: &History, shard: Option<u8>) -> impl Iterator<Item = &Refused> {
+    let refused = history.refused.iter();
+    refused.filter(move |record| record.shard == shard)
 }
 
 /// The votes that a pantry has not heard.
@@ -64,16 +74,16 @@ fn unheard(history: &History, known: &Known) -> String {
 }
 
 /// A transaction that no pantry knows.
-fn nowhere(html: &mut Markup, history: &History) {
+fn nowhere(html: &mut Markup, week: &Week, history: &History) {
     html.element("p", &[], |html| {
         html.text("No pantry knows it.");
-        refusals(html, history.refused.iter());
+        refusals(html, week, history.refused.iter());
     });
 }
 
 /// Every cause for which these were refused, in the order in which they first
 /// came.
-fn refusals<'a>(html: &mut Markup, records: impl Iterator<Item = &'a Refused>) {
+fn refusals<'a>(html: &mut Markup, week: &Week, records: impl Iterator<Item = &'a Refused>) {
     let mut causes: Vec<(&Refused, usize)> = Vec::new();
     for record in records {
         let same = |(first, _): &&mut (&Refused, usize)| first.refusal == record.refusal;
@@ -85,18 +95,24 @@ fn refusals<'a>(html: &mut Markup, records: impl Iterator<Item = &'a Refused>) {
     for (first, times) in causes {
         html.text(" Refused at ");
         step(html, first.step);
+        if let Some(line) = written(&week.rows[first.step - 1]) {
+            html.text(format_args!(" ({line})"));
+        }
         match times - 1 {
             0 => {}
             1 => html.text(" and once more"),
             more => html.text(format_args!(" and {more} times more")),
         }
-        let (number, sentence) = (first.refusal.number(), first.refusal);
-        html.text(format_args!(", {number}: {sentence}."));
+        html.text(format_args!(", {}.", cause(first.refusal)));
     }
 }
 
-/// What its pantries have decided, one a line.
+/// What its pantries have decided, one a line; of a transaction that could not be
+/// read nobody knows its pantries.
 pub(crate) fn outcomes(html: &mut Markup, history: &History) {
+    if history.at.is_empty() {
+        html.worded("p", &[], "–");
+    }
     for at in &history.at {
         html.element("p", &[], |html| {
             html.text(format_args!("pantry {} ", at.shard));

@@ -2,8 +2,9 @@
 //! each row.
 
 use super::lanes::{ROW, WIDTH, lines, sized};
-use super::markup::Markup;
+use super::markup::{Attributes, Markup};
 use super::row::row;
+use super::runs::{Part, heading, parts};
 use super::sentences::sentence;
 use super::tables::row_of;
 use crate::reading::{Row, Week};
@@ -14,14 +15,28 @@ pub(crate) fn records(html: &mut Markup, week: &Week) {
     html.element("table", &[("class", &"lanes")], |html| {
         html.element("thead", &[], lane_names);
         html.end_line();
-        html.element("tbody", &[], |html| {
-            for (step, row) in (1..).zip(&week.rows) {
-                record(html, week, step, row);
-                html.end_line();
-            }
-        });
+        for part in parts(&week.rows) {
+            body(html, week, part);
+        }
         html.element("tfoot", &[], |html| total(html, &week.total));
     });
+}
+
+/// A part of the records; a long run of openings has its heading.
+fn body(html: &mut Markup, week: &Week, part: Part) {
+    let (first, rows) = (part.rows.start + 1, &week.rows[part.rows]);
+    let id = format!("openings-{first}");
+    let run: Attributes = &[("id", &id), ("class", &"openings")];
+    html.element("tbody", if part.is_run { run } else { &[] }, |html| {
+        if part.is_run {
+            heading(html, first, rows);
+        }
+        for (step, row) in (first..).zip(rows) {
+            record(html, week, step, row);
+            html.end_line();
+        }
+    });
+    html.end_line();
 }
 
 fn lane_names(html: &mut Markup) {

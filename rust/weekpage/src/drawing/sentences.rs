@@ -3,18 +3,18 @@
 use plankeeper::{Answer, Outcome, Record, Refusal, TokenId, Verdict};
 
 use super::markup::Markup;
-use super::tables::{holding, spoilers, swap, token, vote};
+use super::tables::{cause, holding, link, spoilers, swap, token, vote, written};
 use crate::reading::{Row, Week};
 
 /// The sentence beside the record's marks.
 pub(crate) fn sentence(html: &mut Markup, week: &Week, row: &Row) {
-    match &row.record {
-        Some(record) => asked(html, week, row, record),
-        None => html.text("a record, for no pantry"),
-    }
-    match row.answer {
-        Ok(answer) => came(html, week, row, answer),
-        Err(refusal) => refused(html, refusal),
+    match (row.answer, &row.record) {
+        (Ok(answer), Some(record)) => {
+            asked(html, week, row, record);
+            came(html, week, row, answer);
+        }
+        (Ok(_), None) => {}
+        (Err(refusal), _) => refused(html, row, refusal),
     }
 }
 
@@ -56,10 +56,15 @@ fn asked(html: &mut Markup, week: &Week, row: &Row, record: &Record) {
     }
 }
 
-/// The table's sentence for the refusal.
-fn refused(html: &mut Markup, refusal: Refusal) {
-    let number = refusal.number();
-    html.text(format_args!(" – refused, {number}: {refusal}"));
+/// A refused record by its own text, which chooses its swap, and why it was refused.
+fn refused(html: &mut Markup, row: &Row, refusal: Refusal) {
+    if let Some(line) = written(row) {
+        html.text(format_args!("{line}: "));
+    }
+    html.element("span", &[("class", &"own")], |html| {
+        link(html, row.about, &row.text);
+    });
+    html.text(format_args!(" – refused, {}", cause(refusal)));
     if refusal == Refusal::HeldOff {
         html.text(" – held off, to be sent again");
     }

@@ -1,10 +1,10 @@
 //! Pieces that the page's tables and sentences are made of.
 
 use ask::Found;
-use plankeeper::{Finding, TokenId, Verdict};
+use plankeeper::{Finding, Refusal, TokenId, Verdict};
 
 use super::markup::{Attributes, Markup};
-use crate::reading::Week;
+use crate::reading::{Row, Week};
 
 /// A token's name as document 01 writes it: pantry, making swap, position.
 pub(crate) fn token(html: &mut Markup, id: TokenId) {
@@ -57,6 +57,14 @@ pub(crate) fn swap(html: &mut Markup, week: &Week, place: Option<usize>) {
     }
 }
 
+/// The transaction that a shard knows by this number, likewise.
+pub(crate) fn known_swap(html: &mut Markup, week: &Week, shard: u8, number: u32) {
+    match week.known(shard, number) {
+        None => html.text(format_args!("swap {number}")),
+        place => swap(html, week, place),
+    }
+}
+
 /// Text that stands for a transaction, to be chosen.
 pub(crate) fn link(html: &mut Markup, place: Option<usize>, text: &str) {
     let Some(id) = place.map(swap_id) else {
@@ -90,6 +98,16 @@ pub(crate) fn step(html: &mut Markup, step: usize) {
     html.worded("a", &[("href", &href)], format_args!("step {step}"));
 }
 
+/// The line of the week's text on which a record stands, if there is one.
+pub(crate) fn written(row: &Row) -> Option<String> {
+    row.written.map(|line| format!("line {line}"))
+}
+
+/// Why a record was refused, and the cause's number.
+pub(crate) fn cause(refusal: Refusal) -> String {
+    format!("{}: {}", refusal.number(), ask::cause(refusal))
+}
+
 /// An input that was not available, and what was found of it.
 pub(crate) fn spoiler(html: &mut Markup, week: &Week, found: &Found) {
     let (id, holding) = (
@@ -99,10 +117,12 @@ pub(crate) fn spoiler(html: &mut Markup, week: &Week, found: &Found) {
     html.text("token ");
     token(html, id);
     html.text(format_args!(", {holding}: "));
-    let words = ask::words(&found.finding);
     match found.finding {
-        Finding::Pledged(number) => link(html, week.known(id.shard, number), &words),
-        _ => html.text(words),
+        Finding::Pledged(number) => {
+            html.text("pledged to ");
+            known_swap(html, week, id.shard, number);
+        }
+        other => html.text(ask::words(&other)),
     }
 }
 

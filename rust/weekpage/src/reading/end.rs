@@ -16,6 +16,14 @@ pub struct ShardState {
     pub turned: bool,
 }
 
+impl ShardState {
+    /// Whether there is nothing to tell of it: it holds no token, knows no
+    /// transaction and is not turned.
+    pub fn is_blank(&self) -> bool {
+        self.tokens.is_empty() && self.known.is_empty() && !self.turned
+    }
+}
+
 /// Asks every shard.
 pub fn shards(cluster: &Cluster) -> [ShardState; 8] {
     array::from_fn(|shard| {

@@ -4,22 +4,28 @@ use std::collections::HashMap;
 
 use ask::Found;
 use plankeeper::{Answer, Cluster, Known, Outcome, Refusal, Transaction, Verdict};
+use weektext::Carried;
 
 use super::end::ShardState;
 use super::rows::{Subject, unavailable};
 
-/// What became of a transaction that a record of the week has named.
+/// What became of a transaction that a record of the week has carried.
 pub struct History {
-    /// It.
-    pub transaction: Transaction,
-    /// Its number, and which one of that number it is where it is not the first:
-    /// two transactions are the same only if every field agrees.
+    /// Its fields in the words of a week's text, whatever they are.
+    pub carried: Carried,
+    /// It as the library has read it; nothing where no record that carries it
+    /// could be read.
+    pub transaction: Option<Transaction>,
+    /// Its label in a week's text: its number, and behind it which one of that
+    /// number it is where it is not the first. Two transactions are the same only
+    /// if every field agrees.
     pub name: String,
     /// The step of its last registration, by a call of its own or by a vote.
     pub registered: Option<usize>,
     /// The records about it that were refused, in their order.
     pub refused: Vec<Refused>,
-    /// What each of its shards, in their order, knows of it at the end.
+    /// What each of its shards, in their order, knows of it at the end; nothing
+    /// where it could not be read.
     pub at: Vec<AtShard>,
 }
 
@@ -27,8 +33,8 @@ pub struct History {
 pub struct Refused {
     /// Its step.
     pub step: usize,
-    /// The shard that it was for.
-    pub shard: u8,
+    /// The shard that it was for; nothing where it could not be read.
+    pub shard: Option<u8>,
     /// Why.
     pub refusal: Refusal,
 }
@@ -57,6 +63,11 @@ pub enum End {
 }
 
 impl History {
+    /// Its number.
+    pub fn number(&self) -> u32 {
+        self.carried.number
+    }
+
     /// How it has ended.
     pub fn end(&self) -> End {
         let mut outcomes = self.outcomes().peekable();
@@ -100,25 +111,31 @@ impl AtShard {
     }
 }
 
-/// The transactions named so far.
+/// The transactions carried so far.
 #[derive(Default)]
 pub(super) struct Gathered {
     histories: Vec<History>,
-    places: HashMap<Transaction, usize>,
+    /// Their places by the bytes of their fields.
+    places: HashMap<[u8; 98], usize>,
     /// How many there are of a number.
     numbered: HashMap<u32, usize>,
 }
 
 impl Gathered {
-    /// Notes a record about a transaction, and gives its place.
+    /// Notes a record that carries a transaction, and gives its place. Where the
+    /// record could not be read it has no subject.
     pub(super) fn note(
         &mut self,
         step: usize,
-        subject: Subject<'_>,
+        carried: Carried,
+        subject: Option<Subject<'_>>,
         answer: Result<Answer, Refusal>,
     ) -> usize {
-        let place = self.place(subject.transaction);
+        let place = self.place(carried);
         let history = &mut self.histories[place];
+        if let Some(subject) = subject {
+            history.transaction = Some(*subject.transaction);
+        }
         match answer {
             Ok(Answer::Registered { .. } | Answer::Brought { .. }) => {
                 history.registered = Some(step)
@@ -126,21 +143,21 @@ impl Gathered {
             Ok(_) => {}
             Err(refusal) => history.refused.push(Refused {
                 step,
-                shard: subject.receiver,
+                shard: subject.map(|subject| subject.receiver),
                 refusal,
             }),
         }
         place
     }
 
-    fn place(&mut self, transaction: &Transaction) -> usize {
-        *self.places.entry(*transaction).or_insert_with(|| {
-            let number = transaction.number();
-            let count = self.numbered.entry(number).or_default();
+    fn place(&mut self, carried: Carried) -> usize {
+        *self.places.entry(carried.fields).or_insert_with(|| {
+            let count = self.numbered.entry(carried.number).or_default();
             *count += 1;
             self.histories.push(History {
-                transaction: *transaction,
-                name: name(number, *count),
+                name: name(carried.number, *count),
+                carried,
+                transaction: None,
                 registered: None,
                 refused: Vec::new(),
                 at: Vec::new(),
@@ -153,12 +170,13 @@ impl Gathered {
     pub(super) fn ended(self, cluster: &Cluster, shards: &[ShardState; 8]) -> Vec<History> {
         let mut histories = self.histories;
         for history in &mut histories {
-            let transaction = &history.transaction;
-            let at = shards_of(transaction).map(|shard| {
-                let known = &shards[usize::from(shard)].known;
-                AtShard::new(cluster, shard, known, transaction)
-            });
-            history.at = at.collect();
+            if let Some(transaction) = &history.transaction {
+                let at = shards_of(transaction).map(|shard| {
+                    let known = &shards[usize::from(shard)].known;
+                    AtShard::new(cluster, shard, known, transaction)
+                });
+                history.at = at.collect();
+            }
         }
         histories
     }
@@ -168,22 +186,18 @@ impl Gathered {
 pub(super) fn numbered(histories: &[History]) -> HashMap<(u8, u32), usize> {
     let known = histories.iter().enumerate().flat_map(|(place, history)| {
         let known = history.at.iter().filter(|at| at.known.is_some());
-        known.map(move |at| ((at.shard, history.transaction.number()), place))
+        known.map(move |at| ((at.shard, history.number()), place))
     });
     known.collect()
 }
 
-/// How the transaction is called, the first of that number and the others.
+/// The label of a transaction, the first of its number or another one, as weeks'
+/// texts have it.
 fn name(number: u32, count: usize) -> String {
-    let ending = match (count % 10, count % 100) {
-        _ if count == 1 => return number.to_string(),
-        (_, 11..=13) => "th",
-        (1, _) => "st",
-        (2, _) => "nd",
-        (3, _) => "rd",
-        _ => "th",
-    };
-    format!("{number} ({count}{ending})")
+    match count {
+        1 => number.to_string(),
+        _ => format!("{number}-{count}"),
+    }
 }
 
 /// The shards of its inputs and outputs, in their order.

@@ -8,6 +8,7 @@ use std::collections::HashMap;
 use std::fmt::{self, Display, Formatter};
 
 use plankeeper::{Cluster, records};
+use weektext::{Entry, entries};
 
 pub use end::ShardState;
 pub use history::{AtShard, End, History, Refused};
@@ -19,8 +20,8 @@ use history::Gathered;
 pub struct Week {
     /// A row for each record, as far as the listing reads them.
     pub rows: Vec<Row>,
-    /// Every transaction that a record of the week has named, in the order in
-    /// which they first came. Others refer to one by its place here.
+    /// Every transaction that a record of the week has carried, read or not, in
+    /// the order in which they first came. Others refer to one by its place here.
     pub histories: Vec<History>,
     /// What each shard holds and knows at the end.
     pub shards: [ShardState; 8],
@@ -30,27 +31,37 @@ pub struct Week {
     known: HashMap<(u8, u32), usize>,
 }
 
-/// A line of the listing that is not what the library answers: the records and
-/// the listing are not of one week.
+/// Why the records, the listing and the text are not of one week.
 #[derive(Clone, Debug, PartialEq, Eq)]
-pub struct Mismatch {
-    /// The line's number, from 1.
-    pub number: usize,
-    /// The listing's line; nothing where the listing has ended.
-    pub listed: Option<String>,
-    /// The line by what the library answers; nothing where the week has ended.
-    pub played: Option<String>,
+pub enum Mismatch {
+    /// A line of the listing is not what the library answers.
+    Listing {
+        /// The line's number, from 1.
+        number: usize,
+        /// The listing's line; nothing where the listing has ended.
+        listed: Option<String>,
+        /// The line by what the library answers; nothing where the week has ended.
+        played: Option<String>,
+    },
+    /// A record of the text is not the one that stands among the records.
+    Text {
+        /// The record's number, from 1.
+        number: usize,
+    },
 }
 
 impl Week {
-    /// Plays the records and lays the listing beside the answers.
-    pub fn read(bytes: &[u8], listing: &str) -> Result<Self, Mismatch> {
+    /// Plays the records and lays the listing beside the answers. `written` has
+    /// the same records as people read them: from the week's text, so that their
+    /// lines are known, or from the records.
+    pub fn read(bytes: &[u8], listing: &str, written: Vec<Entry>) -> Result<Self, Mismatch> {
+        same_records(bytes, &written)?;
         let mut cluster = Cluster::new();
         let mut gathered = Gathered::default();
         let mut lines = listing.lines();
         let mut rows = Vec::new();
-        for (step, read) in (1..).zip(records(bytes)) {
-            let row = Row::played(&mut cluster, &mut gathered, step, read);
+        for ((step, entry), read) in (1..).zip(written).zip(records(bytes)) {
+            let row = Row::played(&mut cluster, &mut gathered, step, entry, read);
             same_line(step, lines.next(), Some(&row.line))?;
             rows.push(row);
         }
@@ -90,13 +101,25 @@ impl Week {
     }
 }
 
+/// What was written has to be these records, lines aside.
+fn same_records(bytes: &[u8], written: &[Entry]) -> Result<(), Mismatch> {
+    let records = entries(bytes);
+    let same = |(one, other): (&Entry, &Entry)| one.text == other.text && one.swap == other.swap;
+    let alike = records.iter().zip(written);
+    let alike = alike.take_while(|&both| same(both)).count();
+    if alike == records.len() && alike == written.len() {
+        return Ok(());
+    }
+    Err(Mismatch::Text { number: alike + 1 })
+}
+
 /// The listing's line of that number has to be the one that was played; where the
 /// one ends the other has to end, too.
 fn same_line(number: usize, listed: Option<&str>, played: Option<&str>) -> Result<(), Mismatch> {
     if listed == played {
         return Ok(());
     }
-    Err(Mismatch {
+    Err(Mismatch::Listing {
         number,
         listed: listed.map(String::from),
         played: played.map(String::from),
@@ -109,11 +132,22 @@ impl Display for Mismatch {
             let quoted = |line: &String| format!("'{}'", line.escape_debug());
             line.as_ref().map_or("nothing more".into(), quoted)
         };
-        let (number, listed, played) = (self.number, shown(&self.listed), shown(&self.played));
-        write!(
-            f,
-            "line {number} of the listing is {listed}, and the records give {played}: they are not \
-             of one week"
-        )
+        match self {
+            Mismatch::Listing {
+                number,
+                listed,
+                played,
+            } => {
+                let (listed, played) = (shown(listed), shown(played));
+                write!(
+                    f,
+                    "line {number} of the listing is {listed}, and the records give {played}"
+                )?;
+            }
+            Mismatch::Text { number } => {
+                write!(f, "record {number} of the text is not that of the records")?;
+            }
+        }
+        f.write_str(": they are not of one week")
     }
 }

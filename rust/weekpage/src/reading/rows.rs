@@ -2,6 +2,7 @@
 
 use ask::{Found, found};
 use plankeeper::{Answer, Cluster, Finding, Outcome, Record, Refusal, Transaction, Verdict};
+use weektext::Entry;
 
 use super::history::Gathered;
 
@@ -9,9 +10,14 @@ use super::history::Gathered;
 pub struct Row {
     /// The line of the listing, without its end.
     pub line: String,
+    /// The record in the words of a week's text.
+    pub text: String,
+    /// The line of the week's text that it stands on, where there is one.
+    pub written: Option<usize>,
     /// The record; nothing where it could not be read (1 to 5).
     pub record: Option<Record>,
-    /// The transaction that it is about, by its place among the week's.
+    /// The transaction that it carries, by its place among the week's; also that
+    /// of a record that could not be read.
     pub about: Option<usize>,
     /// What the library answered.
     pub answer: Result<Answer, Refusal>,
@@ -58,11 +64,13 @@ impl<'a> Subject<'a> {
 }
 
 impl Row {
-    /// Plays what was read, the week's record of this step.
+    /// Plays what was read, the week's record of this step, and lays beside it
+    /// what is written.
     pub(super) fn played(
         cluster: &mut Cluster,
         gathered: &mut Gathered,
         step: usize,
+        entry: Entry,
         read: Result<Record, Refusal>,
     ) -> Self {
         let record = read.ok();
@@ -73,7 +81,11 @@ impl Row {
         let after = decided(cluster);
         Row {
             line: line(step, record.as_ref(), answer),
-            about: subject.map(|subject| gathered.note(step, subject, answer)),
+            text: entry.text,
+            written: entry.line,
+            about: entry
+                .swap
+                .map(|carried| gathered.note(step, carried, subject, answer)),
             decision: after.filter(|_| before.is_none()),
             spoilers: subject.map_or_else(Vec::new, |subject| spoilers(cluster, subject, answer)),
             answer,

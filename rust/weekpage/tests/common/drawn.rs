@@ -11,6 +11,7 @@ pub fn drawn(text: &str) -> Element {
         name: "by hand".into(),
         bytes,
         listing,
+        text: Some(text.into()),
     };
     tree(&case.name, &case.page())
 }

@@ -1,9 +1,11 @@
 //! How a week has ended, by the reference and by demand 3's clauses.
 
-use reference::{Answer, Cluster, Done, Finding, Known, Outcome, Refusal, Transaction, Verdict};
+use reference::{Cluster, Done, Finding, Known, Outcome, Refusal, Transaction, Verdict};
 use weeks::{Clauses, receiver, views};
 
-use crate::played::{play, transaction};
+use crate::carried::carried;
+use crate::common::cases::Case;
+use crate::played::{Played, play};
 
 /// What the tests ask about the end of a week.
 pub struct Ended {
@@ -11,39 +13,49 @@ pub struct Ended {
     pub cluster: Cluster,
     /// The numbers of the committed transactions, in the clauses' serial order.
     pub committed: Vec<u32>,
-    /// Every transaction that a record has named, in the order in which they
+    /// Every transaction that a record has carried, in the order in which they
     /// first came.
     pub told: Vec<Told>,
+    /// The lines of the week's text on which the records stand, by step; nothing
+    /// where there is no text.
+    pub lines: Vec<Option<usize>>,
 }
 
-/// A transaction that a record has named.
+/// A transaction that a record has carried.
 pub struct Told {
     /// It.
     pub transaction: Transaction,
     /// What the page calls it.
     pub name: String,
+    /// Whether a record with it could be read.
+    pub is_read: bool,
     /// The step of its last registration, by a call of its own or by a vote.
     pub registered: Option<usize>,
-    /// The records about it that were refused: the step, whose it was, the cause.
-    pub refused: Vec<(usize, u8, Refusal)>,
+    /// The records about it that were refused: the step, whose it was if it could
+    /// be read, the cause.
+    pub refused: Vec<(usize, Option<u8>, Refusal)>,
 }
 
 impl Ended {
-    /// Of the week with these records.
-    pub fn of(bytes: &[u8]) -> Self {
-        let (mut clauses, mut told, mut step) = (Clauses::new(), Vec::new(), 0);
-        let cluster = play(bytes, |(record, answer), after| {
-            step += 1;
-            let Some(record) = record else { return };
-            clauses.step(record, answer.is_err(), &views(after));
-            if let Some(transaction) = transaction(record) {
-                noted(&mut told, transaction).note(step, receiver(record), answer);
+    /// Of this week.
+    pub fn of(case: &Case) -> Self {
+        let (mut clauses, mut told) = (Clauses::new(), Vec::new());
+        let mut carried = (1..).zip(carried(&case.bytes));
+        let cluster = play(&case.bytes, |(record, answer), after| {
+            if let Some(record) = record {
+                clauses.step(record, answer.is_err(), &views(after));
+            }
+            let (step, carried) = carried.next().expect("each record is there");
+            if let Some(transaction) = &carried {
+                noted(&mut told, transaction).note(step, (record, answer));
             }
         });
+        let written = case.written().into_iter();
         Ended {
             cluster,
             committed: clauses.committed_numbers(),
             told,
+            lines: written.map(|entry| entry.line).collect(),
         }
     }
 
@@ -51,6 +63,14 @@ impl Ended {
     pub fn known(&self, shard: u8, told: &Told) -> Option<&Known> {
         let mut known = self.cluster.shards()[usize::from(shard)].known().iter();
         known.find(|known| known.transaction == told.transaction)
+    }
+
+    /// The transaction that the shard knows by this number.
+    pub fn numbered(&self, shard: u8, number: u32) -> &Told {
+        let mut told = self.told.iter();
+        let told = told
+            .find(|told| told.transaction.number == number && self.known(shard, told).is_some());
+        told.expect("the shard knows the number")
     }
 
     /// What its shards have decided, where they know it.
@@ -88,25 +108,27 @@ impl Ended {
 }
 
 impl Told {
-    /// Its shards, each once and in their order.
+    /// Its shards, each once and in their order; none where it could not be read.
     pub fn shards(&self) -> Vec<u8> {
-        let mut shards: Vec<u8> = self.transaction.shards().collect();
+        let shards = self.transaction.shards();
+        let mut shards: Vec<u8> = shards.filter(|_| self.is_read).collect();
         shards.sort();
         shards.dedup();
         shards
     }
 
-    fn note(&mut self, step: usize, shard: u8, answer: Answer) {
+    fn note(&mut self, step: usize, (record, answer): Played) {
+        self.is_read |= record.is_some();
         match answer {
             Ok(Done::Registered { .. } | Done::Brought { .. }) => self.registered = Some(step),
             Ok(_) => {}
-            Err(refusal) => self.refused.push((step, shard, refusal)),
+            Err(refusal) => self.refused.push((step, record.map(receiver), refusal)),
         }
     }
 }
 
-/// The place of the transaction among those named, behind the others where it is
-/// new: two are the same only if every field agrees.
+/// The transaction among those carried, behind the others where it is new: two are
+/// the same only if every field agrees.
 fn noted<'a>(told: &'a mut Vec<Told>, transaction: &Transaction) -> &'a mut Told {
     let mut places = told.iter();
     let place = places.position(|told| told.transaction == *transaction);
@@ -116,6 +138,7 @@ fn noted<'a>(told: &'a mut Vec<Told>, transaction: &Transaction) -> &'a mut Told
         told.push(Told {
             transaction: *transaction,
             name: name(number, 1 + same.count()),
+            is_read: false,
             registered: None,
             refused: Vec::new(),
         });
@@ -128,9 +151,6 @@ fn noted<'a>(told: &'a mut Vec<Told>, transaction: &Transaction) -> &'a mut Told
 fn name(number: u32, which: usize) -> String {
     match which {
         1 => format!("swap {number}"),
-        2 => format!("swap {number} (2nd)"),
-        3 => format!("swap {number} (3rd)"),
-        4..=20 => format!("swap {number} ({which}th)"),
-        _ => panic!("so many swaps of one number are no case here"),
+        _ => format!("swap {number}-{which}"),
     }
 }

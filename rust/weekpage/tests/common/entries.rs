@@ -28,11 +28,3 @@ pub fn steps(element: &Element) -> Vec<usize> {
     });
     steps.collect()
 }
-
-/// All numbers in a text.
-pub fn numbers(text: &str) -> Vec<u64> {
-    let parts = text.split(|sign: char| !sign.is_ascii_digit());
-    let numbers = parts.filter(|part| !part.is_empty());
-    let numbers = numbers.map(|part| part.parse().expect("digits are a number"));
-    numbers.collect()
-}

@@ -1,6 +1,6 @@
 //! A week's records on the reference, step by step.
 
-use reference::{Answer, Cluster, LIMITS, Record, Transaction, read};
+use reference::{Answer, Cluster, LIMITS, Record, read};
 
 /// A record that was read and played. One that could not be read has an answer
 /// and nothing else.
@@ -21,14 +21,4 @@ pub fn play(bytes: &[u8], mut show: impl FnMut(Played<'_>, &Cluster)) -> Cluster
         rest = &rest[reading.taken..];
     }
     cluster
-}
-
-/// The transaction that a record is about, if it is about one.
-pub fn transaction(record: &Record) -> Option<&Transaction> {
-    match record {
-        Record::Register { transaction, .. } | Record::Vote { transaction, .. } => {
-            Some(transaction)
-        }
-        Record::Mint { .. } | Record::Turn { .. } => None,
-    }
 }
