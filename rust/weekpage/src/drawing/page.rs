@@ -73,7 +73,8 @@ const READING: [&str; 2] = [
      the first no, and commits once it has heard a yes from every one.",
     "Time runs downward: each record of the week is a row. Each pantry has a lane, and what a \
      record does stands in the lane of the pantry that received it. Left of the lanes is the line \
-     of the listing, right of them the same in words.",
+     of the listing, right of them the same in words; of a refused record, what was written and why \
+     it was refused.",
 ];
 
 /// What the script adds, which shows this, too.
