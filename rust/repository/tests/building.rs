@@ -5,6 +5,7 @@ use std::fs;
 use std::os::unix::fs::symlink;
 use std::path::{Path, PathBuf};
 use std::process::{Command, Output};
+use std::sync::Mutex;
 
 use program::root;
 use repository::{empty_folder, put_script, told};
@@ -33,36 +34,54 @@ fn copy(name: &str, rt: &str) -> PathBuf {
     folder
 }
 
-/// `./list`, whose programs are the folder's.
-fn list(folder: &Path) -> Output {
+/// `./list` in such a folder. One at a time: a script that is being written cannot be
+/// run, and whoever starts another program may hold it open.
+fn made(name: &str, rt: &str, patience: &str) -> Output {
+    static ALONE: Mutex<()> = Mutex::new(());
+    let _alone = ALONE.lock();
+    list(&copy(name, rt), patience)
+}
+
+/// `./list`, whose programs are the folder's; it speaks of what takes longer than so
+/// many seconds.
+fn list(folder: &Path, patience: &str) -> Output {
     let path = std::env::var("PATH").expect("there is a PATH");
     let path = format!("{}:{path}", folder.join("bin").display());
-    let output = Command::new(folder.join("list")).env("PATH", path).output();
-    output.expect("the script starts")
+    let mut command = Command::new(folder.join("list"));
+    let command = command
+        .env("PATH", path)
+        .env("PLANKEEPER_PATIENCE", patience);
+    command.output().expect("the script starts")
 }
 
 /// A line for each crate that takes long, and none twice; one that is proved
 /// already is not spoken of.
 #[test]
 fn which_crate_of_how_many() {
-    let slow = "echo 'rt: a proved (unchanged since it was last proved)'; sleep 5
-                echo 'rt: b proved (5 s)'; sleep 3; echo 'rt: plankeeper proved (3 s)'";
-    let output = list(&copy("slow", slow));
-    let proving = "list: proving the listing program: crate";
-    let expected = format!("{proving} 2 of 3, b\n{proving} 3 of 3, plankeeper\n");
-    assert_eq!(told(&output), (Some(0), "TOTAL 0\n", expected.as_str()));
+    let slow = "echo 'rt: a proved (unchanged since it was last proved)'; sleep 3
+                echo 'rt: b proved (3 s)'; sleep 3; echo 'rt: plankeeper proved (3 s)'";
+    let output = made("slow", slow, "1");
+    let (status, text, message) = told(&output);
+    assert_eq!((status, text), (Some(0), "TOTAL 0\n"));
+    // What cargo builds may take long, too.
+    let proving: Vec<&str> = message
+        .lines()
+        .filter(|line| line.contains("proving"))
+        .collect();
+    let line = |end| format!("list: proving the listing program: crate {end}");
+    assert_eq!(proving, [line("2 of 3, b"), line("3 of 3, plankeeper")]);
 }
 
 #[test]
 fn what_does_not_take_long() {
-    let output = list(&copy("quick", "exit 0"));
+    let output = made("quick", "exit 0", "600");
     assert_eq!(told(&output), (Some(0), "TOTAL 0\n", ""));
 }
 
 /// What the command has said is shown where it fails.
 #[test]
 fn what_fails() {
-    let output = list(&copy("failing", "echo 'rt: b is not proved'; exit 1"));
+    let output = made("failing", "echo 'rt: b is not proved'; exit 1", "600");
     let expected = "rt: b is not proved\nlist: this failed: rt check plankeeper\n";
     assert_eq!(told(&output), (Some(1), "", expected));
 }

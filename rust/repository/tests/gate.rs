@@ -6,6 +6,7 @@ use std::env;
 use std::os::unix::fs::symlink;
 use std::path::{Path, PathBuf};
 use std::process::{Command, Output};
+use std::sync::{Mutex, MutexGuard};
 
 use program::root;
 use repository::{empty_folder, put_script, rust_version, told};
@@ -14,6 +15,15 @@ use repository::{empty_folder, put_script, rust_version, told};
 const COMMON: [&str; 9] = [
     "basename", "bash", "cat", "dirname", "env", "mktemp", "rm", "sed", "sort",
 ];
+
+/// One test at a time: a script that is being written cannot be run, and whoever
+/// starts another program may hold it open.
+fn alone() -> MutexGuard<'static, ()> {
+    static ALONE: Mutex<()> = Mutex::new(());
+    ALONE
+        .lock()
+        .unwrap_or_else(|poisoned| poisoned.into_inner())
+}
 
 /// A folder with these and nothing else.
 fn folder(name: &str) -> PathBuf {
@@ -44,6 +54,7 @@ fn no_cargo() -> String {
 
 #[test]
 fn all_that_is_missing_is_said_at_once() {
+    let _alone = alone();
     let compiler = "it comes with a C and C++ compiler with binutils";
     let expected = [
         "'rt' is not on the PATH; it comes with the Rattle kit".to_owned(),
@@ -63,6 +74,7 @@ fn all_that_is_missing_is_said_at_once() {
 /// With everything there it begins, with a kit that does nothing but say so.
 #[test]
 fn versions_of_cargo() {
+    let _alone = alone();
     let folder = folder("versions");
     for tool in ["cc", "c++", "nm"] {
         put_script(&folder.join(tool), "");
@@ -90,6 +102,7 @@ fn versions_of_cargo() {
 
 #[test]
 fn scripts_for_people() {
+    let _alone = alone();
     let folder = folder("people");
     for script in ["list", "show"] {
         let expected = format!("{script}: {}\n", no_cargo());
