@@ -65,7 +65,7 @@ pub(crate) fn others(html: &mut Markup, week: &Week) {
         "A pantry says no where a token that the swap takes there is not available: it is not \
          held, it has another household or other portions than the swap says, or it is pledged to \
          another swap. A swap whose records were all refused is known at no pantry; where none of \
-         them could be read, what it takes and gives is shown as it was written.",
+         them could be read, what it takes and gives is shown as text.",
     );
     let names = ["Swap", "Takes", "Gives", "Pantries", "Why"];
     table(html, "swaps", &names, &places, |html, _, &place| {

@@ -73,8 +73,8 @@ const READING: [&str; 2] = [
      the first no, and commits once it has heard a yes from every one.",
     "Time runs downward: each record of the week is a row. Each pantry has a lane, and what a \
      record does stands in the lane of the pantry that received it. Left of the lanes is the line \
-     of the listing, right of them the same in words; of a refused record, what was written and why \
-     it was refused.",
+     of the listing, right of them the same in words; of a refused record, its text and why it was \
+     refused.",
 ];
 
 /// What the script adds, which shows this, too.
@@ -82,8 +82,8 @@ const CHOOSING: &str = "Choose a swap, with the mouse or the keyboard, and its r
     all lanes; Escape ends that.";
 
 const FOOTER: &str = "The lines are those of the proved listing program. Tokens, votes, outcomes \
-    and findings are what the proved library answers. A refused record is shown as it was \
-    written. This page draws all that and decides nothing.";
+    and findings are what the proved library answers. A refused record is shown by its text. This \
+    page draws all that and decides nothing.";
 
 /// What is shown while a swap is chosen; the script fills it in.
 fn bar(html: &mut Markup) {
