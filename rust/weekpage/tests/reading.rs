@@ -192,11 +192,7 @@ fn many_swaps_of_one_number() {
         text += &format!("register s{household} at 0\n");
     }
     let week = read(&(text + "register s3 at 0\nregister s1 at 0\n"));
-    let names: Vec<&str> = week
-        .histories
-        .iter()
-        .map(|told| told.name.as_str())
-        .collect();
+    let names: Vec<&str> = week.histories.iter().map(|told| told.name()).collect();
     assert_eq!(names.len(), 124);
     assert_eq!(names[..3], ["7", "7-2", "7-3"]);
     assert_eq!(names[123], "7-124");
@@ -229,11 +225,7 @@ fn two_swaps_of_one_number() {
          give pantry 4 household 41 portions 1\n\
          register far at 4\nregister 7 at 0\nregister far at 0\n",
     );
-    let names: Vec<&str> = week
-        .histories
-        .iter()
-        .map(|told| told.name.as_str())
-        .collect();
+    let names: Vec<&str> = week.histories.iter().map(|told| told.name()).collect();
     assert_eq!(names, ["7", "7-2"]);
     assert_eq!(week.known(4, 7), Some(0));
     assert_eq!(week.known(0, 7), Some(1));

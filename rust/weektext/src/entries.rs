@@ -28,6 +28,9 @@ pub struct Entry {
 pub struct Carried {
     /// Its number.
     pub number: u32,
+    /// What the week's records name it by: its number, and behind it which one of
+    /// that number it is where it is not the first.
+    pub label: String,
     /// The 98 bytes of its fields: two swaps are the same only if these agree.
     pub fields: [u8; 98],
     /// A line for each token that it takes, in the words of a week's text.
@@ -66,7 +69,10 @@ fn written(bytes: &[u8], starts: &Starts) -> Vec<Entry> {
                 Some(record) => labels.record(record),
                 None => strange(left),
             },
-            swap: record.as_ref().and_then(carried).map(Carried::of),
+            swap: record
+                .as_ref()
+                .and_then(carried)
+                .map(|swap| Carried::of(swap, labels.label(swap))),
         });
         left = match record {
             Some(_) => rest(left),
@@ -87,7 +93,7 @@ fn strange(bytes: &[u8]) -> String {
 }
 
 impl Carried {
-    fn of(transaction: &Transaction) -> Self {
+    fn of(transaction: &Transaction, label: &str) -> Self {
         let Fields {
             counts,
             takes,
@@ -95,6 +101,7 @@ impl Carried {
         } = Fields::of(transaction);
         Carried {
             number: transaction.number,
+            label: label.to_owned(),
             fields: body(transaction),
             takes,
             gives,

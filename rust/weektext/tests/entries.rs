@@ -139,6 +139,7 @@ fn every_kind_of_record() {
     let swap = |place: usize| found[place].swap.as_ref();
     let expected = Carried {
         number: 8,
+        label: "8".into(),
         fields: first.try_into().expect("these are 98 bytes"),
         takes: vec![
             "take pantry 0 opening 3 household 9 portions 4".into(),
@@ -151,6 +152,7 @@ fn every_kind_of_record() {
     assert_eq!((swap(3), swap(4)), (Some(&expected), Some(&expected)));
     let expected = Carried {
         number: 8,
+        label: "8-2".into(),
         fields: other.try_into().expect("these are 98 bytes"),
         takes: vec!["take pantry 0 opening 3 household 9 portions 4".into()],
         gives: vec!["give pantry 1 household 9 portions 4".into()],

@@ -56,7 +56,7 @@ pub(crate) fn row(svg: &mut Markup, week: &Week, row: &Row) {
 
 /// The transaction's name.
 fn name<'a>(week: &'a Week, row: &Row) -> &'a str {
-    row.about.map_or("", |place| &week.histories[place].name)
+    row.about.map_or("", |place| week.histories[place].name())
 }
 
 fn opening(svg: &mut Markup, row: &Row, x: i32, amount: u32) {

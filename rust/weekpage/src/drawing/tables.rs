@@ -53,7 +53,7 @@ pub(crate) fn swap_id(place: usize) -> usize {
 /// A transaction by its name, to be chosen; it leads to its entry.
 pub(crate) fn swap(html: &mut Markup, week: &Week, place: Option<usize>) {
     if let Some(history) = place.map(|place| &week.histories[place]) {
-        link(html, place, &format!("swap {}", history.name));
+        link(html, place, &format!("swap {}", history.name()));
     }
 }
 

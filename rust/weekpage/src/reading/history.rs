@@ -16,10 +16,6 @@ pub struct History {
     /// It as the library has read it; nothing where no record that carries it
     /// could be read.
     pub transaction: Option<Transaction>,
-    /// Its label in a week's text: its number, and behind it which one of that
-    /// number it is where it is not the first. Two transactions are the same only
-    /// if every field agrees.
-    pub name: String,
     /// The step of its last registration, by a call of its own or by a vote.
     pub registered: Option<usize>,
     /// The records about it that were refused, in their order.
@@ -66,6 +62,12 @@ impl History {
     /// Its number.
     pub fn number(&self) -> u32 {
         self.carried.number
+    }
+
+    /// Its label in a week's text. Two transactions are the same only if every
+    /// field agrees, so there may be more than one of a number.
+    pub fn name(&self) -> &str {
+        &self.carried.label
     }
 
     /// How it has ended.
@@ -117,8 +119,6 @@ pub(super) struct Gathered {
     histories: Vec<History>,
     /// Their places by the bytes of their fields.
     places: HashMap<[u8; 98], usize>,
-    /// How many there are of a number.
-    numbered: HashMap<u32, usize>,
 }
 
 impl Gathered {
@@ -152,10 +152,7 @@ impl Gathered {
 
     fn place(&mut self, carried: Carried) -> usize {
         *self.places.entry(carried.fields).or_insert_with(|| {
-            let count = self.numbered.entry(carried.number).or_default();
-            *count += 1;
             self.histories.push(History {
-                name: name(carried.number, *count),
                 carried,
                 transaction: None,
                 registered: None,
@@ -189,15 +186,6 @@ pub(super) fn numbered(histories: &[History]) -> HashMap<(u8, u32), usize> {
         known.map(move |at| ((at.shard, history.number()), place))
     });
     known.collect()
-}
-
-/// The label of a transaction, the first of its number or another one, as weeks'
-/// texts have it.
-fn name(number: u32, count: usize) -> String {
-    match count {
-        1 => number.to_string(),
-        _ => format!("{number}-{count}"),
-    }
 }
 
 /// The shards of its inputs and outputs, in their order.
