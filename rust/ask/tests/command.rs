@@ -4,7 +4,7 @@ use std::fs;
 use std::path::PathBuf;
 use std::process::{Child, Command, Output, Stdio};
 
-use program::{fed, full_device};
+use program::{fed, full_device, told};
 
 fn started(arguments: &[&str], stdout: Stdio) -> Child {
     let mut command = Command::new(env!("CARGO_BIN_EXE_ask"));
@@ -16,13 +16,6 @@ fn started(arguments: &[&str], stdout: Stdio) -> Child {
 /// Runs the command with these bytes as its standard input.
 fn run(arguments: &[&str], input: &[u8]) -> Output {
     fed(started(arguments, Stdio::piped()), input)
-}
-
-/// Its exit status, what it prints and what it says.
-fn told(output: &Output) -> (Option<i32>, &str, &str) {
-    let text = str::from_utf8(&output.stdout).expect("it prints ASCII");
-    let message = str::from_utf8(&output.stderr).expect("messages are UTF-8");
-    (output.status.code(), text, message)
 }
 
 /// Pantry 0 votes no on swap 8, which takes a token that nobody has given. Swap 9

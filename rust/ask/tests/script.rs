@@ -2,36 +2,20 @@
 
 use std::fs;
 use std::path::{Path, PathBuf};
-use std::process::{Command, Output, Stdio};
-use std::sync::Mutex;
+use std::process::Output;
 
 use ask::QUESTIONS;
-use program::{example, fed, root};
-
-/// What it builds is built by one at a time.
-static BUILDING: Mutex<()> = Mutex::new(());
+use program::{example, root, script, told};
 
 /// `./ask` with these arguments, in a folder of the tests' own.
 fn ask(arguments: &[&str], input: &[u8]) -> Output {
-    let _alone = BUILDING.lock();
-    let mut command = Command::new(root().join("ask"));
-    command.args(arguments).current_dir(folder());
-    command.stdin(Stdio::piped());
-    command.stdout(Stdio::piped()).stderr(Stdio::piped());
-    fed(command.spawn().expect("the script starts"), input)
+    script("ask", &folder(), arguments, input)
 }
 
 fn folder() -> PathBuf {
     let folder = Path::new(env!("CARGO_TARGET_TMPDIR")).join("ask");
     fs::create_dir_all(&folder).expect("there is room for the weeks");
     folder
-}
-
-/// Its exit status, what it prints and what it says.
-fn told(output: &Output) -> (Option<i32>, &str, &str) {
-    let text = str::from_utf8(&output.stdout).expect("it prints ASCII");
-    let message = str::from_utf8(&output.stderr).expect("messages are UTF-8");
-    (output.status.code(), text, message)
 }
 
 /// Help has a line for each question, the command's own.

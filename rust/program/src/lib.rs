@@ -8,6 +8,7 @@
 mod inputs;
 mod listed;
 mod process;
+mod scripts;
 mod weeks;
 
 pub use inputs::{DAMAGES, Input, encode_all, input};
@@ -16,6 +17,7 @@ pub use process::{
     CHUNKS, PATIENCE, ends_by_closed_pipe, fed, full_device, list, list_split, output, program,
     root, spawn, stdin, wait, wait_until_asleep, write_parts,
 };
+pub use scripts::{script, told};
 pub use weeks::{Week, example, votes_again, week_files, weeks};
 
 use weektext::text;

@@ -1,21 +1,12 @@
 //! `./list` as far as it builds nothing: arguments, messages, exit status.
 
-use std::process::{Command, Output, Stdio};
+use std::process::Output;
 
-use program::root;
+use program::{root, script, told};
 
 /// `./list` with these arguments, which has nothing to build for them.
 fn list(arguments: &[&str]) -> Output {
-    let mut command = Command::new(root().join("list"));
-    let output = command.args(arguments).stdin(Stdio::null()).output();
-    output.expect("the script starts")
-}
-
-/// Its exit status, what it prints and what it says.
-fn told(output: &Output) -> (Option<i32>, &str, &str) {
-    let text = str::from_utf8(&output.stdout).expect("it prints ASCII");
-    let message = str::from_utf8(&output.stderr).expect("messages are UTF-8");
-    (output.status.code(), text, message)
+    script("list", root(), arguments, b"")
 }
 
 #[test]

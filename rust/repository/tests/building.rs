@@ -7,8 +7,8 @@ use std::path::{Path, PathBuf};
 use std::process::{Command, Output};
 use std::sync::Mutex;
 
-use program::root;
-use repository::{empty_folder, put_script, told};
+use program::{root, told};
+use repository::{empty_folder, put_script};
 
 /// A folder with the scripts, the list of crates, and these programs on the PATH.
 fn copy(name: &str, rt: &str) -> PathBuf {

@@ -8,8 +8,8 @@ use std::path::{Path, PathBuf};
 use std::process::{Command, Output};
 use std::sync::{Mutex, MutexGuard};
 
-use program::root;
-use repository::{empty_folder, put_script, rust_version, told};
+use program::{root, told};
+use repository::{empty_folder, put_script, rust_version};
 
 /// What the scripts find of the system.
 const COMMON: [&str; 9] = [

@@ -9,7 +9,7 @@ use std::path::PathBuf;
 use std::process::{Child, Command, Output, Stdio};
 
 use by_hand::by_hand;
-use program::full_device;
+use program::{full_device, told};
 use weekpage::{Week, page, picture};
 use weektext::{entries, entries_of_text};
 
@@ -27,13 +27,6 @@ fn command(arguments: &[&str]) -> Command {
 
 fn run(arguments: &[&str]) -> Output {
     command(arguments).output().expect("the command starts")
-}
-
-/// Its exit status, what it prints and what it says.
-fn told(output: &Output) -> (Option<i32>, &str, &str) {
-    let text = str::from_utf8(&output.stdout).expect("it prints UTF-8");
-    let message = str::from_utf8(&output.stderr).expect("messages are UTF-8");
-    (output.status.code(), text, message)
 }
 
 /// A file with this in it; the tests run side by side, so each has its own.

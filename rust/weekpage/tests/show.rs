@@ -2,37 +2,21 @@
 
 use std::fs;
 use std::path::{Path, PathBuf};
-use std::process::{Command, Output, Stdio};
-use std::sync::Mutex;
+use std::process::Output;
 
-use program::{fed, root, weeks};
+use program::{root, script, told, weeks};
 use weekpage::{Week, page};
 use weektext::{entries, entries_of_text};
 
-/// What it builds is built by one at a time.
-static BUILDING: Mutex<()> = Mutex::new(());
-
 /// `./show` with these arguments, in a folder of the tests' own.
 fn show(arguments: &[&str], input: &[u8]) -> Output {
-    let _alone = BUILDING.lock();
-    let mut command = Command::new(root().join("show"));
-    command.args(arguments).current_dir(folder());
-    command.stdin(Stdio::piped());
-    command.stdout(Stdio::piped()).stderr(Stdio::piped());
-    fed(command.spawn().expect("the script starts"), input)
+    script("show", &folder(), arguments, input)
 }
 
 fn folder() -> PathBuf {
     let folder = Path::new(env!("CARGO_TARGET_TMPDIR")).join("show");
     fs::create_dir_all(&folder).expect("there is room for the pages");
     folder
-}
-
-/// Its exit status, what it prints and what it says.
-fn told(output: &Output) -> (Option<i32>, &str, &str) {
-    let text = str::from_utf8(&output.stdout).expect("it prints UTF-8");
-    let message = str::from_utf8(&output.stderr).expect("messages are UTF-8");
-    (output.status.code(), text, message)
 }
 
 #[test]
