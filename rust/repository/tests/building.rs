@@ -13,19 +13,16 @@ use repository::{empty_folder, put_script};
 /// A folder with the scripts, the list of crates, and these programs on the PATH.
 fn copy(name: &str, rt: &str) -> PathBuf {
     let folder = empty_folder(env!("CARGO_TARGET_TMPDIR"), name);
-    let made = ["bin", "rust/target/release", "target/bin", "crates"].map(|part| folder.join(part));
+    let made = ["bin", "rust/target/release", "target/bin"].map(|part| folder.join(part));
     for part in made {
         fs::create_dir_all(part).expect("there is room for a folder");
     }
     for part in ["tools", "weeks", "list"] {
         symlink(root().join(part), folder.join(part)).expect("it can be linked");
     }
-    for part in ["a", "b", "plankeeper"] {
-        fs::create_dir(folder.join("crates").join(part)).expect("there is room for a folder");
-    }
     let manifest = "rust/Cargo.toml";
     fs::copy(root().join(manifest), folder.join(manifest)).expect("it can be copied");
-    let listed = "# comment\na:\nb: a\nplankeeper: a b io libc\n";
+    let listed = "# comment\na:\nother: a\nb: a\nplankeeper: b a io libc\n";
     fs::write(folder.join("crates.txt"), listed).expect("it can be written");
     put_script(&folder.join("bin/rt"), rt);
     put_script(&folder.join("bin/cargo"), "echo 'cargo 2.0.0'");
