@@ -1,4 +1,6 @@
 // Eight shards (document 01: a round of eight pantries), in place: each call is lent the cluster's words and lends one shard's on.
+#![tactic(auto)]
+
 ghost use Rattle.std.specs.Prelude.{◌≡◌, ◌<◌};
 ghost use Rattle.model.specs.Shard.{mint, register, deliver, turn};
 ghost use Rattle.cluster.specs.View.{Sound, Fresh, Steps};

@@ -1,5 +1,7 @@
 // Reader and writers together: a record read writes back as the same bytes,
 // a record written reads back as the same fields.
+#![tactic(auto)]
+
 ghost use Rattle.std.specs.Prelude.{◌≡◌, length};
 ghost use Rattle.writer.specs.Writing.{Writes};
 ghost use Rattle.codec.specs.Records.{record_bytes, record_cause, read_back, Copies};

@@ -43,6 +43,7 @@
 // Refusals have the numbers of document 01's table, and those that document 02 adds to it. Document 01 calls a shard a pantry, a cluster
 // a round, a transaction a swap, an owner a household, an amount portions, a genesis token an opening, and a token's creator and index
 // its making swap and its position.
+#![tactic(auto)]
 
 pub mod words; // a transaction as 35 words, both ways; internal, and public only because the crate `probes` uses it
 mod codes; // an answer as a number

@@ -1,5 +1,7 @@
 // The tokens that a shard holds, and what a registration and a decision do to them, in place: document 01, 'The steps'.
 // Internal: the crate `shard` calls it.
+#![tactic(auto)]
+
 use transaction::Input;
 
 pub mod availability; // the inputs at a shard, and the available ones among them
@@ -10,7 +12,7 @@ pub mod committing; // tokens destroyed and made
 pub mod freeing; // tokens that come free
 
 // Up to four inputs, in order.
-#[derive(Drop)]
+#[derive(Clone, Copy)]
 pub struct Inputs {
     pub count: usize,
     pub list: [Input; 4],

@@ -1,6 +1,8 @@
 // A shard (document 01: a pantry) as one array of words that its caller owns, and what stands where in it. Above this
 // crate nothing speaks of single words. The names here are those of specs/Layout.antt. Internal: a caller holds the
 // words, and the calls of `shard` and `cluster` alone change them.
+#![tactic(auto)]
+
 pub mod counts; // the number, the counts, the flags, and an empty shard
 pub mod tokens; // the tokens held
 pub mod entries; // the known transactions, read

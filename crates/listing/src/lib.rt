@@ -1,4 +1,6 @@
 // The listing: document 01, 'The listing program'. Each line's bytes and the total; the program only reads and prints.
+#![tactic(auto)]
+
 ghost use Rattle.std.specs.Prelude.{◌≡◌, ◌+◌, ◌≤◌, length};
 ghost use Rattle.reader.specs.Reading.{number_of};
 ghost use Rattle.cluster.specs.View.{view, Sound};
@@ -17,7 +19,7 @@ mod words; // words stored into lent bytes
 mod lines; // whole lines
 
 // The place behind a step's line, the bytes taken from the front, and whether reading ends.
-#[derive(Drop)]
+#[derive(Clone, Copy)]
 pub struct Listed {
     pub at: usize,
     pub taken: usize,
@@ -25,7 +27,7 @@ pub struct Listed {
 }
 
 // The number of the next step, the bytes taken, the bytes of text, and whether reading ends.
-#[derive(Drop)]
+#[derive(Clone, Copy)]
 pub struct Progress {
     pub number: u64,
     pub taken: usize,

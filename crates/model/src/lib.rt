@@ -1,11 +1,12 @@
 // What a shard stores and what a call answers: the plain types that the reference model and the code share.
 // The model itself is in specs/ (specs/Lib.antt says where to start), and what is proved of it in proofs/.
+#![tactic(auto)]
 
 use transaction::Transaction;
 
 // A held token: its creator (making swap) and index (position), its owner (household) and amount (portions),
 // and the number of the transaction that it is pledged to, 0 for none. Its shard is the one that holds it.
-#[derive(Drop)]
+#[derive(Clone, Copy)]
 pub struct Token {
     pub creator: u32,
     pub index: u8,
@@ -17,7 +18,7 @@ pub struct Token {
 // What a shard finds about an input at its registration (document 02, 2): it is available; no token of its creator and
 // index is held; the token has another owner (household); it has another amount (portions); it is pledged to the
 // transaction of that number. The first that fits.
-#[derive(Drop)]
+#[derive(Clone, Copy)]
 pub enum Finding {
     Available,
     NotHeld,
@@ -27,21 +28,21 @@ pub enum Finding {
 }
 
 // A finding as it is kept.
-#[derive(Drop)]
+#[derive(Clone, Copy)]
 pub struct Found {
     pub finding: Finding,
 }
 
 // A known transaction with the verdicts heard, by sender: 0 not heard, 1 no, 2 yes; and with what was found at its
 // registration about its inputs at this shard, in input order: as many findings as there are such inputs.
-#[derive(Drop)]
+#[derive(Clone, Copy)]
 pub struct Known {
     pub transaction: Transaction,
     pub heard: [u8; 8],
     pub findings: [Found; 4],
 }
 
-#[derive(Drop)]
+#[derive(Clone, Copy)]
 pub enum Outcome {
     Wait,
     Commit,
@@ -51,7 +52,7 @@ pub enum Outcome {
 // What a call answers: refused with the table's number; a genesis token given (opened); a registration with the
 // own verdict and the outcome here; a fresh vote and a repeated one with the outcome here; a shard turned; a vote that
 // brought its transaction, with the own verdict and the outcome here after both.
-#[derive(Drop)]
+#[derive(Clone, Copy)]
 pub enum Answer {
     Refused(u8),
     Minted,
@@ -63,14 +64,14 @@ pub enum Answer {
 }
 
 // What the call for the findings answers: refused with the table's number, or so many findings.
-#[derive(Drop)]
+#[derive(Clone, Copy)]
 pub enum Told {
     Refused(u8),
     Findings(u8),
 }
 
 // The answer, with the findings beside it.
-#[derive(Drop)]
+#[derive(Clone, Copy)]
 pub struct Report {
     pub answer: Told,
     pub findings: [Found; 4],

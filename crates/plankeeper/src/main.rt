@@ -1,5 +1,7 @@
 // Lists a week of records from standard input: document 01, 'The listing program'. The library gives each line's bytes
 // and the total.
+#![tactic(auto)]
+
 ghost use Rattle.std.specs.Prelude.{◌≡◌, ◌+◌, ◌-◌, ◌≤◌, ◌<◌, length, take, drop};
 ghost use Rattle.cluster.specs.View.{Sound};
 ghost use Rattle.listing.specs.Buffers.{ListsAll};
@@ -11,7 +13,7 @@ use listing::{Progress, list_records};
 
 // The unread bytes of the buffer. A record is 102 bytes long at most: so many are wanted before one is handed over, and
 // none at the end of the input.
-#[derive(Drop)]
+#[derive(Clone, Copy)]
 struct Unread {
     at: usize,
     end: usize,
@@ -19,7 +21,7 @@ struct Unread {
 }
 
 // How many bytes wait to be printed, and whether every write succeeded.
-#[derive(Drop)]
+#[derive(Clone, Copy)]
 struct Waiting {
     used: usize,
     well: bool,

@@ -1,6 +1,8 @@
 // The record reader: document 01, 'Records'. Any bytes whatever get an answer.
 // The interface: the types, `read` and `rest`.
 // Internal, and public only because the crate `engine` is made of them: `head_cause`, and what is public of `layout` and `bodies`.
+#![tactic(auto)]
+
 ghost use Rattle.std.specs.Prelude.{◌≡◌};
 ghost use Rattle.reader.specs.Reading.{Reads, head_cause, taken_of, rest_of};
 ghost use Rattle.reader.specs.Layout.{body_length};
@@ -11,7 +13,7 @@ pub mod layout; // fields at their places
 pub mod bodies; // what `read` is made of
 
 // The fields of a record beside its transaction, as they stand in the bytes.
-#[derive(Drop)]
+#[derive(Clone, Copy)]
 pub enum Record {
     // kind 1: the receiving shard (document 01: the receiving pantry)
     Register {
@@ -37,14 +39,14 @@ pub enum Record {
 }
 
 // What was read, or the number of the refusal.
-#[derive(Drop)]
+#[derive(Clone, Copy)]
 pub enum Answer {
     Read(Record),
     Refused(u8),
 }
 
 // The answer with the transaction's fields beside it, and the bytes taken from the front.
-#[derive(Drop)]
+#[derive(Clone, Copy)]
 pub struct Reading {
     pub answer: Answer,
     pub transaction: Transaction,

@@ -1,5 +1,7 @@
 // The transactions that a shard knows, the verdicts heard on them, and the decisions, in place: document 01, 'The
 // steps'. Internal: the crate `shard` calls it.
+#![tactic(auto)]
+
 pub mod awaiting; // inputs that await an undecided transaction
 pub mod counting; // inputs here of a known transaction
 pub mod deciding; // the decision from the verdicts heard

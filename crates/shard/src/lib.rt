@@ -2,6 +2,8 @@
 // The interface: `new`, `mint_token`, `register_transaction`, `hear_vote`, `turn_shard`, `has_given_vote`, all of `queries`, and
 // `reporting::findings_of`. Internal, and public only because the crate `cluster` calls them: `hear_formed`,
 // `refusals::deliver_form` and `reporting::refused`.
+#![tactic(auto)]
+
 ghost use Rattle.std.specs.Prelude.{◌≡◌, true, false};
 ghost use Rattle.transaction.specs.Lists.{first_of};
 ghost use Rattle.model.specs.Lists.{find};

@@ -13,7 +13,7 @@ use model::Found;
 use transaction::Transaction;
 
 // What the shard keeps of it with the transaction: its own vote, and what it found about each input here (document 02, 2).
-#[derive(Drop)]
+#[derive(Clone, Copy)]
 pub struct Own {
     pub verdict: bool,
     pub findings: [Found; 4],

@@ -10,13 +10,13 @@ use model::{Known, Outcome, Token};
 use registry::deciding;
 use registry::finding::place_of_number;
 
-#[derive(Drop)]
+#[derive(Clone, Copy)]
 pub enum HeldToken {
     Held(Token),
     NotHeld,
 }
 
-#[derive(Drop)]
+#[derive(Clone, Copy)]
 pub enum KnownOutcome {
     Known(Outcome),
     Unknown,

@@ -2,6 +2,7 @@
 // Fields are raw: every value can be handed in, and the checks say what is wrong with it.
 // The interface: the types; `checks::cause`, `register_cause`, `vote_cause`, `mint_cause` and `turn_cause`; `equality::same_transaction`; all of `parts`.
 // Internal, and public only because the crates `reader` and `engine` are made of them: `fields`, and the rest of `checks`.
+#![tactic(auto)]
 
 pub mod equality; // every field agrees
 pub mod fields; // check 3
@@ -10,7 +11,7 @@ pub mod parts; // the used slots, and the shards that take part
 
 // A token's id (document 01: a token's name): the shard (pantry) that holds it, the number of the
 // transaction that made it (0 for a genesis token), and its index (position).
-#[derive(Drop)]
+#[derive(Clone, Copy)]
 pub struct TokenId {
     pub shard: u8,
     pub creator: u32,
@@ -18,7 +19,7 @@ pub struct TokenId {
 }
 
 // The token that a transaction destroys, with its owner (household) and amount (portions).
-#[derive(Drop)]
+#[derive(Clone, Copy)]
 pub struct Input {
     pub token: TokenId,
     pub owner: u32,
@@ -26,7 +27,7 @@ pub struct Input {
 }
 
 // A token that a transaction makes; its index is its place among all outputs.
-#[derive(Drop)]
+#[derive(Clone, Copy)]
 pub struct Output {
     pub shard: u8,
     pub owner: u32,
@@ -34,7 +35,7 @@ pub struct Output {
 }
 
 // A transaction (document 01: a swap). The counts say how many slots are used.
-#[derive(Drop)]
+#[derive(Clone, Copy)]
 pub struct Transaction {
     pub number: u32,
     pub input_count: u8,

@@ -6,13 +6,13 @@ ghost use Rattle.transaction.specs.Tokens.{input_shard, output_shard, takes_part
 use crate::{Input, Output, TokenId, Transaction};
 
 // The used input at a place, if there is one.
-#[derive(Drop)]
+#[derive(Clone, Copy)]
 pub enum InputAt {
     Used(Input),
     Unused,
 }
 
-#[derive(Drop)]
+#[derive(Clone, Copy)]
 pub enum OutputAt {
     Used(Output),
     Unused,

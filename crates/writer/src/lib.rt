@@ -1,4 +1,6 @@
 // The record writers: document 01, 'Records'. A refused record leaves every lent byte as it was.
+#![tactic(auto)]
+
 ghost use Rattle.std.specs.Prelude.{length};
 ghost use Rattle.writer.specs.Layout.{register_bytes, vote_bytes, mint_bytes, turn_bytes};
 ghost use Rattle.writer.specs.Writing.{Writes, register_cause, vote_cause, mint_cause, turn_cause};
@@ -9,7 +11,7 @@ mod layout; // fields at their places
 mod room; // the checks, with 15 behind the others
 
 // The bytes written, or the number of the refusal.
-#[derive(Drop)]
+#[derive(Clone, Copy)]
 pub enum Written {
     Bytes(usize),
     Refused(u8),
