@@ -215,6 +215,7 @@ never_answers n z (row ∷ rows) h e =
 
 -- an element of a list all of which pass
 pub all-at : {A : Type 0} (f : A → Bool) (l : List A) → all f l ≡ true → (x : A) → Memᴰ x l → f x ≡ true
+all-at {A = A} f [] e x x4 = elim x4 [ ]
 all-at f (y ∷ l) e x (Memᴰ.head p) = ap f p ∙ (both (f y) (all f l) e).0
 all-at f (y ∷ l) e x (Memᴰ.tail m) = all-at f l (both (f y) (all f l) e).1 x m
 
@@ -240,7 +241,8 @@ any_at {A} f (y ∷ l) e = go (f y) refl (any_at f l)
         (r.0, Memᴰ.tail r.1, r.2)
 
 -- an element that passes
-pub any_of : {A : Type 0} (f : A → Bool) {l : List A} {x : A} → Memᴰ x l → f x ≡ true → any f l ≡ true
+pub any_of : {A : Type 0} (f : A → Bool) {x : A} {l : List A} → Memᴰ x l → f x ≡ true → any f l ≡ true
+any_of {A = A} f {l = []} x6 e = elim x6 [ ]
 any_of f {l = y ∷ l} (Memᴰ.head p) e = subst (λ (b : Bool). b || any f l ≡ true) (sym e ∙ ap f p) refl
 any_of f {l = y ∷ l} (Memᴰ.tail m) e = go (f y) (any_of f m e)
   where
@@ -258,6 +260,7 @@ any-no f l h = not_yes (λ e. let r = any_at f l e in h r.0 r.1 r.2)
 
 -- an element that passes is kept
 pub keep_in : {A : Type 0} (f : A → Bool) (l : List A) {x : A} → Memᴰ x l → f x ≡ true → Memᴰ x (keep f l)
+keep_in {A = A} f [] {x = x} x4 e = elim x4 [ ]
 keep_in f (y ∷ l) {x} (Memᴰ.head p) e = subst (λ (b : Bool). Memᴰ x (cond b (y ∷ keep f l) (keep f l))) (sym e ∙ ap f p) (Memᴰ.head p)
 keep_in f (y ∷ l) {x} (Memᴰ.tail m) e = go (f y) (keep_in f l m e)
   where
@@ -341,7 +344,8 @@ get_or-same (suc n) a zero = refl
 get_or-same (suc n) a (suc i) = get_or-same n a i
 
 -- an element of a list stands at a place of it, and what stands at a place is an element
-pub place_of : {A : Type 0} (d : A) {l : List A} {a : A} → Memᴰ a l → (p : ℕ) × (p < length l) × (get_or l p d ≡ a)
+pub place_of : {A : Type 0} (d : A) {a : A} {l : List A} → Memᴰ a l → (p : ℕ) × (p < length l) × (get_or l p d ≡ a)
+place_of {A = A} d {a = a} {l = []} x'' = elim x'' [ ]
 place_of d {l = y ∷ l} (Memᴰ.head e) = (0, omega arith, sym e)
 place_of d {l = y ∷ l} (Memᴰ.tail m) = let r = place_of d m in let h : r.0 < length l = r.1 in (suc r.0, omega arith, r.2)
 

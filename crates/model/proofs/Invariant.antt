@@ -206,6 +206,7 @@ pub record Ok (limits : Limits) (log : List Entry) (p : ℕ) (genesis : ℕ → 
 -- an input that was found available has a source
 pub sources-at : (p : ℕ) (genesis : ℕ → ℕ → Option Value) (known : List Known) (log : List Entry) (x : Input) → Sources p genesis known log
     → (r : Entry) → Memᴰ r log → r.shard ≡ p → Memᴰ x r.available → (older : List Entry) × Source p genesis known older x
+sources-at p genesis known [] x src r x6 at a = elim x6 [ ]
 sources-at p genesis known (r₀ ∷ older) x src r (Memᴰ.head e) at a =
     (older, src.0 (ap (λ (c : Entry). c.shard) (sym e) ∙ at) x (subst (λ (c : Entry). Memᴰ x c.available) e a))
 sources-at p genesis known (r₀ ∷ older) x src r (Memᴰ.tail d) at a = sources-at p genesis known older x src.1 r d at a

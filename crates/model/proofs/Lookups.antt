@@ -148,6 +148,7 @@ module _ {A : Type 0} where
   -- an element of such a list is the one that a lookup by it finds
   pub alone-lookup : (like : A → A → Bool) → ((x : A) → like x x ≡ true) → ((x y : A) → like x y ≡ true → like y x ≡ true)
       → (l : List A) → Alone like l → {x : A} → Memᴰ x l → lookup (like x) l ≡ some x
+  alone-lookup like self turn [] s {x = x} x4 = elim x4 [ ]
   alone-lookup like self turn (y ∷ l) s {x} (Memᴰ.head e) =
       ap (λ (z : A). lookup (like z) (y ∷ l)) e ∙ ap (λ (c : Bool). cond c (some y) (lookup (like y) l)) (self y) ∙ ap some (sym e)
   alone-lookup like self turn (y ∷ l) s {x} (Memᴰ.tail m) =
