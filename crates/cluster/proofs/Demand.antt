@@ -19,7 +19,7 @@ use Rattle.model.specs.Shard.{Call, mint, register, deliver, turn}
 use Rattle.model.specs.Findings.{reported, TrueFindings}
 use Rattle.model.proofs.Bridge.{Engine, Run, RunDemand, run_demand_3, run_never_eleven, run_sound, run_true_findings}
 use Rattle.cluster.specs.View.{view, Sound, Fresh, Steps}
-use Rattle.cluster.proofs.References.{Place, refers}
+use Rattle.cluster.proofs.References.{Place, refers, reads}
 use Rattle.cluster.proofs.new.Reads as new
 use Rattle.cluster.proofs.mint_token.Reads as mint-token
 use Rattle.cluster.proofs.register_transaction.Reads as register-transaction
@@ -104,8 +104,8 @@ never_eleven c₀ starts run = run_never_eleven (code c₀ starts) run
 -- `findings_of`, lent this cluster and handed a shard and a number, may have returned this report
 pub record Reports (c : Cluster) (p number : ℕ) (r : Report) : Type 0 where
   pub at : Lent
-  pub kept : findings-of.Asked at.lifetimes (refers at.place c, (p, (number, tt)))
-      → findings-of.Learnt at.lifetimes (refers at.place c, (p, (number, tt))) r (refers at.place c, (p, (number, tt)))
+  pub kept : findings-of.Asked at.lifetimes (reads at.place c, (p, (number, tt)))
+      → findings-of.Learnt at.lifetimes (reads at.place c, (p, (number, tt))) r (reads at.place c, (p, (number, tt)))
 
 -- THEOREM: each finding that it reports, after every such run, is the true state of that token at that registration (document 02, 2)
 pub true_findings : (c₀ : Cluster) (starts : Starts c₀) {c : Cluster} {calls : List Call} {replies : List Answer}

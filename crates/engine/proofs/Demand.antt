@@ -43,7 +43,7 @@ use Rattle.model.proofs.TrueFindings.{true_findings, reported-count}
 use Rattle.model.proofs.Bridge as bridge
 use Rattle.model.proofs.Bridge.{reference, RunDemand, run_demand_3}
 use Rattle.cluster.specs.View.{view, Sound, Fresh}
-use Rattle.cluster.proofs.References.{Place, refers}
+use Rattle.cluster.proofs.References.{Place, refers, reads}
 use Rattle.cluster.proofs.Demand.{Cluster}
 use Rattle.engine.specs.Words.{byte_of}
 use Rattle.engine.specs.Codes.{answer_code, told_code}
@@ -94,11 +94,11 @@ Leaves at c (mints p i o a) c' code =
     → of-mint.Learnt at.alone (refers at.to c, (p, (i, (o, (a, tt))))) code
     (refers at.to c', (p, (i, (o, (a, tt)))))
 Leaves at c (registers p w) c' code =
-    let words = refers at.from w in
+    let words = reads at.from w in
     of-register.Asked at.both (refers at.to c, (p, (words, tt)))
     → of-register.Learnt at.both (refers at.to c, (p, (words, tt))) code (refers at.to c', (p, (words, tt)))
 Leaves at c (delivers p q v w) c' code =
-    let words = refers at.from w in
+    let words = reads at.from w in
     of-deliver.Asked at.both (refers at.to c, (p, (q, (v, (words, tt)))))
     → of-deliver.Learnt at.both (refers at.to c, (p, (q, (v, (words, tt))))) code
     (refers at.to c', (p, (q, (v, (words, tt)))))
@@ -106,7 +106,7 @@ Leaves at c (turns p) c' code =
     of-turn.Asked at.alone (refers at.to c, (p, tt))
     → of-turn.Learnt at.alone (refers at.to c, (p, tt)) code (refers at.to c', (p, tt))
 Leaves at c (applies l) c' code =
-    let bytes = refers at.from l in
+    let bytes = reads at.from l in
     of-apply.Asked at.both (refers at.to c, (bytes, tt))
     → of-apply.Learnt at.both (refers at.to c, (bytes, tt)) code (refers at.to c', (bytes, tt))
 
@@ -286,9 +286,9 @@ planner_never_eleven {asks = asks} starts run m =
 -- `plankeeper_findings`, lent this cluster, handed a shard and a number and lent words to write to, may have returned that number and left those words
 pub record Tells (c : Cluster) (shard number : ℕ) (before : List ℕ) (code : ℕ) (after : List ℕ) : Type 0 where
   pub at : Lent
-  pub kept : of-findings.Asked at.both (refers at.from c, (shard, (number, (refers at.to before, tt))))
-      → of-findings.Learnt at.both (refers at.from c, (shard, (number, (refers at.to before, tt)))) code
-      (refers at.from c, (shard, (number, (refers at.to after, tt))))
+  pub kept : of-findings.Asked at.both (reads at.from c, (shard, (number, (refers at.to before, tt))))
+      → of-findings.Learnt at.both (reads at.from c, (shard, (number, (refers at.to before, tt)))) code
+      (reads at.from c, (shard, (number, (refers at.to after, tt))))
 
 -- the number and the words are those of true findings
 pub record TrueWords (calls : List Call) (p number code : ℕ) (after : List ℕ) : Type 0 where

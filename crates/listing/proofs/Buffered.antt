@@ -24,7 +24,7 @@ use Rattle.model.proofs.Basics.{clash}
 use Rattle.cluster.specs.View.{view, Sound}
 use Rattle.model.specs.Totals.{total_held}
 use Rattle.cluster.proofs.Demand.{Cluster, Starts, started}
-use Rattle.cluster.proofs.References.{Place, refers}
+use Rattle.cluster.proofs.References.{Place, refers, reads}
 use Rattle.listing.specs.declared.Progress.{Progress}
 use Rattle.listing.specs.Lines.{total_line}
 use Rattle.listing.specs.Listing.{Shown, shown_as, step_of, listing_within, listing_of}
@@ -47,9 +47,9 @@ pub record Listed (c : Cluster) (step : ℕ) (part : List ℕ) (wanted : ℕ) (l
   pub shards : Place
   pub from : Place
   pub to : Place
-  pub kept : of-records.Asked lifetimes (refers shards c, (step, (refers from part, (wanted, (refers to lent, tt)))))
-      → of-records.Learnt lifetimes (refers shards c, (step, (refers from part, (wanted, (refers to lent, tt))))) r
-      (refers shards c', (step, (refers from part, (wanted, (refers to after, tt)))))
+  pub kept : of-records.Asked lifetimes (refers shards c, (step, (reads from part, (wanted, (refers to lent, tt)))))
+      → of-records.Learnt lifetimes (refers shards c, (step, (reads from part, (wanted, (refers to lent, tt))))) r
+      (refers shards c', (step, (reads from part, (wanted, (refers to after, tt)))))
 
 -- with a cluster, a step and the input left, this text is printed
 pub data PrintsParts : Cluster → ℕ → List ℕ → List ℕ → Type 0 where

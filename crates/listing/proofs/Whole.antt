@@ -19,7 +19,7 @@ use Rattle.model.specs.Steps.{Ledger}
 use Rattle.cluster.specs.View.{view, Sound}
 use Rattle.model.specs.Totals.{total_held}
 use Rattle.cluster.proofs.Demand.{Cluster, Starts, started}
-use Rattle.cluster.proofs.References.{Place, refers}
+use Rattle.cluster.proofs.References.{Place, refers, reads}
 use Rattle.listing.specs.declared.Listed.{Listed}
 use Rattle.listing.specs.Lines.{total_line}
 use Rattle.listing.specs.Parts.{Puts, Shows}
@@ -37,9 +37,9 @@ pub record Stepped (c : Cluster) (step : ℕ) (bytes lent : List ℕ) (at : ℕ)
   pub from : Place
   pub to : Place
   pub room : at + 64 ≤ length lent
-  pub kept : of-step.Asked lifetimes (refers shards c, (step, (refers from bytes, (refers to lent, (at, tt)))))
-      → of-step.Learnt lifetimes (refers shards c, (step, (refers from bytes, (refers to lent, (at, tt))))) r
-      (refers shards c', (step, (refers from bytes, (refers to after, (at, tt)))))
+  pub kept : of-step.Asked lifetimes (refers shards c, (step, (reads from bytes, (refers to lent, (at, tt)))))
+      → of-step.Learnt lifetimes (refers shards c, (step, (reads from bytes, (refers to lent, (at, tt))))) r
+      (refers shards c', (step, (reads from bytes, (refers to after, (at, tt)))))
 
 -- `total`, handed references to a cluster and to a lent line, may have returned the size and left the line as it is
 -- after
@@ -47,8 +47,8 @@ pub record Totalled (c : Cluster) (lent : List ℕ) (size : ℕ) (after : List �
   pub lifetimes : Lfts 2
   pub shards : Place
   pub to : Place
-  pub kept : of-total.Asked lifetimes (refers shards c, (refers to lent, tt))
-      → of-total.Learnt lifetimes (refers shards c, (refers to lent, tt)) size (refers shards c, (refers to after, tt))
+  pub kept : of-total.Asked lifetimes (reads shards c, (refers to lent, tt))
+      → of-total.Learnt lifetimes (reads shards c, (refers to lent, tt)) size (reads shards c, (refers to after, tt))
 
 -- the bytes from a place up to another
 abbrev pub between : ℕ → ℕ → List ℕ → List ℕ
