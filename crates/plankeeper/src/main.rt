@@ -8,8 +8,9 @@ ghost use Rattle.listing.specs.Buffers.{ListsAll};
 
 use cluster::Cluster;
 use layout::SHARD_WORDS;
-use libc::{STDIN_FILENO, STDOUT_FILENO};
 use listing::{Progress, list_records};
+use std::io::{Read, Write};
+use std::rt::{Stdin, Stdout};
 
 // The unread bytes of the buffer. A record is 102 bytes long at most: so many are wanted before one is handed over, and
 // none at the end of the input.
@@ -41,23 +42,24 @@ fn keep(buf: &mut [u8; 65536], at: usize, end: usize) -> usize
     n
 }
 
-// One read behind the bytes that are kept: the place behind all of them.
-fn read_behind(buf: &mut [u8], kept: usize) -> usize
+// One read behind the bytes that are kept: the place behind all of them. A read that fails is the end of the input.
+fn read_behind(mut input: Stdin, buf: &mut [u8], kept: usize) -> usize
     requires { kept ≤ length buf.old }
     ensures { (kept ≤ result) × (result ≤ length buf.old) }
 {
-    let got = libc::read(STDIN_FILENO, &mut buf[kept..]);
-    let n = io::count(got, &buf[kept..]);
-    kept + n
+    match input.read(&mut buf[kept..]) {
+        Ok(n) => kept + n,
+        Err(_) => kept,
+    }
 }
 
 // More bytes behind the unread ones, or none wanted any more.
-fn refilled(buf: &mut [u8; 65536], at: usize, end: usize, wanted: usize) -> Unread
+fn refilled(input: Stdin, buf: &mut [u8; 65536], at: usize, end: usize, wanted: usize) -> Unread
     requires { (at ≤ end) × (end ≤ 65536) × (end - at < wanted) }
     ensures { (result.at ≤ result.end) × (result.end ≤ 65536) × (result.wanted ≤ wanted) × (result.wanted - (result.end - result.at) < wanted - (end - at)) }
 {
     let kept = keep(buf, at, end);
-    let more = read_behind(buf, kept);
+    let more = read_behind(input, buf, kept);
     if more == kept {
         return Unread {
             at: 0,
@@ -73,7 +75,7 @@ fn refilled(buf: &mut [u8; 65536], at: usize, end: usize, wanted: usize) -> Unre
 }
 
 // As many bytes as are wanted.
-fn filled(buf: &mut [u8; 65536], at: usize, end: usize, wanted: usize) -> Unread
+fn filled(input: Stdin, buf: &mut [u8; 65536], at: usize, end: usize, wanted: usize) -> Unread
     requires { (at ≤ end) × (end ≤ 65536) × (wanted ≤ 102) }
     ensures { (result.at ≤ result.end) × (result.end ≤ 65536) × (result.wanted ≤ 102) }
 {
@@ -81,7 +83,7 @@ fn filled(buf: &mut [u8; 65536], at: usize, end: usize, wanted: usize) -> Unread
     let mut e = end;
     let mut w = wanted;
     while e - a < w {
-        let u = refilled(buf, a, e, w);
+        let u = refilled(input, buf, a, e, w);
         a = u.at;
         e = u.end;
         w = u.wanted;
@@ -119,15 +121,15 @@ fn listed(
     list_records(c, number, bytes, wanted, &mut out[used..])
 }
 
-// The first bytes of the text.
-fn print(text: &[u8], n: usize) -> bool
+// The first bytes of the text, and whether all of them were written.
+fn print(mut output: Stdout, text: &[u8], n: usize) -> bool
     requires { n ≤ length text.now }
 {
-    io::write_all(STDOUT_FILENO, between(text, 0, n))
+    output.write_all(between(text, 0, n)).is_ok()
 }
 
 // Where little room is left, all that wait are printed.
-fn flushed(out: &[u8; 65536], used: usize) -> Waiting
+fn flushed(output: Stdout, out: &[u8; 65536], used: usize) -> Waiting
     requires { used ≤ 65536 }
     ensures { result.used ≤ 61440 }
 {
@@ -139,7 +141,7 @@ fn flushed(out: &[u8; 65536], used: usize) -> Waiting
     }
     Waiting {
         used: 0,
-        well: print(out, used),
+        well: print(output, out, used),
     }
 }
 
@@ -171,17 +173,19 @@ fn turns_after(turns: u64, ends: bool, well: bool, at: usize, end: usize) -> u64
 }
 
 // The lines that wait, and the last one.
-fn finish(out: &[u8; 65536], used: usize, c: &Cluster)
+fn finish(output: Stdout, out: &[u8; 65536], used: usize, c: &Cluster)
     requires { Sound c.now × (used ≤ 65536) }
 {
     let mut line = [0u8; 64];
     let size = listing::total(c, &mut line);
-    if print(out, used) {
-        print(&line, size);
+    if print(output, out, used) {
+        print(output, &line, size);
     }
 }
 
-fn main() {
+fn main(rt: HostRuntime) {
+    let input = rt.stdin();
+    let output = rt.stdout();
     let mut buf = [0u8; 65536];
     let mut out = [0u8; 65536];
     let mut c = [[0u32; SHARD_WORDS]; 8];
@@ -189,17 +193,23 @@ fn main() {
     let mut number: u64 = 1;
     let mut used: usize = 0;
     let mut well = true;
-    let first = filled(&mut buf, 0, 0, 102);
+    let first = filled(input, &mut buf, 0, 0, 102);
     let mut at = first.at;
     let mut end = first.end;
     let mut wanted = first.wanted;
     let mut turns = turns_after(4611686018427387904, false, true, at, end);
     while 0 < turns {
         let r = listed(&mut c, number, &buf, at, end, wanted, &mut out, used);
-        let w = flushed(&out, used + r.used);
+        let w = flushed(output, &out, used + r.used);
         used = w.used;
         well = w.well;
-        let u = filled(&mut buf, at + r.taken, end, wanted_after(r.ends, wanted));
+        let u = filled(
+            input,
+            &mut buf,
+            at + r.taken,
+            end,
+            wanted_after(r.ends, wanted),
+        );
         at = u.at;
         end = u.end;
         wanted = u.wanted;
@@ -207,6 +217,6 @@ fn main() {
         number = r.number;
     }
     if well {
-        finish(&out, used, &c);
+        finish(output, &out, used, &c);
     }
 }
