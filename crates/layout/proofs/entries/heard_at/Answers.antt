@@ -1,0 +1,14 @@
+-- A verdict is noted for each of eight senders, and none for a number above 7.
+use Rattle.std.proofs.Common.{◌<◌, ◌≤◌, sym, ◌∙◌, rules}
+use Rattle.layout.proofs.Slots.{heard-at, heard-above}
+use Rattle.layout.proofs.entries.heard_at.Goals as goal
+
+pub returns-then-at-lt8 : goal.returns-then-at-lt8
+returns-then-at-lt8 c =
+    let sender : c.args.sender < 8 = search rules in
+    c.byte.ensures ∙ sym (heard-at c.args.s.now c.args.k c.args.sender c.requires sender)
+
+pub returns : goal.returns
+returns c =
+    let above : 8 ≤ c.args.sender = search rules in
+    sym (heard-above c.args.s.now c.args.k c.args.sender c.requires above)

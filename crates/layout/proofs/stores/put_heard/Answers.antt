@@ -1,0 +1,12 @@
+-- One word of the slot is stored, and the verdict is noted there.
+use Rattle.std.proofs.Common.{◌<◌, rules}
+use Rattle.layout.proofs.Stored.{heard-put}
+use Rattle.layout.proofs.stores.put_heard.Goals as goal
+
+pub returns : goal.returns
+returns c =
+    let within = c.requires.0 in
+    let sender = c.requires.1.0 in
+    let long = c.requires.1.1 in
+    let byte : c.args.said < 256 = search rules in
+    heard-put c.args.s.now c.args.k c.args.sender c.args.said within sender byte long
