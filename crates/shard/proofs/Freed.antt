@@ -21,7 +21,7 @@ use Rattle.layout.proofs.Slots.{length-known}
 use Rattle.layout.proofs.Ledgers.{held-length}
 use Rattle.holdings.specs.Held.{Room, Holds, Changes}
 use Rattle.holdings.proofs.Tokens.{holds_same, holds-room, holds_then, holds-tokens}
-use Rattle.shard.specs.View.{number, view}
+use Rattle.shard.specs.View.{view}
 use Rattle.shard.specs.Parts.{is_bound_to, TurnedOver}
 use Rattle.shard.proofs.Ledgers.{holds-leaves}
 

@@ -12,7 +12,20 @@ use Rattle.transaction.specs.declared.Transaction.{Transaction}
 use Rattle.transaction.specs.Lists.{any}
 use Rattle.model.specs.declared.Known.{Known}
 use Rattle.model.specs.declared.Answer.{Answer}
-use Rattle.model.specs.Steps.{Limits, Ledger, nothing_known, newly_known, is_for, place_of, entry_of, hearing, after_mint, after_register, after_vote, after_turn}
+use Rattle.model.specs.Steps.{
+  Limits,
+  Ledger,
+  nothing_known,
+  newly_known,
+  is_for,
+  place_of,
+  entry_of,
+  hearing,
+  after_mint,
+  after_register,
+  after_vote,
+  after_turn,
+}
 use Rattle.model.specs.Shard.{Call, has_number, is_other, shard_step}
 use Rattle.model.proofs.Entries.{whole-known}
 use Rattle.model.proofs.Refusals.{RegisterPasses, brought-registers}

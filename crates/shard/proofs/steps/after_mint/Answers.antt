@@ -1,0 +1,7 @@
+use Rattle.std.proofs.Common.{refl, arith}
+use Rattle.shard.proofs.Ledgers.{minted}
+use Rattle.shard.proofs.steps.after_mint.Goals as goal
+
+pub returns : goal.returns
+returns c =
+    minted c.args.index c.args.owner c.args.amount c.held-n.ensures refl (omega arith) c.put_token.ensures c.set_held.ensures c.give.ensures
