@@ -16,7 +16,21 @@ use Rattle.model.specs.declared.Token.{Token}
 use Rattle.model.specs.declared.Outcome.TheVariants.{Commit, Abort}
 use Rattle.model.specs.Lists.{keep}
 use Rattle.model.proofs.Basics.{eqb_yes, eqb_no, keep-length}
-use Rattle.model.specs.Steps.{names, named_by, pledged_to, pledge_if, pledges, stays, inputs_here, made_here, commit, pledge_when, is_pledged_to, freeing, ended}
+use Rattle.model.specs.Steps.{
+  names,
+  named_by,
+  pledged_to,
+  pledge_if,
+  pledges,
+  stays,
+  inputs_here,
+  made_here,
+  commit,
+  pledge_when,
+  is_pledged_to,
+  freeing,
+  ended,
+}
 use Rattle.loops.specs.Lists.{one_if}
 use Rattle.loops.proofs.Loops.{append-one}
 use Rattle.loops.proofs.Fours.{used-slots}

@@ -1,0 +1,47 @@
+use Rattle.std.proofs.Common.{[], ◌∷◌, refl, arith, rules}
+use Rattle.model.specs.Steps.{pledge_if, pledges}
+use Rattle.loops.proofs.Places.{place-start, place-stays, place_end}
+use Rattle.layout.specs.Layout.{tokens_of, view, no_token}
+use Rattle.layout.proofs.Slots.{length-tokens}
+use Rattle.holdings.proofs.Tokens.{again, as_many, pledged_if, pledged-not, place-next}
+use Rattle.holdings.proofs.pledging.pledge_named.Goals as goal
+
+pub loop-k-init : goal.loop-k-init
+loop-k-init c = record {
+  count = c.held-n.ensures;
+  same = record { is = refl; long = c.requires.long };
+  pledged = place-start (omega (arith, length-tokens c.args.s.now));
+}
+
+-- The input names the token at k, which is pledged.
+pub loop-k-preserved-then-names_token : goal.loop-k-preserved-then-names_token
+loop-k-preserved-then-names_token c =
+    let x = c.args.x in
+    let number = c.args.number in
+    let ws = c.args.s.now in
+    let pledge = pledged_if x c.names_token.ensures c.token_at-token.ensures number c.if-names_token.true in
+    record {
+      count = c.loop-k.invariant.count;
+      same = again ws c.loop-k.s _ c.loop-k.invariant.same c.put_pledge.ensures;
+      pledged =
+          place-next (pledge_if number (x ∷ [])) (tokens_of ws) c.held-n.result c.loop-k.s _ c.loop-k.k
+          c.loop-k.invariant.pledged (search rules) pledge c.put_pledge.ensures;
+    }
+
+-- It names another, and the token stays as it is.
+pub loop-k-preserved : goal.loop-k-preserved
+loop-k-preserved c =
+    let stay =
+    pledged-not c.args.x c.names_token.ensures c.token_at-token.ensures c.args.number c.if-names_token.false in
+    record {
+      count = c.loop-k.invariant.count;
+      same = c.loop-k.invariant.same;
+      pledged = place-stays no_token c.loop-k.invariant.pledged (search rules) stay;
+    }
+
+-- All tokens held have had their turn.
+pub returns : goal.returns
+unfolding view pledges
+returns c =
+    let pledged = place_end c.loop-k.invariant.pledged (search rules) in
+    as_many c.args.s.now c.loop-k.s c.loop-k.invariant.same c.requires.held (rw (← c.loop-k.invariant.count) pledged)
