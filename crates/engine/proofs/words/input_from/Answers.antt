@@ -1,0 +1,7 @@
+-- The fields are those of the definition: two are bytes, three are whole words.
+use Rattle.engine.specs.Words.{input_at}
+use Rattle.engine.proofs.words.input_from.Goals as goal
+
+pub returns : goal.returns
+unfolding input_at
+returns c = rw (c.narrow.ensures, c.narrow-2.ensures)

@@ -1,0 +1,8 @@
+-- The words are those of the definition, one for one.
+use Rattle.std.proofs.Common.{refl}
+use Rattle.engine.specs.Words.{words_of}
+use Rattle.engine.proofs.words.words_of.Goals as goal
+
+pub returns : goal.returns
+unfolding words_of
+returns c = refl
