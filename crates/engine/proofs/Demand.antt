@@ -45,7 +45,7 @@ use Rattle.model.proofs.Bridge.{reference, RunDemand, run_demand_3}
 use Rattle.cluster.specs.View.{view, Sound, Fresh}
 use Rattle.cluster.proofs.References.{Place, refers, reads}
 use Rattle.cluster.proofs.Demand.{Cluster}
-use Rattle.engine.specs.Words.{byte_of}
+use Rattle.words.specs.Words.{byte_of}
 use Rattle.engine.specs.Codes.{answer_code, told_code}
 use Rattle.engine.specs.Queries.{findings_words, findings_after, TellsFindings}
 use Rattle.engine.specs.Calls.{cluster_called, applied_as, applied, ClusterDoes}

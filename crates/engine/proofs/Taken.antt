@@ -34,7 +34,7 @@ use Rattle.reader.specs.Layout.{byte_at, word_at, inputs_at, outputs_at, transac
 use Rattle.reader.specs.Reading.{kind_of, head_cause, record_at, transaction_in}
 use Rattle.reader.proofs.Cases.{front-fit, front-passes, reading_good, reading_bad}
 use Rattle.writer.proofs.Stores.{behind, front}
-use Rattle.engine.specs.Words.{words_of}
+use Rattle.words.specs.Words.{words_of}
 use Rattle.engine.specs.Fields.{record_words, answer_words, reading_words, Fills}
 use Rattle.engine.specs.Taking.{inputs_words, outputs_words, TakesSlots, LastOf, TakesTransaction, TakesRecord}
 

@@ -9,7 +9,7 @@ use Rattle.reader.specs.Reading.{reading_of}
 use Rattle.model.specs.declared.Answer.{Answer}
 use Rattle.model.specs.Shard.{Call, mint, register, deliver, turn}
 use Rattle.calls.specs.Calls.{call_of}
-use Rattle.engine.specs.Words.{byte_of, transaction_from}
+use Rattle.words.specs.Words.{byte_of, transaction_from}
 use Rattle.engine.specs.Codes.{answer_code}
 
 -- plankeeper_mint (an opening), _register, _deliver (a vote), _turn, each with its words in order, and _apply with its bytes

@@ -1,15 +1,12 @@
 -- An answer as one number.
-use Rattle.std.specs.Prelude.{ℕ, ◌+◌, ◌*◌, Bool, cond}
+use Rattle.std.specs.Prelude.{ℕ, ◌+◌, ◌*◌, Bool}
+use Rattle.words.specs.Words.{yes}
 use Rattle.model.specs.declared.Outcome.{Outcome}
 use Rattle.model.specs.declared.Outcome.TheVariants.{Wait, Commit, Abort}
 use Rattle.model.specs.declared.Told.{Told}
 use Rattle.model.specs.declared.Told.TheVariants as told
 use Rattle.model.specs.declared.Answer.{Answer}
 use Rattle.model.specs.declared.Answer.TheVariants.{Refused, Minted, Registered, Heard, Again, Turned, Brought}
-
--- 1 for yes, 0 for no
-abbrev pub yes : Bool → ℕ
-yes b = cond b 1 0
 
 -- what is decided here so far
 unfoldable pub outcome_code : Outcome → ℕ

@@ -7,7 +7,7 @@ use Rattle.reader.specs.declared.Answer.{Answer}
 use Rattle.reader.specs.declared.Answer.TheVariants.{Read, Refused}
 use Rattle.reader.specs.declared.Reading.{Reading}
 use Rattle.reader.specs.Reading.{read_cause, reading_of}
-use Rattle.engine.specs.Words.{words_of}
+use Rattle.words.specs.Words.{words_of}
 
 -- the seven words in front of the transaction; a field that a kind of record does not have is 0
 unfoldable pub record_words : Record → List ℕ

@@ -1,4 +1,3 @@
-pub mod Words
 pub mod Codes
 pub mod Fields
 pub mod Taking

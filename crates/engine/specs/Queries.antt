@@ -14,7 +14,7 @@ use Rattle.shard.specs.declared.queries.HeldToken.TheVariants.{Held, NotHeld}
 use Rattle.shard.specs.declared.queries.KnownOutcome.{KnownOutcome}
 use Rattle.shard.specs.declared.queries.KnownOutcome.TheVariants as outcome
 use Rattle.shard.specs.Queries.{token_at, known_at, outcome_at}
-use Rattle.engine.specs.Words.{words_of}
+use Rattle.words.specs.Words.{words_of}
 use Rattle.engine.specs.Codes.{outcome_code, told_code}
 
 -- a token is held: 1, and creator (making swap), index (position), owner (household), amount (portions) and pledge;

@@ -8,7 +8,7 @@ use Rattle.transaction.specs.declared.Input.{Input}
 use Rattle.transaction.specs.declared.Output.{Output}
 use Rattle.transaction.specs.declared.Transaction.{Transaction}
 use Rattle.transaction.specs.Checks.{house_genesis, fields_fit, cause_of}
-use Rattle.engine.specs.Words.{input_words, output_words, words_of}
+use Rattle.words.specs.Words.{input_words, output_words, words_of}
 use Rattle.engine.specs.Fields.{record_words}
 
 -- the words of four inputs and of four outputs that stand in the bytes from a place on

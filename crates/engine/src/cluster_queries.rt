@@ -7,15 +7,15 @@ ghost use Rattle.model.specs.Findings.{report_at};
 ghost use Rattle.shard.specs.Queries.{outcome_of_number};
 ghost use Rattle.cluster.specs.View.{view, Sound};
 ghost use Rattle.model.specs.Totals.{held_in, total_held};
-ghost use Rattle.engine.specs.Words.{byte_of};
-ghost use Rattle.engine.specs.Codes.{yes};
+ghost use Rattle.words.specs.Words.{byte_of};
+ghost use Rattle.words.specs.Words.{yes};
 ghost use Rattle.engine.specs.Queries.{known_code, TellsToken, TellsKnown, TellsFindings};
 
 use crate::codes::flag;
 use crate::findings::tell;
 use crate::ledgers::{held_code, known_code, known_words, token_words};
-use crate::words::narrow;
 use cluster::{Cluster, queries};
+use words::narrow;
 
 // How many tokens the shard holds.
 #[unsafe(no_mangle)]

@@ -3,15 +3,15 @@ ghost use Rattle.std.specs.Prelude.{◌≡◌, ◌*◌};
 ghost use Rattle.model.specs.Shard.{mint, register, deliver, turn};
 ghost use Rattle.layout.specs.Layout.{shard_words};
 ghost use Rattle.cluster.specs.View.{Sound, Fresh};
-ghost use Rattle.engine.specs.Words.{byte_of, transaction_from};
+ghost use Rattle.words.specs.Words.{byte_of, transaction_from};
 ghost use Rattle.engine.specs.Calls.{cluster_called, applied, ClusterDoes};
 
 use crate::codes::answer_code;
-use crate::words::{narrow, transaction_from, wide};
 use calls::call;
 use cluster::Cluster;
 use layout::SHARD_WORDS;
 use reader::Answer;
+use words::{narrow, transaction_from, wide};
 
 // How many words a cluster has.
 #[unsafe(no_mangle)]

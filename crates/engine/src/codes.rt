@@ -1,9 +1,10 @@
 // An answer as one number.
 ghost use Rattle.std.specs.Prelude.{◌≡◌, ◌≤◌};
-ghost use Rattle.engine.specs.Codes.{yes, outcome_code, voted_code, answer_code};
+ghost use Rattle.words.specs.Words.{yes};
+ghost use Rattle.engine.specs.Codes.{outcome_code, voted_code, answer_code};
 
-use crate::words::wide;
 use model::{Answer, Outcome};
+use words::wide;
 
 // 1 for yes, 0 for no.
 pub(crate) fn flag(b: bool) -> u32

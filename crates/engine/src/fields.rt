@@ -4,8 +4,8 @@ ghost use Rattle.std.specs.Prelude.{◌≡◌, ◌++◌};
 ghost use Rattle.reader.specs.Reading.{number_of};
 ghost use Rattle.engine.specs.Fields.{record_words, answer_words, reading_words};
 
-use crate::words::{wide, words_of};
 use reader::{Answer, Reading, Record};
+use words::{wide, words_of};
 
 // The fields beside the transaction; those that a kind does not have are 0.
 fn record_words(fields: Record) -> [u32; 7]

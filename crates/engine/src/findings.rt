@@ -5,9 +5,9 @@ ghost use Rattle.model.specs.Answers.{finding_number, pledging_number};
 ghost use Rattle.model.specs.Findings.{finding_of};
 ghost use Rattle.engine.specs.Queries.{findings_words, TellsFindings};
 
-use crate::words::wide;
 use layout::findings::{finding_number, pledging_number};
 use model::{Finding, Found, Report, Told};
+use words::wide;
 
 // The two words of a place, 0 where there is no finding.
 fn number_word(used: bool, found: Finding) -> u32

@@ -3,9 +3,9 @@ ghost use Rattle.std.specs.Prelude.{◌≡◌, ◌++◌};
 ghost use Rattle.engine.specs.Queries.{held_code, token_words, known_code, known_words};
 
 use crate::codes::outcome_code;
-use crate::words::{wide, words_of};
 use model::Known;
 use shard::queries::{HeldToken, KnownOutcome};
+use words::{wide, words_of};
 
 // 1 for a token that is held, 0 for none.
 pub(crate) fn held_code(token: HeldToken) -> u32

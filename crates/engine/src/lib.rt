@@ -45,7 +45,6 @@
 // its making swap and its position.
 #![tactic(auto)]
 
-pub mod words; // a transaction as 35 words, both ways; internal, and public only because the crate `probes` uses it
 mod codes; // an answer as a number
 mod fields; // what was read of a record, as 42 words
 mod slots; // a transaction's slots, put straight from the bytes into these words and checked

@@ -3,13 +3,13 @@ ghost use Rattle.std.specs.Prelude.{◌≡◌, length};
 ghost use Rattle.reader.specs.Reading.{taken_of};
 ghost use Rattle.writer.specs.Layout.{register_bytes, vote_bytes, mint_bytes, turn_bytes};
 ghost use Rattle.writer.specs.Writing.{register_cause, vote_cause, mint_cause, turn_cause};
-ghost use Rattle.engine.specs.Words.{byte_of, transaction_from};
+ghost use Rattle.words.specs.Words.{byte_of, transaction_from};
 ghost use Rattle.engine.specs.Fields.{Fills};
 ghost use Rattle.engine.specs.Writing.{code_of, Encodes};
 
 use crate::fields::{fields_of, number_of};
 use crate::taking::take_record;
-use crate::words::{narrow, transaction_from, wide};
+use words::{narrow, transaction_from, wide};
 use writer::Written;
 
 // The record at the front of the bytes, of any kind, by way of what the reader hands back.

@@ -5,16 +5,16 @@ ghost use Rattle.shard.specs.View.{view, Sound};
 ghost use Rattle.shard.specs.View as View;
 ghost use Rattle.model.specs.Totals.{total_amount};
 ghost use Rattle.shard.specs.Queries.{outcome_of_number};
-ghost use Rattle.engine.specs.Words.{byte_of};
-ghost use Rattle.engine.specs.Codes.{yes};
+ghost use Rattle.words.specs.Words.{byte_of};
+ghost use Rattle.words.specs.Words.{yes};
 ghost use Rattle.engine.specs.Queries.{known_code, TellsToken, TellsKnown, TellsFindings};
 
 use crate::codes::flag;
 use crate::findings::tell;
 use crate::ledgers::{held_code, known_code, known_words, token_words};
-use crate::words::narrow;
 use layout::Words;
 use shard::{queries, reporting};
+use words::narrow;
 
 // How many tokens it holds.
 #[unsafe(no_mangle)]

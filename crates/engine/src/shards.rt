@@ -3,12 +3,12 @@ ghost use Rattle.std.specs.Prelude.{◌≡◌};
 ghost use Rattle.model.specs.Shard.{mint, register, deliver, turn};
 ghost use Rattle.layout.specs.Layout.{shard_words};
 ghost use Rattle.shard.specs.View.{number, Sound, Fresh};
-ghost use Rattle.engine.specs.Words.{byte_of, transaction_from};
+ghost use Rattle.words.specs.Words.{byte_of, transaction_from};
 ghost use Rattle.engine.specs.Calls.{shard_called, ShardDoes};
 
 use crate::codes::answer_code;
-use crate::words::{narrow, transaction_from};
 use layout::{SHARD_WORDS, Words};
+use words::{narrow, transaction_from};
 
 // How many words a shard has.
 #[unsafe(no_mangle)]

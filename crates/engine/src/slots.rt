@@ -8,13 +8,13 @@ ghost use Rattle.transaction.specs.Lists.{slots_fit};
 ghost use Rattle.transaction.specs.Tokens.{same_input, same_output, zero_input, zero_output};
 ghost use Rattle.transaction.specs.Checks.{house_genesis, input_fits, output_fits};
 ghost use Rattle.reader.specs.Layout.{input_at, output_at, inputs_at, outputs_at};
-ghost use Rattle.engine.specs.Words.{input_words, output_words};
+ghost use Rattle.words.specs.Words.{input_words, output_words};
 ghost use Rattle.engine.specs.Taking.{inputs_words, outputs_words, TakesSlots};
 
-use crate::words::wide;
 use reader::layout::{input_at, output_at};
 use transaction::fields::{input_slot_fits, output_slot_fits};
 use transaction::{Input, Output};
+use words::wide;
 
 fn put_input(fields: &mut [u32; 42], to: usize, x: Input)
     requires { to + 5 ≤ 42 }

@@ -9,11 +9,11 @@ ghost use Rattle.engine.specs.Fields.{record_words};
 ghost use Rattle.engine.specs.Taking.{LastOf, TakesTransaction, TakesRecord};
 
 use crate::slots::{take_inputs, take_outputs};
-use crate::words::wide;
 use reader::bodies::front_fits;
 use reader::layout::{input_at, output_at, word_at};
 use transaction::checks::{input_total, named_twice, output_total};
 use transaction::fields::counts_fit;
+use words::wide;
 
 // The number and the counts, behind the seven words in front.
 fn put_head(fields: &mut [u32; 42], number: u32, inputs: u8, outputs: u8)

@@ -2,10 +2,10 @@
 ghost use Rattle.std.specs.Prelude.{◌≡◌};
 ghost use Rattle.transaction.specs.Tokens.{takes_part, same_transaction};
 ghost use Rattle.transaction.specs.Checks.{cause_of};
-ghost use Rattle.engine.specs.Words.{byte_of, transaction_from};
-ghost use Rattle.engine.specs.Codes.{yes};
+ghost use Rattle.words.specs.Words.{byte_of, transaction_from};
+ghost use Rattle.words.specs.Words.{yes};
 
-use engine::words::{narrow, transaction_from, wide};
+use words::{narrow, transaction_from, wide};
 
 fn yes_or_no(answer: bool) -> u32
     ensures { result ≡ yes answer }

@@ -2,9 +2,9 @@
 ghost use Rattle.std.specs.Prelude.{◌≡◌, ◌+◌, ◌%◌, ◌^◌, ◌<◌, ◌≤◌, if◌then◌else◌, nat_eq};
 ghost use Rattle.probes.specs.Votes.{transaction_worth, record_worth, worth_of, sum_of};
 
-use engine::words::wide;
 use reader::{Answer, Record};
 use transaction::Transaction;
+use words::wide;
 
 // A word with room for sums.
 fn long(x: u32) -> u64

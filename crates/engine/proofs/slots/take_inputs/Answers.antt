@@ -3,7 +3,7 @@ use Rattle.std.proofs.Common.{ℕ, ◌+◌, ◌≡◌, List, length, not, refl, 
 use Rattle.transaction.specs.Tokens.{same_input, zero_input}
 use Rattle.transaction.specs.Checks.{house_genesis, input_fits}
 use Rattle.reader.specs.Layout.{input_at, inputs_at}
-use Rattle.engine.specs.Words.{input_words}
+use Rattle.words.specs.Words.{input_words}
 use Rattle.engine.specs.Taking.{inputs_words}
 use Rattle.engine.proofs.Taken.{four-run, first_fails, second_fails, third_fails, fourth-decides}
 use Rattle.engine.proofs.slots.take_inputs.Goals as goal

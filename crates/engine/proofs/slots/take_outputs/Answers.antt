@@ -3,7 +3,7 @@ use Rattle.std.proofs.Common.{ℕ, ◌+◌, ◌≡◌, List, length, not, refl, 
 use Rattle.transaction.specs.Tokens.{same_output, zero_output}
 use Rattle.transaction.specs.Checks.{output_fits}
 use Rattle.reader.specs.Layout.{output_at, outputs_at}
-use Rattle.engine.specs.Words.{output_words}
+use Rattle.words.specs.Words.{output_words}
 use Rattle.engine.specs.Taking.{outputs_words}
 use Rattle.engine.proofs.Taken.{four-run, first_fails, second_fails, third_fails, fourth-decides}
 use Rattle.engine.proofs.slots.take_outputs.Goals as goal

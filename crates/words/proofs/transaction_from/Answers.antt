@@ -1,6 +1,6 @@
 -- The counts, the inputs and the outputs are those of the definition.
-use Rattle.engine.specs.Words.{transaction_from}
-use Rattle.engine.proofs.words.transaction_from.Goals as goal
+use Rattle.words.specs.Words.{transaction_from}
+use Rattle.words.proofs.transaction_from.Goals as goal
 
 pub returns : goal.returns
 unfolding transaction_from

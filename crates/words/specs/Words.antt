@@ -1,6 +1,6 @@
 -- A transaction (swap) as 35 words, both ways: number, input count, output count, four inputs of five words, four
 -- outputs of three words.
-use Rattle.std.specs.Prelude.{ℕ, ◌+◌, ◌*◌, cond, List, [], ◌∷◌, ◌++◌, ltb, get_or}
+use Rattle.std.specs.Prelude.{ℕ, ◌+◌, ◌*◌, Bool, cond, List, [], ◌∷◌, ◌++◌, ltb, get_or}
 use Rattle.transaction.specs.declared.Input.{Input}
 use Rattle.transaction.specs.declared.Output.{Output}
 use Rattle.transaction.specs.declared.Transaction.{Transaction}
@@ -18,6 +18,10 @@ outputs_at = 23
 
 abbrev pub output_size : ℕ
 output_size = 3
+
+-- 1 for yes, 0 for no
+abbrev pub yes : Bool → ℕ
+yes b = cond b 1 0
 
 -- A word where the field is a byte: a word above 255 stands for 255, which no field allows.
 unfoldable pub byte_of : ℕ → ℕ

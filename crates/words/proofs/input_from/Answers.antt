@@ -1,6 +1,6 @@
 -- The fields are those of the definition: two are bytes, three are whole words.
-use Rattle.engine.specs.Words.{input_at}
-use Rattle.engine.proofs.words.input_from.Goals as goal
+use Rattle.words.specs.Words.{input_at}
+use Rattle.words.proofs.input_from.Goals as goal
 
 pub returns : goal.returns
 unfolding input_at

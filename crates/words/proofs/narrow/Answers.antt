@@ -1,8 +1,8 @@
 -- A word above 255 stands for 255, and any other for itself.
 use Rattle.std.proofs.Common.{refl}
 use borrow.Author.Tests.{lt-ltb, le-ltb}
-use Rattle.engine.specs.Words.{byte_of}
-use Rattle.engine.proofs.words.narrow.Goals as goal
+use Rattle.words.specs.Words.{byte_of}
+use Rattle.words.proofs.narrow.Goals as goal
 
 pub returns-then-w-gt255 : goal.returns-then-w-gt255
 unfolding byte_of

@@ -1,7 +1,10 @@
 // A transaction (document 01: a swap) as 35 words, both ways: number, input count, output count,
 // four inputs of five words (shard, creator, index, owner, amount), four outputs of three words (shard, owner, amount).
+// Internal, and a crate of its own only because both static libraries, `engine` and `probes`, are made of it.
+#![tactic(auto)]
+
 ghost use Rattle.std.specs.Prelude.{◌≡◌, ◌<◌};
-ghost use Rattle.engine.specs.Words.{byte_of, input_from, output_from, transaction_from, words_of};
+ghost use Rattle.words.specs.Words.{byte_of, input_from, output_from, transaction_from, words_of};
 
 use transaction::{Input, Output, TokenId, Transaction};
 
