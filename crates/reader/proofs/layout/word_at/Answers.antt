@@ -1,0 +1,7 @@
+use Rattle.reader.specs.Layout.{word_at}
+use Rattle.reader.proofs.layout.word_at.Goals as goal
+
+-- the four bytes from the place on, high byte first
+pub returns : goal.returns
+unfolding word_at
+returns c = c.four.ensures
