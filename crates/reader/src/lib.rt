@@ -54,6 +54,7 @@ pub struct Reading {
 }
 
 // The length of the body that a kind has; 0 for every other kind.
+#[tactic(auto, unfolding(crate::specs::Layout::body_length))]
 fn body_length(kind: u8) -> usize
     ensures { result ≡ body_length kind }
 {
