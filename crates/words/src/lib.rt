@@ -85,7 +85,7 @@ pub fn transaction_from(words: &[u32; 35]) -> Transaction
     }
 }
 
-pub(crate) fn words_of(t: Transaction) -> [u32; 35]
+pub fn words_of(t: Transaction) -> [u32; 35]
     ensures { result ≡ words_of t }
 {
     let x = t.inputs;
