@@ -96,7 +96,7 @@ fn put_vote(receiver: u8, sender: u8, verdict: u8, fields: &mut [u32; 42])
     fields[6] = 0;
 }
 
-// All 42 words are there. An array tells its length, a `&mut` to one does not; nothing is left of these two in the program.
+// All 42 words are there. Nothing is left of these two in the program.
 fn all_words(words: [u32; 42])
     ensures { length words ≡ 42 }
 {}

@@ -344,10 +344,10 @@ get_or-same (suc n) a zero = refl
 get_or-same (suc n) a (suc i) = get_or-same n a i
 
 -- an element of a list stands at a place of it, and what stands at a place is an element
-pub place_of : {A : Type 0} (d : A) {a : A} {l : List A} → Memᴰ a l → (p : ℕ) × (p < length l) × (get_or l p d ≡ a)
-place_of {A = A} d {a = a} {l = []} x'' = elim x'' [ ]
-place_of d {l = y ∷ l} (Memᴰ.head e) = (0, omega arith, sym e)
-place_of d {l = y ∷ l} (Memᴰ.tail m) = let r = place_of d m in let h : r.0 < length l = r.1 in (suc r.0, omega arith, r.2)
+pub place_of_mem : {A : Type 0} (d : A) {a : A} {l : List A} → Memᴰ a l → (p : ℕ) × (p < length l) × (get_or l p d ≡ a)
+place_of_mem {A = A} d {a = a} {l = []} x'' = elim x'' [ ]
+place_of_mem d {l = y ∷ l} (Memᴰ.head e) = (0, omega arith, sym e)
+place_of_mem d {l = y ∷ l} (Memᴰ.tail m) = let r = place_of_mem d m in let h : r.0 < length l = r.1 in (suc r.0, omega arith, r.2)
 
 -- what stands at a place of a list is an element
 pub get_or-mem : {A : Type 0} (l : List A) (p : ℕ) (d : A) → p < length l → Memᴰ (get_or l p d) l

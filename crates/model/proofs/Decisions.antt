@@ -21,7 +21,7 @@ use Rattle.model.specs.Shard.{Call}
 use Rattle.model.specs.Cluster.{ledger_at}
 use Rattle.model.specs.Model.{Entry, Model, play}
 use Rattle.model.specs.Demand.{outcome_in, heard_all_in, outcome_at, heard_all_at, is_commit, commits, committed, WasAvailable}
-use Rattle.model.proofs.Basics.{eqb-eq, eqb_apart, both, Case, yes-case, no-case, case, any_at, any_of, place_of, get_or-mem, some_inj}
+use Rattle.model.proofs.Basics.{eqb-eq, eqb_apart, both, Case, yes-case, no-case, case, any_at, any_of, place_of_mem, get_or-mem, some_inj}
 use Rattle.model.proofs.Entries.{look, entry-look, look-entry, look-number}
 use Rattle.model.proofs.Outcomes.{
   commit≢wait,
@@ -210,7 +210,7 @@ module _ (limits : Limits) (model : Model) (w : Inv limits model) where
   unfolding committed
   commit-at t c =
       let r = any_at (commits t) model.shards c in
-      let a = place_of (empty_ledger limits) r.1 in
+      let a = place_of_mem (empty_ledger limits) r.1 in
       (a.0, ap (λ (l : Ledger). outcome_in l t) a.2 ∙ is-commit (outcome_in r.0 t) r.2)
 
   -- what is committed at a shard is committed

@@ -33,7 +33,7 @@ use Rattle.model.specs.Findings.{
   is-pledged,
   States,
   no_more,
-  and_then,
+  and_more,
   numbered,
   report_form,
   report_rest,
@@ -196,7 +196,7 @@ findings-states p tokens t once = go (inputs_here p t)
   where
     go : (inputs : List Input) → States tokens inputs (map (finding tokens) inputs)
     go [] = no_more
-    go (x ∷ inputs) = and_then (finding_state tokens once x) (go inputs)
+    go (x ∷ inputs) = and_more (finding_state tokens once x) (go inputs)
 
 -- ---- The report
 

@@ -76,7 +76,7 @@ use Rattle.model.specs.Findings.{
   is-pledged,
   States,
   no_more,
-  and_then,
+  and_more,
   Knows,
   numbered,
   report_refusals,
@@ -389,8 +389,8 @@ module _ (limits : Limits) where
 pledge_held : {tokens : List Token} {inputs : List Input} {found : List Finding} → States tokens inputs found → (n : ℕ) → Memᴰ (Pledged n) found
     → (token : Token) × Memᴰ token tokens × (token.pledge ≡ n) × (token.pledge ≢ 0)
 pledge_held no_more n m = elim m [ ]
-pledge_held (and_then state more) n (Memᴰ.tail m) = pledge_held more n m
-pledge_held {tokens} (and_then state more) n (Memᴰ.head e) = go state e
+pledge_held (and_more state more) n (Memᴰ.tail m) = pledge_held more n m
+pledge_held {tokens} (and_more state more) n (Memᴰ.head e) = go state e
   where
     go : {x : Input} {one : Finding} → State tokens x one → Pledged n ≡ one
         → (token : Token) × Memᴰ token tokens × (token.pledge ≡ n) × (token.pledge ≢ 0)

@@ -87,7 +87,7 @@ pub data State (tokens : List Token) (x : Input) : Finding → Type 0 where
 -- one finding for each input, in input order, and each is the state of its token
 pub data States (tokens : List Token) : List Input → List Finding → Type 0 where
   no_more : States tokens [] []
-  and_then : {x : Input} {found : Finding} {inputs : List Input} {more : List Finding}
+  and_more : {x : Input} {found : Finding} {inputs : List Input} {more : List Finding}
       → State tokens x found → States tokens inputs more → States tokens (x ∷ inputs) (found ∷ more)
 
 -- a transaction of that number is among the known ones
