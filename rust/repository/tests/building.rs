@@ -11,11 +11,9 @@ use program::{root, told};
 use repository::{Scratch, put_script};
 
 /// A folder with the scripts, the list of crates, a program that rt has made, and
-/// these programs on the PATH. It lies outside of the repository, where `rt ci`
-/// stops at a second list of crates.
+/// these programs on the PATH.
 fn copy(name: &str, rt: &str) -> Scratch {
-    let scratch = Scratch::new(name);
-    let folder = scratch.folder();
+    let folder = Scratch::new(name);
     let out = "crates/plankeeper/out";
     let made = ["bin", "rust/target/release", out].map(|part| folder.join(part));
     for part in made {
@@ -32,7 +30,7 @@ fn copy(name: &str, rt: &str) -> Scratch {
     put_script(&folder.join("bin/cargo"), "echo 'cargo 2.0.0'");
     put_script(&folder.join("rust/target/release/week"), "");
     put_script(&folder.join(out).join("plankeeper"), "echo 'TOTAL 0'");
-    scratch
+    folder
 }
 
 /// `./list` in such a folder. One at a time: a script that is being written cannot be
@@ -40,7 +38,7 @@ fn copy(name: &str, rt: &str) -> Scratch {
 fn made(name: &str, rt: &str, patience: &str) -> Output {
     static ALONE: Mutex<()> = Mutex::new(());
     let _alone = ALONE.lock();
-    list(copy(name, rt).folder(), patience)
+    list(&copy(name, rt), patience)
 }
 
 /// `./list`, whose programs are the folder's; it speaks of what takes longer than so

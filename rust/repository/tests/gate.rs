@@ -4,12 +4,12 @@
 
 use std::env;
 use std::os::unix::fs::symlink;
-use std::path::{Path, PathBuf};
+use std::path::Path;
 use std::process::{Command, Output};
 use std::sync::{Mutex, MutexGuard};
 
 use program::{root, told};
-use repository::{empty_folder, put_script, rust_version};
+use repository::{Scratch, put_script, rust_version};
 
 /// What the scripts find of the system.
 const COMMON: [&str; 11] = [
@@ -26,8 +26,8 @@ fn alone() -> MutexGuard<'static, ()> {
 }
 
 /// A folder with these and nothing else.
-fn folder(name: &str) -> PathBuf {
-    let folder = empty_folder(env!("CARGO_TARGET_TMPDIR"), name);
+fn folder(name: &str) -> Scratch {
+    let folder = Scratch::new(name);
     let path = env::var_os("PATH").expect("there is a PATH");
     for tool in COMMON {
         let mut places = env::split_paths(&path).map(|place| place.join(tool));

@@ -21,12 +21,12 @@ fn alone() -> MutexGuard<'static, ()> {
 
 /// A folder with the scripts, the crate `engine`, and no kit yet.
 fn folder(name: &str) -> Scratch {
-    let scratch = Scratch::new(name);
+    let folder = Scratch::new(name);
     for part in ["bin", "crates/engine/out", "rust"] {
-        fs::create_dir_all(scratch.folder().join(part)).expect("there is room for a folder");
+        fs::create_dir_all(folder.join(part)).expect("there is room for a folder");
     }
-    symlink(root().join("tools"), scratch.folder().join("tools")).expect("it can be linked");
-    scratch
+    symlink(root().join("tools"), folder.join("tools")).expect("it can be linked");
+    folder
 }
 
 /// `tools/library` with these arguments, and an rt that does this in the crate's
@@ -45,8 +45,8 @@ fn library(folder: &Path, arguments: &[&str], rt: &str) -> Output {
 #[test]
 fn where_it_is_put() {
     let _alone = alone();
-    let scratch = folder("put");
-    let archive = scratch.folder().join("target/staticlib/libengine.a");
+    let folder = folder("put");
+    let archive = folder.join("target/staticlib/libengine.a");
     let found = || {
         let text = fs::read_to_string(&archive).expect("the library is there");
         let made = fs::metadata(&archive).and_then(|file| file.modified());
@@ -54,7 +54,7 @@ fn where_it_is_put() {
     };
     let build = |text: &str| {
         let rt = format!("echo '{text}' >out/libengine.a; echo 'logic=proved'");
-        let output = library(scratch.folder(), &["engine"], &rt);
+        let output = library(&folder, &["engine"], &rt);
         assert_eq!(told(&output), (Some(0), "logic=proved\n", ""));
     };
     build("one");
@@ -71,23 +71,19 @@ fn where_it_is_put() {
 #[test]
 fn what_is_not_built() {
     let _alone = alone();
-    let scratch = folder("not");
-    let output = library(
-        scratch.folder(),
-        &["engine"],
-        "echo 'logic=not-proved'; exit 3",
-    );
+    let folder = folder("not");
+    let output = library(&folder, &["engine"], "echo 'logic=not-proved'; exit 3");
     assert_eq!(told(&output), (Some(3), "logic=not-proved\n", ""));
-    let output = library(scratch.folder(), &["engine"], "");
+    let output = library(&folder, &["engine"], "");
     let message = "library: rt has not made crates/engine/out/libengine.a\n";
     assert_eq!(told(&output), (Some(1), "", message));
-    let output = library(scratch.folder(), &["other"], "");
+    let output = library(&folder, &["other"], "");
     let message = "library: there is no crate 'other'\n";
     assert_eq!(told(&output), (Some(1), "", message));
     for arguments in [&[][..], &[""], &["--help"], &["engine", "probes"]] {
-        let output = library(scratch.folder(), arguments, "");
+        let output = library(&folder, arguments, "");
         let message = "usage: tools/library NAME\n";
         assert_eq!(told(&output), (Some(2), "", message), "{arguments:?}");
     }
-    assert!(!scratch.folder().join("target").exists());
+    assert!(!folder.join("target").exists());
 }
