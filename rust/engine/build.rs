@@ -16,8 +16,8 @@ fn main() {
     // compiler stops, and cargo shows this beside it.
     if !archive.is_file() {
         println!(
-            "cargo::warning=the probes of the proved engine are not built: {} is missing; run `rt \
-             staticlib probes` in the repository's root first",
+            "cargo::warning=the probes of the proved engine are not built: {} is missing; run \
+             `tools/library probes` in the repository's root first",
             archive.display()
         );
     }

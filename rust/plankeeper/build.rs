@@ -17,9 +17,9 @@ fn main() {
     // compiler stops, and cargo shows this beside it.
     if !archive.is_file() {
         println!(
-            "cargo::warning=the proved engine is not built: {} is missing; run `rt staticlib \
-             engine` in the repository's root first, or name the folder that has it in \
-             PLANKEEPER_LIB",
+            "cargo::warning=the proved engine is not built: {} is missing; run \
+             `tools/library engine` in the repository's root first, or name the folder that has \
+             it in PLANKEEPER_LIB",
             archive.display()
         );
     }

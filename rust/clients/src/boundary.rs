@@ -6,7 +6,7 @@ use std::path::Path;
 
 use crate::prototype::{Parameter, Prototype};
 
-const EXPORT: &str = "#[no_mangle]\npub extern \"C\" fn ";
+const EXPORT: &str = "#[unsafe(no_mangle)]\npub extern \"C\" fn ";
 
 /// An exported function.
 pub struct Export {
@@ -29,7 +29,7 @@ pub fn exported(folder: &Path) -> Vec<Export> {
         let source = fs::read_to_string(&file).expect("the source can be read");
         let functions = source.split(EXPORT).skip(1);
         assert_eq!(
-            source.matches("\n#[no_mangle]").count(),
+            source.matches("\n#[unsafe(no_mangle)]").count(),
             functions.clone().count(),
             "{} exports a function in another form",
             file.display()

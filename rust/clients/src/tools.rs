@@ -44,8 +44,8 @@ pub fn library() -> PathBuf {
     let library = root().join("target/staticlib/libengine.a");
     assert!(
         library.is_file(),
-        "the proved engine is not built: target/staticlib/libengine.a is missing; run `rt \
-         staticlib engine` in the repository's root first"
+        "the proved engine is not built: target/staticlib/libengine.a is missing; run \
+         `tools/library engine` in the repository's root first"
     );
     library
 }

@@ -55,7 +55,7 @@ fn the_program_in_the_readme() {
     let [library, compiler, program] = commands[..] else {
         panic!("the library is built, the program is built and run: {commands:?}");
     };
-    assert_eq!((library, program), ("rt staticlib engine", "./week"));
+    assert_eq!((library, program), ("tools/library engine", "./week"));
     let printed = console.lines().filter(|line| !line.starts_with("$ "));
     let printed: String = printed.map(|line| line.to_owned() + "\n").collect();
     assert_eq!(built_and_run(compiler, &source), printed);

@@ -27,7 +27,7 @@ fn cargo(arguments: &[&str]) -> Output {
 #[test]
 fn what_is_said() {
     let sentence = format!(
-        "the proved engine is not built: {}/libengine.a is missing; run `rt staticlib engine` in \
+        "the proved engine is not built: {}/libengine.a is missing; run `tools/library engine` in \
          the repository's root first, or name the folder that has it in PLANKEEPER_LIB\n",
         nowhere().display()
     );

@@ -84,7 +84,7 @@
 //! # Linking
 //!
 //! The library is `target/staticlib/libengine.a` in the repository that this
-//! crate is part of; `rt staticlib engine` in the repository's root makes it.
+//! crate is part of; `tools/library engine` in the repository's root makes it.
 //! Elsewhere the environment variable `PLANKEEPER_LIB` names the folder that it
 //! stands in. It is linked into the program, which needs nothing else to run.
 //! While it is missing, cargo says so: `cargo doc` and `cargo check` pass, a build

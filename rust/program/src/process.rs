@@ -33,8 +33,8 @@ pub fn program() -> &'static Path {
         let program = root().join("target/bin/plankeeper");
         assert!(
             program.is_file(),
-            "the proved listing program is not built: target/bin/plankeeper is missing; run `rt \
-             check plankeeper` in the repository's root first"
+            "the proved listing program is not built: target/bin/plankeeper is missing; run \
+             `tools/program` in the repository's root first"
         );
         program
     })

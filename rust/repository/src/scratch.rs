@@ -1,8 +1,9 @@
-//! Scripts that stand in for programs.
+//! Scripts that stand in for programs, and where they stand.
 
-use std::fs;
+use std::ops::Deref;
 use std::os::unix::fs::PermissionsExt;
 use std::path::{Path, PathBuf};
+use std::{env, fs, process};
 
 /// Writes a script with these lines, to be run.
 pub fn put_script(file: &Path, lines: &str) {
@@ -10,10 +11,29 @@ pub fn put_script(file: &Path, lines: &str) {
     fs::set_permissions(file, fs::Permissions::from_mode(0o755)).expect("it can be run");
 }
 
-/// A folder of this name within that one, with nothing in it.
-pub fn empty_folder(within: &str, name: &str) -> PathBuf {
-    let folder = Path::new(within).join(name);
-    let _ = fs::remove_dir_all(&folder);
-    fs::create_dir_all(&folder).expect("there is room for a folder");
-    folder
+/// A folder that is gone when this is. It lies outside of the repository, below
+/// which `rt ci` stops at links and at a second list of crates.
+pub struct Scratch(PathBuf);
+
+impl Scratch {
+    /// An empty one; no other test of the same program has the name.
+    pub fn new(name: &str) -> Self {
+        let folder = env::temp_dir().join(format!("plankeeper-{}-{name}", process::id()));
+        fs::create_dir(&folder).expect("there is room for a folder");
+        Scratch(folder)
+    }
+}
+
+impl Deref for Scratch {
+    type Target = Path;
+
+    fn deref(&self) -> &Path {
+        &self.0
+    }
+}
+
+impl Drop for Scratch {
+    fn drop(&mut self) {
+        let _ = fs::remove_dir_all(&self.0);
+    }
 }

@@ -1,19 +1,19 @@
 //! `.ci/run` looks for what it needs before it proves anything, and so do the
 //! scripts for people: in a folder of the tests' own stand the programs that they
-//! find.
+//! find. Then it goes by what the kit says.
 
 use std::env;
 use std::os::unix::fs::symlink;
-use std::path::{Path, PathBuf};
+use std::path::Path;
 use std::process::{Command, Output};
 use std::sync::{Mutex, MutexGuard};
 
 use program::{root, told};
-use repository::{empty_folder, put_script, rust_version};
+use repository::{Scratch, put_script, rust_version};
 
 /// What the scripts find of the system.
-const COMMON: [&str; 9] = [
-    "basename", "bash", "cat", "dirname", "env", "mktemp", "rm", "sed", "sort",
+const COMMON: [&str; 11] = [
+    "basename", "bash", "cat", "dirname", "env", "grep", "mktemp", "rm", "sed", "sort", "tail",
 ];
 
 /// One test at a time: a script that is being written cannot be run, and whoever
@@ -26,8 +26,8 @@ fn alone() -> MutexGuard<'static, ()> {
 }
 
 /// A folder with these and nothing else.
-fn folder(name: &str) -> PathBuf {
-    let folder = empty_folder(env!("CARGO_TARGET_TMPDIR"), name);
+fn folder(name: &str) -> Scratch {
+    let folder = Scratch::new(name);
     let path = env::var_os("PATH").expect("there is a PATH");
     for tool in COMMON {
         let mut places = env::split_paths(&path).map(|place| place.join(tool));
@@ -82,7 +82,7 @@ fn versions_of_cargo() {
     put_script(&folder.join("rt"), "echo \"rt $*\" >&2; exit 9");
     let wanted = rust_version(root());
     let old = format!("gate: 'cargo' is too old: it has to be of version {wanted} or newer\n");
-    let (old, begun) = ((Some(1), old.as_str()), (Some(9), "rt fmt --check\n"));
+    let (old, begun) = ((Some(1), "", old.as_str()), (Some(9), "rt ci\n", ""));
     for (version, expected) in [
         ("cargo 1.87.0 (0123456 2025-05-01)", old),
         ("cargo 1.9.0", old),
@@ -94,10 +94,68 @@ fn versions_of_cargo() {
     ] {
         put_script(&folder.join("cargo"), &format!("echo '{version}'"));
         let output = run(".ci/run", &folder);
-        let (status, text, message) = told(&output);
-        assert_eq!((status, message), expected, "{version}");
-        assert_eq!(text, "");
+        assert_eq!(told(&output), expected, "{version}");
     }
+}
+
+/// What the kit says of a crate, and of an edit that can be applied no more.
+const PROVED: &str = "== low\nfn low::echo: proved\nrt: low proved\n";
+const BAD: &str = "rt: must-fail low/adds.edit: BAD EDIT: there is no file src/adds.rt\n";
+
+/// It ends where the kit fails, with the kit's status and all that it says.
+#[test]
+fn what_is_not_proved() {
+    let said = format!("{PROVED}rt: FAILED: low/adds.edit\n1 passed, 1 failed\n");
+    for status in [1, 2] {
+        assert_eq!(told_of(&said, status), (Some(status), said.clone()));
+    }
+}
+
+/// It ends where an edit is bad, or where it cannot see whether one is; the last
+/// line is not the kit's.
+#[test]
+fn edits_that_are_bad() {
+    let ok =
+        |edits: &str| format!("rt: ok; handles allowed: none; must-fail edits: {edits}; 1 of 1");
+    for (line, expected) in [
+        (
+            ok("3 refused, 1 bad"),
+            "gate: must-fail edits are bad, as told above",
+        ),
+        (
+            ok("3 refused, 2 of them only by a limit, 12 bad"),
+            "gate: must-fail edits are bad, as told above",
+        ),
+        ("rt: none".to_owned(), "gate: rt has no line 'rt: ok'"),
+    ] {
+        let said = format!("{PROVED}{BAD}{line}\n4 passed, 0 failed\n");
+        let shown = format!("rt: low proved\n{BAD}{line}\n{expected}\n");
+        assert_eq!(told_of(&said, 0), (Some(1), shown));
+    }
+    let said = format!("{PROVED}{}\n4 passed, 1 failed\n", ok("3 refused"));
+    let shown = format!("rt: low proved\n{}\n4 passed, 1 failed\n", ok("3 refused"));
+    assert_eq!(told_of(&said, 0), (Some(1), shown));
+}
+
+/// How the gate ends, and what it prints, where the kit says this.
+fn told_of(said: &str, status: i32) -> (Option<i32>, String) {
+    let _alone = alone();
+    let folder = folder("verdicts");
+    for tool in ["cc", "c++", "nm"] {
+        put_script(&folder.join(tool), "");
+    }
+    put_script(&folder.join("cargo"), "echo 'cargo 2.0.0'");
+    std::fs::write(folder.join("said"), said).expect("it can be written");
+    put_script(
+        &folder.join("rt"),
+        "[[ $* == ci ]] && cat \"${0%/*}/said\"\nexit STATUS"
+            .replace("STATUS", &status.to_string())
+            .as_str(),
+    );
+    let output = run(".ci/run", &folder);
+    let (status, text, message) = told(&output);
+    assert_eq!(message, "");
+    (status, text.to_owned())
 }
 
 #[test]
