@@ -29,11 +29,21 @@ fn all_pages() -> Vec<Page> {
     pages
 }
 
+/// A page's text below the commits that it names first, one to a line.
+fn below_commits(text: &str) -> &str {
+    let is_commit =
+        |line: &str| line.len() == 40 && line.bytes().all(|byte| byte.is_ascii_hexdigit());
+    match text.split_once("\n\n") {
+        Some((first, rest)) if first.lines().all(is_commit) => rest,
+        _ => text,
+    }
+}
+
 /// The title, and below it the question that the page answers.
 #[test]
 fn every_page_begins_with_its_question() {
     let asks = |page: &Page| {
-        let mut parts = page.text.split("\n\n");
+        let mut parts = below_commits(&page.text).split("\n\n");
         let titled = parts.next().is_some_and(|title| title.starts_with("# "));
         titled && parts.next().is_some_and(|question| question.ends_with('?'))
     };
