@@ -3,8 +3,8 @@
 use std::fs;
 use std::path::{Path, PathBuf};
 
-/// Folders with what is built, and git's own.
-const OTHERS: [&str; 2] = ["target", ".git"];
+/// Folders with what is built, by cargo and by rt, and git's own.
+const OTHERS: [&str; 3] = ["target", "out", ".git"];
 
 /// All files under the folder, in order, but for what is built.
 pub fn files(folder: &Path) -> Vec<PathBuf> {
