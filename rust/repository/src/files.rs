@@ -3,7 +3,7 @@
 use std::fs;
 use std::path::{Path, PathBuf};
 
-/// Folders with what is built, and git's own.
+/// Folders with what is built, by cargo and by rt, and git's own.
 const OTHERS: [&str; 3] = ["target", "out", ".git"];
 
 /// All files under the folder, in order, but for what is built.
