@@ -7,8 +7,7 @@ ghost use Rattle.model.specs.Findings.{report_at};
 ghost use Rattle.shard.specs.Queries.{outcome_of_number};
 ghost use Rattle.cluster.specs.View.{view, Sound};
 ghost use Rattle.model.specs.Totals.{held_in, total_held};
-ghost use Rattle.words.specs.Words.{byte_of};
-ghost use Rattle.words.specs.Words.{yes};
+ghost use Rattle.words.specs.Words.{yes, byte_of};
 ghost use Rattle.engine.specs.Queries.{known_code, TellsToken, TellsKnown, TellsFindings};
 
 use crate::codes::flag;

@@ -5,8 +5,7 @@ ghost use Rattle.shard.specs.View.{view, Sound};
 ghost use Rattle.shard.specs.View as View;
 ghost use Rattle.model.specs.Totals.{total_amount};
 ghost use Rattle.shard.specs.Queries.{outcome_of_number};
-ghost use Rattle.words.specs.Words.{byte_of};
-ghost use Rattle.words.specs.Words.{yes};
+ghost use Rattle.words.specs.Words.{yes, byte_of};
 ghost use Rattle.engine.specs.Queries.{known_code, TellsToken, TellsKnown, TellsFindings};
 
 use crate::codes::flag;

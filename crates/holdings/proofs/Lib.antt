@@ -1,3 +1,4 @@
+pub mod Long
 pub mod Local
 pub mod Made
 pub mod Tokens

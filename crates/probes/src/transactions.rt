@@ -2,8 +2,7 @@
 ghost use Rattle.std.specs.Prelude.{◌≡◌};
 ghost use Rattle.transaction.specs.Tokens.{takes_part, same_transaction};
 ghost use Rattle.transaction.specs.Checks.{cause_of};
-ghost use Rattle.words.specs.Words.{byte_of, transaction_from};
-ghost use Rattle.words.specs.Words.{yes};
+ghost use Rattle.words.specs.Words.{yes, byte_of, transaction_from};
 
 use words::{narrow, transaction_from, wide};
 
