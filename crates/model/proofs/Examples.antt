@@ -460,11 +460,14 @@ pub record Examples : Type 0 where
 -- each of them by computation
 pub examples : Examples
 unfolding input output make tokens_after token entry both known-at-both votes alone alone-second wrong half two-held mixed other5 near5 pass torn torn-apart
-    onward crossed onward-to brought three known-at-three early asked answered claims claimed small takes_part same_token same_input same_output same_transaction
-    index_fits value_fits input_fits output_fits counts_fit fields_fit same_name named_twice balanced mint_fits inputs_here available available_here finding findings
+    onward crossed onward-to brought three known-at-three early asked answered claims claimed small takes_part
+    same_token same_input same_output same_transaction
+    index_fits value_fits input_fits output_fits counts_fit fields_fit same_name named_twice balanced mint_fits
+    inputs_here available available_here finding findings
     keeping pledges vote newly_known decide outputs_here made_here commit freeing after_mint after_register after_vote after_turn place_of entry_of reserved_by
     reserved held_off mint_refusals register_refusals deliver_form deliver_refusals turn_refusals hear bring shard_step gave not_given at_shard cluster_step
-    log_after minted_after step after answers play play_answers outcome_in heard_all_in committed serial_from serial_value genesis_ledger take_inputs add_outputs
+    log_after minted_after step after answers play play_answers outcome_in heard_all_in committed serial_from
+    serial_value genesis_ledger take_inputs add_outputs
     spend serial_run report
 examples = record {
   seven_answers = refl;

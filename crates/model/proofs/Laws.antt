@@ -82,7 +82,8 @@ shard_unchanged limits me ledger call e = shard-left limits me ledger call (shar
 at_unchanged : (limits : Limits) (shards : List Ledger) (p : ℕ) (call : Call) → leaves (at_shard limits shards p call).1
     ≡ true → (at_shard limits shards p call).0 ≡ shards
 unfolding at_shard
-at_unchanged limits shards p call e = ap (set shards p) (shard_unchanged limits p (ledger_at limits shards p) call e) ∙ set-get_or shards p (empty_ledger limits)
+at_unchanged limits shards p call e = ap (set shards p) (shard_unchanged limits p (ledger_at limits shards p) call e)
+    ∙ set-get_or shards p (empty_ledger limits)
 
 -- they change no shard of a cluster
 pub cluster_unchanged : (limits : Limits) (shards : List Ledger) (call : Call)

@@ -74,7 +74,8 @@ module _ {A : Type 0} where
   lookup-map f f' g h [] = refl
   lookup-map f f' g h (y ∷ l) = ap (λ (c : Bool). cond c (some (g y)) (lookup f' (map g l))) (h y) ∙ go (f y) (lookup-map f f' g h l)
     where
-      go : (c : Bool) → lookup f' (map g l) ≡ map_option g (lookup f l) → cond c (some (g y)) (lookup f' (map g l)) ≡ map_option g (cond c (some y) (lookup f l))
+      go : (c : Bool) → lookup f' (map g l) ≡ map_option g (lookup f l) → cond c (some (g y)) (lookup f' (map g l))
+          ≡ map_option g (cond c (some y) (lookup f l))
       go true q = refl
       go false q = q
 

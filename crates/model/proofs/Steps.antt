@@ -404,7 +404,8 @@ module _ {limits : Limits} {log : List Entry} {p : ℕ} {genesis : ℕ → ℕ �
 
       uni : (r₁ r₂ : Entry) → Memᴰ r₁ (r ∷ log) → Memᴰ r₂ (r ∷ log) → r₁.shard ≡ r₂.shard → r₁.transaction ≡ r₂.transaction → r₁ ≡ r₂
       uni r₁ r₂ (mathlib.Core.List.Memᴰ.head e₁) (mathlib.Core.List.Memᴰ.head e₂) a b = e₁ ∙ sym e₂
-      uni r₁ r₂ (mathlib.Core.List.Memᴰ.head e₁) (mathlib.Core.List.Memᴰ.tail m₂) a b = absurd (first_time r₂ m₂ (sym a ∙ shard-of e₁) (sym b ∙ transaction-of e₁))
+      uni r₁ r₂ (mathlib.Core.List.Memᴰ.head e₁) (mathlib.Core.List.Memᴰ.tail m₂) a b =
+          absurd (first_time r₂ m₂ (sym a ∙ shard-of e₁) (sym b ∙ transaction-of e₁))
       uni r₁ r₂ (mathlib.Core.List.Memᴰ.tail m₁) (mathlib.Core.List.Memᴰ.head e₂) a b = absurd (first_time r₁ m₁ (a ∙ shard-of e₂) (b ∙ transaction-of e₂))
       uni r₁ r₂ (mathlib.Core.List.Memᴰ.tail m₁) (mathlib.Core.List.Memᴰ.tail m₂) a b = w.unique r₁ r₂ m₁ m₂ a b
 

@@ -267,7 +267,8 @@ never_twelve limits calls p sender verdict t =
     shards : List Ledger
     shards = (play limits calls).shards
 
-    answered : not_given limits shards p sender verdict t ≡ false → (shard_step limits p (ledger_at limits shards p) (deliver p sender verdict t)).1 ≢ Refused 12
+    answered : not_given limits shards p sender verdict t ≡ false
+        → (shard_step limits p (ledger_at limits shards p) (deliver p sender verdict t)).1 ≢ Refused 12
     answered g e =
         let r = twelve_says limits p (ledger_at limits shards p) sender verdict t (deliver-number limits p (ledger_at limits shards p) sender verdict t 12 e) in
         let given = was-given limits shards p sender verdict t g r.0 in

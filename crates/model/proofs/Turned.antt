@@ -111,7 +111,8 @@ unfolding after_turn
 turn-same ledger = freeing-same (pledged_to_aborted ledger.known) ledger.tokens
 
 -- and nothing else that the shard notes, but that it has turned
-pub turn_notes : (ledger : Ledger) → ((after_turn ledger).given ≡ ledger.given) × ((after_turn ledger).known ≡ ledger.known) × ((after_turn ledger).turned ≡ true)
+pub turn_notes : (ledger : Ledger) → ((after_turn ledger).given ≡ ledger.given)
+    × ((after_turn ledger).known ≡ ledger.known) × ((after_turn ledger).turned ≡ true)
 unfolding after_turn
 turn_notes ledger = (refl, refl, refl)
 

@@ -273,7 +273,8 @@ votes-bring p tokens t h part below votes fresh = record {
     marks : Marks start
     marks =
         unfold newly_known in
-        set-elim (λ q c. c ≤ 2) (replicate 8 0) 0 p (noted (vote p tokens t)) h (most (vote p tokens t)) (λ q n. let z = get_or-same {A = ℕ} 8 0 q in omega arith)
+        set-elim (λ q c. c ≤ 2) (replicate 8 0) 0 p (noted (vote p tokens t)) h (most (vote p tokens t))
+        (λ q n. let z = get_or-same {A = ℕ} 8 0 q in omega arith)
 
     each : Hears votes start
     each = hears-each votes start (unfold newly_known in below) long marks fresh

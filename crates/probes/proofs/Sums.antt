@@ -1,5 +1,35 @@
 -- A turn of the loop over the records: the place moves on, and what is summed up and what is left stay the same sum.
-use Rattle.std.proofs.Common.{◌≡◌, ℕ, zero, suc, ◌+◌, ◌-◌, ◌%◌, ◌^◌, ◌<◌, ◌≤◌, Bool, true, false, cond, eqb, List, length, take, drop, sym, refl, ap, ◌∙◌, arith, length-drop, take_all, drop-drop, ne_eqb, eqb-true}
+use Rattle.std.proofs.Common.{
+  ◌≡◌,
+  ℕ,
+  zero,
+  suc,
+  ◌+◌,
+  ◌-◌,
+  ◌%◌,
+  ◌^◌,
+  ◌<◌,
+  ◌≤◌,
+  Bool,
+  true,
+  false,
+  cond,
+  eqb,
+  List,
+  length,
+  take,
+  drop,
+  sym,
+  refl,
+  ap,
+  ◌∙◌,
+  arith,
+  length-drop,
+  take_all,
+  drop-drop,
+  ne_eqb,
+  eqb-true,
+}
 use borrow.Author.Tests.{eqb-false}
 use Rattle.reader.specs.declared.Reading.{Reading}
 use Rattle.reader.specs.Reading.{reading_of, taken_of, rest_of, Reads}

@@ -10,7 +10,8 @@ pub put_mint-requires : goal.put_mint-requires
 unfolding mint_cause
 put_mint-requires c =
     let a = c.args in
-    room-there (mint_checks house_genesis a.receiver a.index a.owner a.amount) 11 (length a.out.now) refl (sym c.mint_cause-cause.ensures ∙ c.if-cause-ne0.false)
+    let none = sym c.mint_cause-cause.ensures ∙ c.if-cause-ne0.false in
+    room-there (mint_checks house_genesis a.receiver a.index a.owner a.amount) 11 (length a.out.now) refl none
 
 pub returns : goal.returns
 returns c =

@@ -10,7 +10,8 @@ pub put_register-requires : goal.put_register-requires
 unfolding register_cause
 put_register-requires c =
     let a = c.args in
-    room-there (register_checks house_genesis a.receiver a.t) 100 (length a.out.now) refl (sym c.register_cause-cause.ensures ∙ c.if-cause-ne0.false)
+    let none = sym c.register_cause-cause.ensures ∙ c.if-cause-ne0.false in
+    room-there (register_checks house_genesis a.receiver a.t) 100 (length a.out.now) refl none
 
 pub returns : goal.returns
 returns c =

@@ -10,7 +10,8 @@ pub put_turn-requires : goal.put_turn-requires
 unfolding turn_cause
 put_turn-requires c =
     let a = c.args in
-    room-there (turn_checks a.receiver) 2 (length a.out.now) refl (sym c.turn_cause-cause.ensures ∙ c.if-cause-ne0.false)
+    let none = sym c.turn_cause-cause.ensures ∙ c.if-cause-ne0.false in
+    room-there (turn_checks a.receiver) 2 (length a.out.now) refl none
 
 pub returns : goal.returns
 returns c =

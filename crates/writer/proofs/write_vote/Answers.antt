@@ -10,7 +10,8 @@ pub put_vote-requires : goal.put_vote-requires
 unfolding vote_cause
 put_vote-requires c =
     let a = c.args in
-    room-there (vote_checks house_genesis a.receiver a.sender a.verdict a.t) 102 (length a.out.now) refl (sym c.vote_cause-cause.ensures ∙ c.if-cause-ne0.false)
+    let none = sym c.vote_cause-cause.ensures ∙ c.if-cause-ne0.false in
+    room-there (vote_checks house_genesis a.receiver a.sender a.verdict a.t) 102 (length a.out.now) refl none
 
 pub returns : goal.returns
 returns c =
