@@ -12,5 +12,5 @@ mod words;
 
 pub use files::{files, lines_of, rust_version, with_ending};
 pub use page::{Page, Span, pages};
-pub use scratch::{Scratch, put_script};
+pub use scratch::{Scratch, alone, put_script};
 pub use words::Words;

@@ -6,24 +6,14 @@ use std::env;
 use std::os::unix::fs::symlink;
 use std::path::Path;
 use std::process::{Command, Output};
-use std::sync::{Mutex, MutexGuard};
 
 use program::{root, told};
-use repository::{Scratch, put_script, rust_version};
+use repository::{Scratch, alone, put_script, rust_version};
 
 /// What the scripts find of the system.
 const COMMON: [&str; 11] = [
     "basename", "bash", "cat", "dirname", "env", "grep", "mktemp", "rm", "sed", "sort", "tail",
 ];
-
-/// One test at a time: a script that is being written cannot be run, and whoever
-/// starts another program may hold it open.
-fn alone() -> MutexGuard<'static, ()> {
-    static ALONE: Mutex<()> = Mutex::new(());
-    ALONE
-        .lock()
-        .unwrap_or_else(|poisoned| poisoned.into_inner())
-}
 
 /// A folder with these and nothing else.
 fn folder(name: &str) -> Scratch {

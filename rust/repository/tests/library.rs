@@ -5,19 +5,9 @@ use std::fs;
 use std::os::unix::fs::symlink;
 use std::path::Path;
 use std::process::{Command, Output};
-use std::sync::{Mutex, MutexGuard};
 
 use program::{root, told};
-use repository::{Scratch, put_script};
-
-/// One at a time: a script that is being written cannot be run, and whoever starts
-/// another program may hold it open.
-fn alone() -> MutexGuard<'static, ()> {
-    static ALONE: Mutex<()> = Mutex::new(());
-    ALONE
-        .lock()
-        .unwrap_or_else(|poisoned| poisoned.into_inner())
-}
+use repository::{Scratch, alone, put_script};
 
 /// A folder with the scripts, the crate `engine`, and no kit yet.
 fn folder(name: &str) -> Scratch {
