@@ -1,10 +1,12 @@
--- The cases of `cause_of`, each from what was found of the parts, and what its 0 says.
+-- The cases of `cause_of`, each from what was found of the parts, and what its ok says.
 use Prim.Native.Nat.{ℕ}
 use mathlib.Core.Path.{◌≡◌, refl, sym, ap}
 use mathlib.Core.Bool.{Bool, true, false, ◌&&◌}
 use borrow.Author.Tests.{eq-eqb, ne_eqb}
 use lib.Dec.{eqb}
 use lib.ListN.{length}
+use Rattle.std.proofs.Common.{Ok, Err}
+use Rattle.transaction.specs.declared.refusal.Refusal.TheVariants.{OutOfRange, TokenTwice, SumsDiffer}
 use Rattle.transaction.specs.declared.Input.{Input}
 use Rattle.transaction.specs.declared.Output.{Output}
 use Rattle.transaction.specs.declared.Transaction.{Transaction}
@@ -83,13 +85,13 @@ module _ (genesis : ℕ) (t : Transaction) where
       total-used output_amount output_fits (same_output zero_output) output-none t.output_count t.outputs
       (and_right (counts_fit t && fits-inputs) fits-outputs h)
 
-  pub cause_3 : false ≡ fields_fit genesis t → 3 ≡ cause_of genesis t
+  pub cause_3 : false ≡ fields_fit genesis t → Err OutOfRange ≡ cause_of genesis t
   unfolding cause_of
   cause_3 n = rw (sym n) refl
 
   -- where check 3 passes
   module _ (fit : true ≡ fields_fit genesis t) where
-    pub cause_4 : true ≡ named_twice t → 4 ≡ cause_of genesis t
+    pub cause_4 : true ≡ named_twice t → Err TokenTwice ≡ cause_of genesis t
     unfolding cause_of
     cause_4 twice = rw (sym fit, sym twice) refl
 
@@ -100,10 +102,10 @@ module _ (genesis : ℕ) (t : Transaction) where
       unfolding balanced
       sums = rw (input-sum (sym fit), output-sum (sym fit), em, en) refl
 
-      pub cause_5 : (m ≡ n → ⊥) → 5 ≡ cause_of genesis t
+      pub cause_5 : (m ≡ n → ⊥) → Err SumsDiffer ≡ cause_of genesis t
       unfolding cause_of
       cause_5 q = rw (sym fit, sym once, sums, ne_eqb m n q) refl
 
-      pub cause_0 : m ≡ n → 0 ≡ cause_of genesis t
+      pub cause_0 : m ≡ n → Ok tt ≡ cause_of genesis t
       unfolding cause_of
       cause_0 q = rw (sym fit, sym once, sums, eq-eqb m n q) refl

@@ -1,9 +1,11 @@
 -- Rows 3, 4 and 5 of document 01's table of refusals, for a transaction (swap), a genesis token (opening) and a turn.
 -- `genesis` is the number of genesis indices (opening positions) of a shard: 128 in a house.
-use Rattle.std.specs.Prelude.{ℕ, Bool, cond, not, ◌&&◌, List, [], ◌∷◌, eqb, leb, ltb}
+use Rattle.std.specs.Prelude.{ℕ, Result, Bool, cond, not, ◌&&◌, List, [], ◌∷◌, eqb, leb, ltb}
 use Rattle.transaction.specs.declared.Input.{Input}
 use Rattle.transaction.specs.declared.Output.{Output}
 use Rattle.transaction.specs.declared.Transaction.{Transaction}
+use Rattle.transaction.specs.declared.refusal.Refusal.{Refusal}
+use Rattle.transaction.specs.declared.refusal.Refusal.TheVariants.{OutOfRange, TokenTwice, SumsDiffer}
 use Rattle.transaction.specs.Lists.{total, repeats, slots_fit, first_of}
 use Rattle.transaction.specs.Tokens.{
   used_inputs,
@@ -68,11 +70,11 @@ unfoldable pub balanced : Transaction → Bool
 balanced t = eqb (total input_amount (used_inputs t)) (total output_amount (used_outputs t))
 
 -- the checks of a transaction, in the table's order
-abbrev pub checks : ℕ → Transaction → List (Bool × ℕ)
-checks genesis t = (not (fields_fit genesis t), 3) ∷ (named_twice t, 4) ∷ (not (balanced t), 5) ∷ []
+abbrev pub checks : ℕ → Transaction → List (Bool × Refusal)
+checks genesis t = (not (fields_fit genesis t), OutOfRange) ∷ (named_twice t, TokenTwice) ∷ (not (balanced t), SumsDiffer) ∷ []
 
--- the first fitting of 3, 4, 5; 0 for none
-unfoldable pub cause_of : ℕ → Transaction → ℕ
+-- the first fitting of 3, 4, 5; ok where none fits
+unfoldable pub cause_of : ℕ → Transaction → Result Unit Refusal
 cause_of genesis t = first_of (checks genesis t)
 
 -- the genesis indices of a house: 0 to 127
@@ -81,20 +83,20 @@ house_genesis = 128
 
 -- The fields of a record, by its kind; the shard that receives it, and of a vote the sender, are 0 to 7,
 -- and a verdict is 1 (yes) or 0 (no).
-abbrev pub register_checks : ℕ → ℕ → Transaction → List (Bool × ℕ)
-register_checks genesis receiver t = (not (shard_fits receiver), 3) ∷ checks genesis t
+abbrev pub register_checks : ℕ → ℕ → Transaction → List (Bool × Refusal)
+register_checks genesis receiver t = (not (shard_fits receiver), OutOfRange) ∷ checks genesis t
 
-abbrev pub vote_checks : ℕ → ℕ → ℕ → ℕ → Transaction → List (Bool × ℕ)
+abbrev pub vote_checks : ℕ → ℕ → ℕ → ℕ → Transaction → List (Bool × Refusal)
 vote_checks genesis receiver sender verdict t =
-    (not (shard_fits receiver), 3) ∷ (not (shard_fits sender), 3) ∷ (not (leb verdict 1), 3) ∷ checks genesis t
+    (not (shard_fits receiver), OutOfRange) ∷ (not (shard_fits sender), OutOfRange) ∷ (not (leb verdict 1), OutOfRange) ∷ checks genesis t
 
 -- a genesis token (opening)
 unfoldable pub mint_fits : ℕ → ℕ → ℕ → ℕ → ℕ → Bool
 mint_fits genesis receiver index owner amount = shard_fits receiver && index_fits genesis 0 index && value_fits owner amount
 
-abbrev pub mint_checks : ℕ → ℕ → ℕ → ℕ → ℕ → List (Bool × ℕ)
-mint_checks genesis receiver index owner amount = (not (mint_fits genesis receiver index owner amount), 3) ∷ []
+abbrev pub mint_checks : ℕ → ℕ → ℕ → ℕ → ℕ → List (Bool × Refusal)
+mint_checks genesis receiver index owner amount = (not (mint_fits genesis receiver index owner amount), OutOfRange) ∷ []
 
--- a turn (document 02, 4): its one field is the shard that receives it
-abbrev pub turn_checks : ℕ → List (Bool × ℕ)
-turn_checks receiver = (not (shard_fits receiver), 3) ∷ []
+-- a turn (document 02, TokenTwice): its one field is the shard that receives it
+abbrev pub turn_checks : ℕ → List (Bool × Refusal)
+turn_checks receiver = (not (shard_fits receiver), OutOfRange) ∷ []

@@ -1,3 +1,4 @@
+pub mod Refusals
 pub mod Lists
 pub mod Tokens
 pub mod Checks

@@ -1,5 +1,6 @@
 -- Functions on lists by a test, and the first of a list of checks.
-use Rattle.std.specs.Prelude.{ℕ, ◌+◌, Bool, true, false, cond, ◌&&◌, ◌||◌, List, [], ◌∷◌, take, drop}
+use Rattle.std.specs.Prelude.{ℕ, Result, Ok, Err, ◌+◌, Bool, true, false, cond, ◌&&◌, ◌||◌, List, [], ◌∷◌, take, drop}
+use Rattle.transaction.specs.declared.refusal.Refusal.{Refusal}
 
 -- some element passes
 abbrev pub any : {A : Type 0} → (A → Bool) → List A → Bool
@@ -32,8 +33,8 @@ repeats f (x ∷ xs) = any (f x) xs || repeats f xs
 abbrev pub slots_fit : {A : Type 0} → (A → Bool) → (A → Bool) → ℕ → List A → Bool
 slots_fit used unused count slots = all used (take count slots) && all unused (drop count slots)
 
--- A table of refusals: tests with their numbers, in order.
--- Its answer is the number of the first test that holds, 0 where none does.
-abbrev pub first_of : List (Bool × ℕ) → ℕ
-first_of [] = 0
-first_of (check ∷ checks) = cond check.0 check.1 (first_of checks)
+-- A table of refusals: tests, each with its row of document 01's table, in order.
+-- Its answer is the refusal of the first test that holds, and ok where none does.
+abbrev pub first_of : List (Bool × Refusal) → Result Unit Refusal
+first_of [] = Ok tt
+first_of (check ∷ checks) = cond check.0 (Err check.1) (first_of checks)

@@ -5,6 +5,7 @@ ghost use Rattle.transaction.specs.Checks.{same_name, input_amount, output_amoun
 
 use crate::equality::same_token;
 use crate::fields::{fields_fit, mint_fits, shard_fits};
+use crate::refusal::Refusal;
 use crate::{Input, Output, Transaction};
 
 fn same_name(a: Input, b: Input) -> bool
@@ -66,61 +67,75 @@ pub fn output_total(y: [Output; 4]) -> u64
 }
 
 // All four slots are summed: check 3 has passed, so that unused ones add nothing.
-pub fn cause(genesis: u8, t: Transaction) -> u8
+pub fn cause(genesis: u8, t: Transaction) -> Result<(), Refusal>
     ensures { result ≡ cause_of genesis t }
 {
     if !fields_fit(genesis, t) {
-        return 3;
+        return Err(Refusal::OutOfRange);
     }
     let count = t.input_count;
     let x = t.inputs;
     if named_twice(count, x) {
-        return 4;
+        return Err(Refusal::TokenTwice);
     }
     let y = t.outputs;
     if input_total(x) != output_total(y) {
-        return 5;
+        return Err(Refusal::SumsDiffer);
     }
-    0
+    Ok(())
 }
 
-// The first fitting of a record's field checks, by its kind; 0 for none.
-pub fn register_cause(genesis: u8, receiver: u8, t: Transaction) -> u8
+// The first fitting of a record's field checks, by its kind.
+pub fn register_cause(genesis: u8, receiver: u8, t: Transaction) -> Result<(), Refusal>
     ensures { result ≡ first_of (register_checks genesis receiver t) }
 {
     if !shard_fits(receiver) {
-        return 3;
+        return Err(Refusal::OutOfRange);
     }
     cause(genesis, t)
 }
 
-pub fn vote_cause(genesis: u8, receiver: u8, sender: u8, verdict: u8, t: Transaction) -> u8
+pub fn vote_cause(
+    genesis: u8,
+    receiver: u8,
+    sender: u8,
+    verdict: u8,
+    t: Transaction,
+) -> Result<(), Refusal>
     ensures { result ≡ first_of (vote_checks genesis receiver sender verdict t) }
 {
     if !shard_fits(receiver) {
-        return 3;
+        return Err(Refusal::OutOfRange);
     }
     if !shard_fits(sender) {
-        return 3;
+        return Err(Refusal::OutOfRange);
     }
     if 1 < verdict {
-        return 3;
+        return Err(Refusal::OutOfRange);
     }
     cause(genesis, t)
 }
 
-pub fn mint_cause(genesis: u8, receiver: u8, index: u8, owner: u32, amount: u32) -> u8
+pub fn mint_cause(
+    genesis: u8,
+    receiver: u8,
+    index: u8,
+    owner: u32,
+    amount: u32,
+) -> Result<(), Refusal>
     ensures { result ≡ first_of (mint_checks genesis receiver index owner amount) }
 {
-    if mint_fits(genesis, receiver, index, owner, amount) {
-        0
-    } else {
-        3
+    if !mint_fits(genesis, receiver, index, owner, amount) {
+        return Err(Refusal::OutOfRange);
     }
+    Ok(())
 }
 
-pub fn turn_cause(receiver: u8) -> u8
+pub fn turn_cause(receiver: u8) -> Result<(), Refusal>
     ensures { result ≡ first_of (turn_checks receiver) }
 {
-    if shard_fits(receiver) { 0 } else { 3 }
+    if !shard_fits(receiver) {
+        return Err(Refusal::OutOfRange);
+    }
+    Ok(())
 }

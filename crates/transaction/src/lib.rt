@@ -4,6 +4,7 @@
 // Internal, and public only because the crates `reader` and `engine` are made of them: `fields`, and the rest of `checks`.
 #![tactic(auto)]
 
+pub mod refusal; // the table of refusals
 pub mod equality; // every field agrees
 pub mod fields; // check 3
 pub mod checks; // checks 3, 4 and 5 in their order
