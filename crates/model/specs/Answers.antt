@@ -1,43 +1,38 @@
 -- For each answer that is an enum, document 01's number and words for every case of it. Words are bytes in capitals.
-use Rattle.std.specs.Prelude.{ℕ, Bool, true, false, cond, List, [], ◌∷◌}
+use Rattle.std.specs.Prelude.{ℕ, Result, Ok, Err, Bool, true, false, cond, List, [], ◌∷◌}
 use Rattle.model.specs.declared.Outcome.{Outcome}
 use Rattle.model.specs.declared.Outcome.TheVariants.{Wait, Commit, Abort}
 use Rattle.model.specs.declared.Finding.{Finding}
 use Rattle.model.specs.declared.Finding.TheVariants.{Available, NotHeld, OtherOwner, OtherAmount, Pledged}
-use Rattle.model.specs.declared.Told.{Told}
-use Rattle.model.specs.declared.Told.TheVariants as told
-use Rattle.model.specs.declared.Answer.{Answer}
-use Rattle.model.specs.declared.Answer.TheVariants.{Refused, Minted, Registered, Heard, Again, Turned, Brought}
+use Rattle.model.specs.declared.Findings.{Findings}
+use Rattle.model.specs.declared.Done.{Done}
+use Rattle.model.specs.declared.Done.TheVariants.{Minted, Registered, Heard, Again, Turned, Brought}
+use Rattle.transaction.specs.declared.refusal.Refusal.{Refusal}
+use Rattle.transaction.specs.Refusals.{refusal_number}
+
+-- what a call answers: what it did, or why it is refused
+abbrev pub Answer : Type 0
+Answer = Result Done Refusal
 
 -- the table's number, 0 where the call was carried out
 abbrev pub number_of : Answer → ℕ
-number_of (Refused number) = number
-number_of Minted = 0
-number_of (Registered verdict outcome) = 0
-number_of (Heard outcome) = 0
-number_of (Again outcome) = 0
-number_of Turned = 0
-number_of (Brought verdict outcome) = 0
+number_of (Err refusal) = refusal_number refusal
+number_of (Ok done) = 0
 
 -- was the call carried out
 abbrev pub carried_out : Answer → Bool
-carried_out (Refused number) = false
-carried_out Minted = true
-carried_out (Registered verdict outcome) = true
-carried_out (Heard outcome) = true
-carried_out (Again outcome) = true
-carried_out Turned = true
-carried_out (Brought verdict outcome) = true
+carried_out (Err refusal) = false
+carried_out (Ok done) = true
 
 -- was a transaction registered, by a registration or by a vote that brought it (document 02, 6)
 abbrev pub registers : Answer → Bool
-registers (Refused number) = false
-registers Minted = false
-registers (Registered verdict outcome) = true
-registers (Heard outcome) = false
-registers (Again outcome) = false
-registers Turned = false
-registers (Brought verdict outcome) = true
+registers (Err refusal) = false
+registers (Ok Minted) = false
+registers (Ok (Registered verdict outcome)) = true
+registers (Ok (Heard outcome)) = false
+registers (Ok (Again outcome)) = false
+registers (Ok Turned) = false
+registers (Ok (Brought verdict outcome)) = true
 
 -- WAIT, COMMIT, ABORT
 abbrev pub outcome_word : Outcome → List ℕ
@@ -52,13 +47,13 @@ verdict_word verdict = cond verdict (89 ∷ 69 ∷ 83 ∷ []) (78 ∷ 79 ∷ [])
 -- REFUSED (its number follows); OPENED; YES or NO and then an outcome, for a registration and for a vote that brought its transaction;
 -- HEARD (fresh) or AGAIN (repeat) and then an outcome; TURNED
 abbrev pub answer_words : Answer → List (List ℕ)
-answer_words (Refused number) = (82 ∷ 69 ∷ 70 ∷ 85 ∷ 83 ∷ 69 ∷ 68 ∷ []) ∷ []
-answer_words Minted = (79 ∷ 80 ∷ 69 ∷ 78 ∷ 69 ∷ 68 ∷ []) ∷ []
-answer_words (Registered verdict outcome) = verdict_word verdict ∷ outcome_word outcome ∷ []
-answer_words (Heard outcome) = (72 ∷ 69 ∷ 65 ∷ 82 ∷ 68 ∷ []) ∷ outcome_word outcome ∷ []
-answer_words (Again outcome) = (65 ∷ 71 ∷ 65 ∷ 73 ∷ 78 ∷ []) ∷ outcome_word outcome ∷ []
-answer_words Turned = (84 ∷ 85 ∷ 82 ∷ 78 ∷ 69 ∷ 68 ∷ []) ∷ []
-answer_words (Brought verdict outcome) = verdict_word verdict ∷ outcome_word outcome ∷ []
+answer_words (Err refusal) = (82 ∷ 69 ∷ 70 ∷ 85 ∷ 83 ∷ 69 ∷ 68 ∷ []) ∷ []
+answer_words (Ok Minted) = (79 ∷ 80 ∷ 69 ∷ 78 ∷ 69 ∷ 68 ∷ []) ∷ []
+answer_words (Ok (Registered verdict outcome)) = verdict_word verdict ∷ outcome_word outcome ∷ []
+answer_words (Ok (Heard outcome)) = (72 ∷ 69 ∷ 65 ∷ 82 ∷ 68 ∷ []) ∷ outcome_word outcome ∷ []
+answer_words (Ok (Again outcome)) = (65 ∷ 71 ∷ 65 ∷ 73 ∷ 78 ∷ []) ∷ outcome_word outcome ∷ []
+answer_words (Ok Turned) = (84 ∷ 85 ∷ 82 ∷ 78 ∷ 69 ∷ 68 ∷ []) ∷ []
+answer_words (Ok (Brought verdict outcome)) = verdict_word verdict ∷ outcome_word outcome ∷ []
 
 -- ---- Findings (document 02, 2)
 
@@ -94,11 +89,15 @@ is_available OtherOwner = false
 is_available OtherAmount = false
 is_available (Pledged number) = false
 
--- what the call for the findings answers: a refusal's number, and how many findings there are
-abbrev pub told_number : Told → ℕ
-told_number (told.Refused number) = number
-told_number (told.Findings count) = 0
+-- what the call for the findings answers: the findings, or why it is refused
+abbrev pub Report : Type 0
+Report = Result Findings Refusal
 
-abbrev pub told_count : Told → ℕ
-told_count (told.Refused number) = 0
-told_count (told.Findings count) = count
+-- its refusal's number, and how many findings there are
+abbrev pub told_number : Report → ℕ
+told_number (Err refusal) = refusal_number refusal
+told_number (Ok found) = 0
+
+abbrev pub told_count : Report → ℕ
+told_count (Err refusal) = 0
+told_count (Ok found) = found.count

@@ -1,10 +1,10 @@
 -- The cluster (round) of eight shards: what each call does to the ledgers. The contracts of the cluster's functions cite `cluster_step`.
-use Rattle.std.specs.Prelude.{ℕ, ◌+◌, Bool, cond, not, ◌&&◌, List, eqb, get_or, set, replicate}
+use Rattle.std.specs.Prelude.{ℕ, ◌+◌, Err, is_ok, Bool, cond, not, ◌&&◌, List, eqb, get_or, set, replicate}
 use Rattle.transaction.specs.declared.Transaction.{Transaction}
 use Rattle.transaction.specs.Lists.{any, first_of}
 use Rattle.model.specs.declared.Known.{Known}
-use Rattle.model.specs.declared.Answer.{Answer}
-use Rattle.model.specs.declared.Answer.TheVariants.{Refused}
+use Rattle.transaction.specs.declared.refusal.Refusal.TheVariants.{VoteNotGiven}
+use Rattle.model.specs.Answers.{Answer}
 use Rattle.model.specs.Steps.{Limits, Ledger, empty_ledger, is_for, heard_from}
 use Rattle.model.specs.Shard.{Call, mint, register, deliver, turn, deliver_form, shard_step}
 
@@ -33,7 +33,7 @@ at_shard limits shards receiver call =
 -- 16: a vote that passes 3 to 6, and its sender has not given it
 unfoldable pub not_given : Limits → List Ledger → ℕ → ℕ → ℕ → Transaction → Bool
 not_given limits shards receiver sender verdict t =
-    eqb (first_of (deliver_form limits receiver receiver sender verdict t)) 0
+    is_ok (first_of (deliver_form limits receiver receiver sender verdict t))
     && not (gave (ledger_at limits shards sender) sender verdict t)
 
 -- One call at the cluster.
@@ -42,6 +42,6 @@ cluster_step limits shards (mint receiver index owner amount) = at_shard limits 
 cluster_step limits shards (register receiver t) = at_shard limits shards receiver (register receiver t)
 cluster_step limits shards (deliver receiver sender verdict t) =
     cond (not_given limits shards receiver sender verdict t)
-    (shards, Refused 16)
+    (shards, Err VoteNotGiven)
     (at_shard limits shards receiver (deliver receiver sender verdict t))
 cluster_step limits shards (turn receiver) = at_shard limits shards receiver (turn receiver)

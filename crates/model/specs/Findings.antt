@@ -1,20 +1,20 @@
 -- Document 02, 2, 'Which token spoiled it': the call that reports what a shard found about the inputs of a known transaction, and what is claimed
 -- of it about every list of calls: each finding that is reported is the true state of its token at the registration.
-use Rattle.std.specs.Prelude.{ℕ, suc, ◌≡◌, ◌↔◌, ◌≢◌, Bool, true, cond, not, eqb, length, get_or, take}
+use Rattle.std.specs.Prelude.{ℕ, suc, ◌≡◌, ◌↔◌, ◌≢◌, Result, Ok, Err, Bool, true, cond, not, eqb, length, get_or, take}
 use Rattle.std.proofs.Math.Option.{none, some}
 use mathlib.Core.List.{List, [], ◌∷◌, ◌++◌, map, Memᴰ}
 use Rattle.transaction.specs.declared.Input.{Input}
+use Rattle.transaction.specs.declared.refusal.Refusal.{Refusal}
+use Rattle.transaction.specs.declared.refusal.Refusal.TheVariants.{OutOfRange, NoSuchNumber}
 use Rattle.transaction.specs.Lists.{any, all, first_of}
 use Rattle.transaction.specs.Checks.{shard_fits}
 use Rattle.model.specs.declared.Token.{Token}
 use Rattle.model.specs.declared.Finding.{Finding}
 use Rattle.model.specs.declared.Finding.TheVariants.{Available, NotHeld, OtherOwner, OtherAmount, Pledged}
-use Rattle.model.specs.declared.Found.{Found}
+use Rattle.model.specs.declared.Findings.{Findings}
 use Rattle.model.specs.declared.Known.{Known}
-use Rattle.model.specs.declared.Told.TheVariants.{Refused, Findings}
-use Rattle.model.specs.declared.Report.{Report}
 use Rattle.model.specs.Lists.{find}
-use Rattle.model.specs.Answers.{is_available, told_count}
+use Rattle.model.specs.Answers.{Report, is_available}
 use Rattle.model.specs.Steps.{Limits, Ledger, inputs_here, keeping, heard_from, nothing_known}
 use Rattle.model.specs.Shard.{Call, is_numbered}
 use Rattle.model.specs.Cluster.{ledger_at}
@@ -24,15 +24,15 @@ use Rattle.model.specs.Demand.{token_at}
 -- ---- The call, given a shard (pantry) and a transaction's (swap's) number
 
 -- its refusals at a shard, the form: 3 for another shard, for one above 7, and for the number 0
-abbrev pub report_form : ℕ → ℕ → ℕ → List (Bool × ℕ)
-report_form me shard number = (not (eqb shard me), 3) ∷ (not (shard_fits shard), 3) ∷ (eqb number 0, 3) ∷ []
+abbrev pub report_form : ℕ → ℕ → ℕ → List (Bool × Refusal)
+report_form me shard number = (not (eqb shard me), OutOfRange) ∷ (not (shard_fits shard), OutOfRange) ∷ (eqb number 0, OutOfRange) ∷ []
 
 -- the rest: 18, the number is not known here
-abbrev pub report_rest : Ledger → ℕ → List (Bool × ℕ)
-report_rest ledger number = (not (any (is_numbered number) ledger.known), 18) ∷ []
+abbrev pub report_rest : Ledger → ℕ → List (Bool × Refusal)
+report_rest ledger number = (not (any (is_numbered number) ledger.known), NoSuchNumber) ∷ []
 
 -- 3, 18
-abbrev pub report_refusals : ℕ → Ledger → ℕ → ℕ → List (Bool × ℕ)
+abbrev pub report_refusals : ℕ → Ledger → ℕ → ℕ → List (Bool × Refusal)
 report_refusals me ledger shard number =
     report_form me shard number
     ++ report_rest ledger number
@@ -42,32 +42,27 @@ abbrev pub numbered : ℕ → List Known → Known
 numbered number known = get_or known (find (is_numbered number) known) nothing_known
 
 -- what is told of a known transaction: one finding for each input here, as they are kept
-abbrev pub told : ℕ → Known → Report
-told me k = record { answer = Findings (length (inputs_here me k.transaction)); findings = k.findings }
+abbrev pub told : ℕ → Known → Findings
+told me k = record { count = length (inputs_here me k.transaction); list = k.findings }
 
--- a refusal, and no finding
-abbrev pub refusing : ℕ → Report
-refusing cause = record { answer = Refused cause; findings = keeping [] }
+-- that, unless the call is refused
+abbrev pub unless_refused : Result Unit Refusal → Findings → Report
+unless_refused (Ok passed) found = Ok found
+unless_refused (Err refusal) found = Err refusal
 
--- refused with the first number that fits; else the findings. The call changes nothing
+-- refused for the first cause that fits; else the findings. The call changes nothing
 unfoldable pub report : ℕ → Ledger → ℕ → ℕ → Report
 report me ledger shard number =
-    let cause = first_of (report_refusals me ledger shard number) in
-    cond (eqb cause 0)
-    (told me (numbered number ledger.known))
-    (refusing cause)
+    unless_refused (first_of (report_refusals me ledger shard number)) (told me (numbered number ledger.known))
 
 -- at a cluster, the shard that is asked
 abbrev pub report_at : Limits → List Ledger → ℕ → ℕ → Report
 report_at limits shards shard number = report shard (ledger_at limits shards shard) shard number
 
--- a finding as it was before it was kept
-abbrev pub finding_of : Found → Finding
-finding_of found = found.finding
-
 -- the findings that are reported, in input order
 abbrev pub reported : Report → List Finding
-reported r = take (told_count r.answer) (map finding_of r.findings)
+reported (Err refusal) = []
+reported (Ok found) = take found.count found.list
 
 -- ---- The true state of a token
 

@@ -1,6 +1,6 @@
 -- Document 01: a shard (pantry) holds at most 128 tokens and knows at most 32 transactions (swaps), decided ones included. A ledger that the
 -- calls build keeps to that, at a lone shard and in a cluster; what a caller hands to a function is such a ledger.
-use Rattle.std.specs.Prelude.{ℕ, ◌+◌, ◌≤◌, ◌≡◌, Bool, length}
+use Rattle.std.specs.Prelude.{ℕ, ◌+◌, ◌≤◌, ◌≡◌, Ok, Bool, length}
 use mathlib.Core.List.{List, [], Memᴰ}
 use Rattle.transaction.specs.Checks.{cause_of}
 use Rattle.model.specs.declared.Known.{Known}
@@ -25,5 +25,5 @@ pub record Fit (limits : Limits) (me : ℕ) (ledger : Ledger) : Type 0 where
   pub flags : length ledger.given ≡ limits.genesis
   pub only-given : ledger.known ≡ [] → length ledger.tokens ≤ counted ledger.given
   -- known transactions passed 3, 4 and 5, and have a place for each sender
-  pub checked : (k : Known) → Memᴰ k ledger.known → cause_of limits.genesis k.transaction ≡ 0
+  pub checked : (k : Known) → Memᴰ k ledger.known → cause_of limits.genesis k.transaction ≡ Ok tt
   pub eight : (k : Known) → Memᴰ k ledger.known → length k.heard ≡ 8

@@ -2,10 +2,9 @@
 use Rattle.std.specs.Prelude.{ℕ, suc, Bool, cond, List, [], ◌∷◌}
 use Rattle.transaction.specs.declared.Input.{Input}
 use Rattle.transaction.specs.declared.Transaction.{Transaction}
-use Rattle.model.specs.declared.Answer.{Answer}
 use Rattle.model.specs.Steps.{Limits, Ledger, available_here}
 use Rattle.model.specs.Shard.{Call, mint, register, deliver, turn}
-use Rattle.model.specs.Answers.{carried_out, registers}
+use Rattle.model.specs.Answers.{Answer, carried_out, registers}
 use Rattle.model.specs.Cluster.{empty_shards, ledger_at, cluster_step}
 
 -- one registration: its place in the list of calls, the shard, the transaction, which of its inputs there were available

@@ -1,16 +1,31 @@
--- Document 01, 'Causes of refusal', at one shard: for each kind of call one table of tests and numbers in the paper's order, and the whole call.
+-- Document 01, 'Causes of refusal', at one shard: for each kind of call one table of tests and refusals in the paper's order, and the whole call.
 -- Arguments are raw: any number, any count, any slots. A record addressed to another shard is part of check 3.
-use Rattle.std.specs.Prelude.{ℕ, ◌+◌, Bool, true, false, cond, not, ◌&&◌, List, [], ◌∷◌, ◌++◌, eqb, leb, ltb, length, get_or}
+use Rattle.std.specs.Prelude.{ℕ, ◌+◌, Result, Ok, Err, Bool, true, false, cond, not, ◌&&◌, List, [], ◌∷◌, ◌++◌, eqb, leb, ltb, length, get_or}
 use Rattle.transaction.specs.declared.Input.{Input}
 use Rattle.transaction.specs.declared.Transaction.{Transaction}
+use Rattle.transaction.specs.declared.refusal.Refusal.{Refusal}
+use Rattle.transaction.specs.declared.refusal.Refusal.TheVariants.{
+  OutOfRange,
+  NotTakingPart,
+  NumberTaken,
+  KnownAlready,
+  TransactionsFull,
+  TokensFull,
+  NumberUnknown,
+  OtherVerdict,
+  MintTooLate,
+  IndexGiven,
+  HeldOff,
+  TurnedAlready,
+}
 use Rattle.transaction.specs.Lists.{any, total, first_of}
 use Rattle.transaction.specs.Tokens.{takes_part}
 use Rattle.transaction.specs.Checks.{register_checks, vote_checks, mint_checks, turn_checks}
 use Rattle.model.specs.declared.Known.{Known}
 use Rattle.model.specs.declared.Outcome.{Outcome}
 use Rattle.model.specs.declared.Outcome.TheVariants.{Wait, Commit, Abort}
-use Rattle.model.specs.declared.Answer.{Answer}
-use Rattle.model.specs.declared.Answer.TheVariants.{Refused, Minted, Registered, Heard, Again, Turned, Brought}
+use Rattle.model.specs.declared.Done.TheVariants.{Minted, Registered, Heard, Again, Turned, Brought}
+use Rattle.model.specs.Answers.{Answer}
 use Rattle.model.specs.Steps.{
   Limits,
   Ledger,
@@ -80,28 +95,28 @@ other_verdict heard verdict = not (eqb heard 0) && not (eqb heard (verdict + 1))
 -- Each table is in two parts: what the record says by itself (its form), then what the ledger says (the rest).
 
 -- kind 3, the form: 3
-abbrev pub mint_form : Limits → ℕ → ℕ → ℕ → ℕ → ℕ → List (Bool × ℕ)
-mint_form limits me receiver index owner amount = (not (eqb receiver me), 3) ∷ mint_checks limits.genesis receiver index owner amount
+abbrev pub mint_form : Limits → ℕ → ℕ → ℕ → ℕ → ℕ → List (Bool × Refusal)
+mint_form limits me receiver index owner amount = (not (eqb receiver me), OutOfRange) ∷ mint_checks limits.genesis receiver index owner amount
 
 -- the rest: 13, 14
-abbrev pub mint_rest : Ledger → ℕ → List (Bool × ℕ)
+abbrev pub mint_rest : Ledger → ℕ → List (Bool × Refusal)
 mint_rest ledger index =
-    (not (eqb (length ledger.known) 0), 13)
-    ∷ (get_or ledger.given index false, 14)
+    (not (eqb (length ledger.known) 0), MintTooLate)
+    ∷ (get_or ledger.given index false, IndexGiven)
     ∷ []
 
 -- kind 3: 3, 13, 14
-unfoldable pub mint_refusals : Limits → ℕ → Ledger → ℕ → ℕ → ℕ → ℕ → List (Bool × ℕ)
+unfoldable pub mint_refusals : Limits → ℕ → Ledger → ℕ → ℕ → ℕ → ℕ → List (Bool × Refusal)
 mint_refusals limits me ledger receiver index owner amount =
     mint_form limits me receiver index owner amount
     ++ mint_rest ledger index
 
 -- kind 1, the form: 3, 4, 5, 6
-abbrev pub register_form : Limits → ℕ → ℕ → Transaction → List (Bool × ℕ)
+abbrev pub register_form : Limits → ℕ → ℕ → Transaction → List (Bool × Refusal)
 register_form limits me receiver t =
-    (not (eqb receiver me), 3)
+    (not (eqb receiver me), OutOfRange)
     ∷ register_checks limits.genesis receiver t
-    ++ (not (takes_part receiver t), 6)
+    ++ (not (takes_part receiver t), NotTakingPart)
     ∷ []
 
 -- 10: held tokens, outputs here of undecided transactions and of this one would pass the limit
@@ -118,93 +133,94 @@ unfoldable pub held_off : ℕ → List Known → Transaction → Bool
 held_off me known t = any (λ x. any (awaits me x) known) (inputs_here me t)
 
 -- whether a transaction that is not known can be entered now: 9, 10, 17
-abbrev pub entry_refusals : Limits → ℕ → Ledger → Transaction → List (Bool × ℕ)
+abbrev pub entry_refusals : Limits → ℕ → Ledger → Transaction → List (Bool × Refusal)
 entry_refusals limits me ledger t =
-    (leb limits.transactions (length ledger.known), 9)
-    ∷ (too_full limits me ledger t, 10)
-    ∷ (held_off me ledger.known t, 17)
+    (leb limits.transactions (length ledger.known), TransactionsFull)
+    ∷ (too_full limits me ledger t, TokensFull)
+    ∷ (held_off me ledger.known t, HeldOff)
     ∷ []
 
 -- the rest: 7, 8, 9, 10, 17
-abbrev pub register_rest : Limits → ℕ → Ledger → Transaction → List (Bool × ℕ)
+abbrev pub register_rest : Limits → ℕ → Ledger → Transaction → List (Bool × Refusal)
 register_rest limits me ledger t =
-    (any (is_other t) ledger.known, 7)
-    ∷ (any (is_for t) ledger.known, 8)
+    (any (is_other t) ledger.known, NumberTaken)
+    ∷ (any (is_for t) ledger.known, KnownAlready)
     ∷ entry_refusals limits me ledger t
 
 -- kind 1: 3, 4, 5, 6, 7, 8, 9, 10, 17
-unfoldable pub register_refusals : Limits → ℕ → Ledger → ℕ → Transaction → List (Bool × ℕ)
+unfoldable pub register_refusals : Limits → ℕ → Ledger → ℕ → Transaction → List (Bool × Refusal)
 register_refusals limits me ledger receiver t =
     register_form limits me receiver t
     ++ register_rest limits me ledger t
 
 -- kind 2, the form: 3, 4, 5, 6; a cluster checks them before 16
-unfoldable pub deliver_form : Limits → ℕ → ℕ → ℕ → ℕ → Transaction → List (Bool × ℕ)
+unfoldable pub deliver_form : Limits → ℕ → ℕ → ℕ → ℕ → Transaction → List (Bool × Refusal)
 deliver_form limits me receiver sender verdict t =
-    (not (eqb receiver me), 3)
+    (not (eqb receiver me), OutOfRange)
     ∷ vote_checks limits.genesis receiver sender verdict t
-    ++ (not (takes_part receiver t), 6)
-    ∷ (not (takes_part sender t), 6)
+    ++ (not (takes_part receiver t), NotTakingPart)
+    ∷ (not (takes_part sender t), NotTakingPart)
     ∷ []
 
--- the rest on an unknown number (document 02, 6): 11 where sender and receiver are one; else the vote brings its transaction, under 9, 10, 17
-abbrev pub bring_rest : Limits → ℕ → Ledger → ℕ → Transaction → List (Bool × ℕ)
-bring_rest limits me ledger sender t = (eqb sender me, 11) ∷ entry_refusals limits me ledger t
+-- the rest on an unknown number (document 02, NotTakingPart): 11 where sender and receiver are one; else the vote brings its transaction, under 9, 10, 17
+abbrev pub bring_rest : Limits → ℕ → Ledger → ℕ → Transaction → List (Bool × Refusal)
+bring_rest limits me ledger sender t = (eqb sender me, NumberUnknown) ∷ entry_refusals limits me ledger t
 
 -- the rest on a known number: 7, 12
-abbrev pub hear_rest : Ledger → ℕ → ℕ → Transaction → List (Bool × ℕ)
+abbrev pub hear_rest : Ledger → ℕ → ℕ → Transaction → List (Bool × Refusal)
 hear_rest ledger sender verdict t =
-    (any (is_other t) ledger.known, 7)
-    ∷ (other_verdict (heard_from sender (entry_of t ledger.known)) verdict, 12)
+    (any (is_other t) ledger.known, NumberTaken)
+    ∷ (other_verdict (heard_from sender (entry_of t ledger.known)) verdict, OtherVerdict)
     ∷ []
 
 -- the rest, by whether the number is known
-abbrev pub deliver_rest : Limits → ℕ → Ledger → ℕ → ℕ → Transaction → List (Bool × ℕ)
+abbrev pub deliver_rest : Limits → ℕ → Ledger → ℕ → ℕ → Transaction → List (Bool × Refusal)
 deliver_rest limits me ledger sender verdict t =
     cond (is_unknown t ledger.known)
     (bring_rest limits me ledger sender t)
     (hear_rest ledger sender verdict t)
 
 -- kind 2 at a lone shard: 3, 4, 5, 6, then 11, 9, 10, 17 or 7, 12
-unfoldable pub deliver_refusals : Limits → ℕ → Ledger → ℕ → ℕ → ℕ → Transaction → List (Bool × ℕ)
+unfoldable pub deliver_refusals : Limits → ℕ → Ledger → ℕ → ℕ → ℕ → Transaction → List (Bool × Refusal)
 deliver_refusals limits me ledger receiver sender verdict t =
     deliver_form limits me receiver sender verdict t
     ++ deliver_rest limits me ledger sender verdict t
 
 -- kind 4 (document 02, 4), the form: 3
-abbrev pub turn_form : ℕ → ℕ → List (Bool × ℕ)
-turn_form me receiver = (not (eqb receiver me), 3) ∷ turn_checks receiver
+abbrev pub turn_form : ℕ → ℕ → List (Bool × Refusal)
+turn_form me receiver = (not (eqb receiver me), OutOfRange) ∷ turn_checks receiver
 
 -- the rest: 19, the shard has turned already
-abbrev pub turn_rest : Ledger → List (Bool × ℕ)
-turn_rest ledger = (ledger.turned, 19) ∷ []
+abbrev pub turn_rest : Ledger → List (Bool × Refusal)
+turn_rest ledger = (ledger.turned, TurnedAlready) ∷ []
 
 -- kind 4: 3, 19
-unfoldable pub turn_refusals : ℕ → Ledger → ℕ → List (Bool × ℕ)
+unfoldable pub turn_refusals : ℕ → Ledger → ℕ → List (Bool × Refusal)
 turn_refusals me ledger receiver =
     turn_form me receiver
     ++ turn_rest ledger
 
 -- ---- One call at a lone shard
 
--- refused with the first number that fits, and all left as it was; else carried out
-abbrev pub unless : {A : Type 0} → ℕ → A → A × Answer → A × Answer
-unless cause before done = cond (eqb cause 0) done (before, Refused cause)
+-- refused for the first cause that fits, and all left as it was; else carried out
+abbrev pub unless : {A : Type 0} → Result Unit Refusal → A → A × Answer → A × Answer
+unless (Ok passed) before done = done
+unless (Err refusal) before done = (before, Err refusal)
 
 -- a vote that passes on a known number: fresh, or the same one heard again
 unfoldable pub hear : ℕ → Ledger → ℕ → ℕ → Transaction → Ledger × Answer
 hear me ledger sender verdict t =
     let k = entry_of t ledger.known in
     cond (eqb (heard_from sender k) 0)
-    (after_vote me ledger sender verdict t, Heard (outcome_of (hearing sender verdict k)))
-    (ledger, Again (outcome_of k))
+    (after_vote me ledger sender verdict t, Ok (Heard (outcome_of (hearing sender verdict k))))
+    (ledger, Ok (Again (outcome_of k)))
 
--- a vote that passes on an unknown number brings its transaction (document 02, 6): the registration, and then the vote
+-- a vote that passes on an unknown number brings its transaction (document 02, NotTakingPart): the registration, and then the vote
 unfoldable pub bring : ℕ → Ledger → ℕ → ℕ → Transaction → Ledger × Answer
 bring me ledger sender verdict t =
     let registered = after_register me ledger t in
     let k = entry_of t registered.known in
-    (after_vote me registered sender verdict t, Brought (vote me ledger.tokens t) (outcome_of (hearing sender verdict k)))
+    (after_vote me registered sender verdict t, Ok (Brought (vote me ledger.tokens t) (outcome_of (hearing sender verdict k))))
 
 -- a vote that passes
 abbrev pub delivered : ℕ → Ledger → ℕ → ℕ → Transaction → Ledger × Answer
@@ -217,13 +233,13 @@ delivered me ledger sender verdict t =
 unfoldable pub shard_step : Limits → ℕ → Ledger → Call → Ledger × Answer
 shard_step limits me ledger (mint receiver index owner amount) =
     unless (first_of (mint_refusals limits me ledger receiver index owner amount)) ledger
-    (after_mint ledger index owner amount, Minted)
+    (after_mint ledger index owner amount, Ok Minted)
 shard_step limits me ledger (register receiver t) =
     unless (first_of (register_refusals limits me ledger receiver t)) ledger
-    (after_register me ledger t, Registered (vote me ledger.tokens t) (outcome_of (newly_known me ledger.tokens t)))
+    (after_register me ledger t, Ok (Registered (vote me ledger.tokens t) (outcome_of (newly_known me ledger.tokens t))))
 shard_step limits me ledger (deliver receiver sender verdict t) =
     unless (first_of (deliver_refusals limits me ledger receiver sender verdict t)) ledger
     (delivered me ledger sender verdict t)
 shard_step limits me ledger (turn receiver) =
     unless (first_of (turn_refusals me ledger receiver)) ledger
-    (after_turn ledger, Turned)
+    (after_turn ledger, Ok Turned)

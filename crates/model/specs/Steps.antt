@@ -10,7 +10,6 @@ use Rattle.transaction.specs.Tokens.{used_inputs, used_outputs, shards_of, same_
 use Rattle.model.specs.declared.Token.{Token}
 use Rattle.model.specs.declared.Finding.{Finding}
 use Rattle.model.specs.declared.Finding.TheVariants.{Available, NotHeld, OtherOwner, OtherAmount, Pledged}
-use Rattle.model.specs.declared.Found.{Found}
 use Rattle.model.specs.declared.Known.{Known}
 use Rattle.model.specs.declared.Outcome.{Outcome}
 use Rattle.model.specs.declared.Outcome.TheVariants.{Wait, Commit, Abort}
@@ -104,11 +103,11 @@ unfoldable pub findings : ℕ → List Token → Transaction → List Finding
 findings me tokens t = map (finding tokens) (inputs_here me t)
 
 -- the finding at a place as it is kept; nobody asks for one behind the last
-abbrev pub found_at : List Finding → ℕ → Found
-found_at found place = record { finding = get_or found place Available }
+abbrev pub found_at : List Finding → ℕ → Finding
+found_at found place = get_or found place Available
 
 -- as they are kept with the known transaction, which has at most four inputs
-unfoldable pub keeping : List Finding → List Found
+unfoldable pub keeping : List Finding → List Finding
 keeping found = found_at found 0 ∷ found_at found 1 ∷ found_at found 2 ∷ found_at found 3 ∷ []
 
 -- the token with its pledge
@@ -141,7 +140,7 @@ abbrev pub noted : Bool → ℕ
 noted verdict = cond verdict 2 1
 
 -- a transaction of which no vote is heard, with what was found about its inputs here
-abbrev pub unheard : List Found → Transaction → Known
+abbrev pub unheard : List Finding → Transaction → Known
 unheard found t = record { transaction = t; heard = replicate 8 0; findings = found }
 
 -- the known transaction with that noted for a sender
@@ -149,7 +148,7 @@ abbrev pub with_said : ℕ → ℕ → Known → Known
 with_said sender said k = record { transaction = k.transaction; heard = set k.heard sender said; findings = k.findings }
 
 -- the transaction as it becomes known with these findings and this vote, which counts as heard from this shard
-abbrev pub known_with : ℕ → List Found → Bool → Transaction → Known
+abbrev pub known_with : ℕ → List Finding → Bool → Transaction → Known
 known_with me found verdict t = with_said me (noted verdict) (unheard found t)
 
 -- as it becomes known by its registration

@@ -3,6 +3,7 @@
 #![tactic(auto)]
 
 use transaction::Transaction;
+use transaction::refusal::Refusal;
 
 // A held token: its creator (making swap) and index (position), its owner (household) and amount (portions),
 // and the number of the transaction that it is pledged to, 0 for none. Its shard is the one that holds it.
@@ -27,19 +28,13 @@ pub enum Finding {
     Pledged(u32),
 }
 
-// A finding as it is kept.
-#[derive(Clone, Copy)]
-pub struct Found {
-    pub finding: Finding,
-}
-
 // A known transaction with the verdicts heard, by sender: 0 not heard, 1 no, 2 yes; and with what was found at its
 // registration about its inputs at this shard, in input order: as many findings as there are such inputs.
 #[derive(Clone, Copy)]
 pub struct Known {
     pub transaction: Transaction,
     pub heard: [u8; 8],
-    pub findings: [Found; 4],
+    pub findings: [Finding; 4],
 }
 
 #[derive(Clone, Copy)]
@@ -49,12 +44,11 @@ pub enum Outcome {
     Abort,
 }
 
-// What a call answers: refused with the table's number; a genesis token given (opened); a registration with the
-// own verdict and the outcome here; a fresh vote and a repeated one with the outcome here; a shard turned; a vote that
-// brought its transaction, with the own verdict and the outcome here after both.
+// What a call that is carried out answers: a genesis token given (opened); a registration with the own verdict and the
+// outcome here; a fresh vote and a repeated one with the outcome here; a shard turned; a vote that brought its
+// transaction, with the own verdict and the outcome here after both.
 #[derive(Clone, Copy)]
-pub enum Answer {
-    Refused(u8),
+pub enum Done {
     Minted,
     Registered(bool, Outcome),
     Heard(Outcome),
@@ -63,16 +57,15 @@ pub enum Answer {
     Brought(bool, Outcome),
 }
 
-// What the call for the findings answers: refused with the table's number, or so many findings.
+// What a call answers: what it did, or why it is refused.
+pub type Answer = Result<Done, Refusal>;
+
+// The findings about the inputs of a known transaction: how many there are, and what they are, in input order.
 #[derive(Clone, Copy)]
-pub enum Told {
-    Refused(u8),
-    Findings(u8),
+pub struct Findings {
+    pub count: u8,
+    pub list: [Finding; 4],
 }
 
-// The answer, with the findings beside it.
-#[derive(Clone, Copy)]
-pub struct Report {
-    pub answer: Told,
-    pub findings: [Found; 4],
-}
+// What the call for the findings answers.
+pub type Report = Result<Findings, Refusal>;
