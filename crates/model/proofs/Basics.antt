@@ -9,6 +9,9 @@ use borrow.Author.Tests.{eqb-true, eq-eqb, ne_eqb}
 use lib.Dec.{eqb, eqb-suc-suc}
 use lib.ListN.{length, get_or, set, replicate}
 use lib.Seq.{get_or-set_same, get_or-set_other}
+use Rattle.std.specs.Prelude.{Ok, Err}
+use Rattle.transaction.specs.declared.refusal.Refusal.{Refusal}
+use Rattle.transaction.specs.Refusals.{refusal_number}
 use Rattle.transaction.specs.Lists.{any, all, first_of}
 use Rattle.model.specs.Lists.{keep, find, map_option}
 
@@ -157,59 +160,52 @@ same_some (some a) q f g = sym (f a refl)
 -- ---- A table of refusals
 
 -- every test of a table is false
-abbrev pub AllFalse : List (Bool × ℕ) → Type 0
+abbrev pub AllFalse : List (Bool × Refusal) → Type 0
 AllFalse [] = Unit {0}
 AllFalse (t ∷ l) = (t.0 ≡ false) × AllFalse l
 
--- no number of the table is 0
-abbrev pub is_number : Bool × ℕ → Bool
-is_number check = not (eqb check.1 0)
+-- where the table refuses nothing, each of its tests is false
+pub passed : (l : List (Bool × Refusal)) → first_of l ≡ Ok tt → AllFalse l
+passed [] e = tt
+passed ((true, k) ∷ l) e = absurd cc
+passed ((false, k) ∷ l) e = (refl, passed l e)
 
--- where the table answers 0, each of its tests is false
-pub passed : (l : List (Bool × ℕ)) → all is_number l ≡ true → first_of l ≡ 0 → AllFalse l
-passed [] s e = tt
-passed (t ∷ l) s e = go t.0 refl e (passed l (both (is_number t) (all is_number l) s).1)
-  where
-    go : (b : Bool) → t.0 ≡ b → cond b t.1 (first_of l) ≡ 0 → (first_of l ≡ 0 → AllFalse l) → (t.0 ≡ false) × AllFalse l
-    go true p q h = clash (both (is_number t) (all is_number l) s).0 (ap not (eqb_yes q))
-    go false p q h = (p, h q)
-
--- and where each of its tests is false, it answers 0
-pub first-none : (l : List (Bool × ℕ)) → AllFalse l → first_of l ≡ 0
+-- and where each of its tests is false, it refuses nothing
+pub first-none : (l : List (Bool × Refusal)) → AllFalse l → first_of l ≡ Ok tt
 first-none [] a = refl
-first-none (t ∷ l) a = ap (λ (b : Bool). cond b t.1 (first_of l)) a.0 ∙ first-none l a.1
+first-none (t ∷ l) a = ap (λ (b : Bool). cond b (Err t.1) (first_of l)) a.0 ∙ first-none l a.1
 
--- one table behind another: where both answer 0, the first does
-pub first-append : (a b : List (Bool × ℕ)) → all is_number a ≡ true → first_of (a ++ b) ≡ 0 → first_of a ≡ 0
-first-append [] b s e = refl
-first-append (t ∷ a) b s e = go t.0 e (first-append a b (both (is_number t) (all is_number a) s).1)
-  where
-    go : (c : Bool) → cond c t.1 (first_of (a ++ b)) ≡ 0 → (first_of (a ++ b) ≡ 0 → first_of a ≡ 0) → cond c t.1 (first_of a) ≡ 0
-    go true q h = q
-    go false q h = h q
+-- one table behind another: where both refuse nothing, the first does not
+pub first-append : (a b : List (Bool × Refusal)) → first_of (a ++ b) ≡ Ok tt → first_of a ≡ Ok tt
+first-append [] b e = refl
+first-append ((true, k) ∷ a) b e = e
+first-append ((false, k) ∷ a) b e = first-append a b e
 
--- the number comes from the second table if the first has no such number
-pub number_behind : (n : ℕ) (a b : List (Bool × ℕ)) → all (λ check. not (eqb check.1 n)) a ≡ true → first_of (a ++ b) ≡ n → (first_of a ≡ 0) × (first_of b ≡ n)
-number_behind n [] b s e = (refl, e)
-number_behind n (t ∷ a) b s e =
-    let r = both (not (eqb t.1 n)) (all (λ check. not (eqb check.1 n)) a) s in
-    go t.0 r.0 e (number_behind n a b r.1)
-  where
-    go : (c : Bool) → not (eqb t.1 n) ≡ true → cond c t.1 (first_of (a ++ b)) ≡ n → (first_of (a ++ b) ≡ n → (first_of a ≡ 0) × (first_of b ≡ n))
-        → (cond c t.1 (first_of a) ≡ 0) × (first_of b ≡ n)
-    go true q e h = clash (eqb_yes e) (not_is q)
-    go false q e h = h e
+-- the row refuses so
+abbrev pub is_row : Refusal → Bool × Refusal → Bool
+is_row refusal row = eqb (refusal_number row.1) (refusal_number refusal)
 
--- a table in which no row of a number holds does not answer it
-pub never_answers : (n : ℕ) → (n ≡ 0 → ⊥) → (rows : List (Bool × ℕ)) → all (λ row. not (eqb row.1 n && row.0)) rows ≡ true → first_of rows ≡ n → ⊥
-never_answers n z [] h e = z (sym e)
-never_answers n z (row ∷ rows) h e =
-    let r = both (not (eqb row.1 n && row.0)) (all (λ row. not (eqb row.1 n && row.0)) rows) h in
-    go row.0 refl r.0 (never_answers n z rows r.1) e
-  where
-    go : (b : Bool) → row.0 ≡ b → not (eqb row.1 n && row.0) ≡ true → (first_of rows ≡ n → ⊥) → cond b row.1 (first_of rows) ≡ n → ⊥
-    go true y h rest q = clash (and_intro (eqb_yes q) y) (not_is h)
-    go false y h rest q = rest q
+-- the refusal comes from the second table if no row of the first refuses so
+pub number_behind : (refusal : Refusal) (a b : List (Bool × Refusal)) → all (λ row. not (is_row refusal row)) a ≡ true
+    → first_of (a ++ b) ≡ Err refusal → (first_of a ≡ Ok tt) × (first_of b ≡ Err refusal)
+number_behind refusal [] b s e = (refl, e)
+number_behind refusal ((true, k) ∷ a) b s e =
+    let same : k ≡ refusal = cc in
+    let other = both (not (is_row refusal (true, k))) (all (λ row. not (is_row refusal row)) a) s in
+    clash (eqb_yes (ap refusal_number same)) (not_is other.0)
+number_behind refusal ((false, k) ∷ a) b s e =
+    number_behind refusal a b (both (not (is_row refusal (false, k))) (all (λ row. not (is_row refusal row)) a) s).1 e
+
+-- a table in which no row of a refusal holds does not refuse so
+pub never_answers : (refusal : Refusal) (rows : List (Bool × Refusal)) → all (λ row. not (is_row refusal row && row.0)) rows ≡ true
+    → first_of rows ≡ Err refusal → ⊥
+never_answers refusal [] h e = absurd cc
+never_answers refusal ((true, k) ∷ rows) h e =
+    let same : k ≡ refusal = cc in
+    let other = both (not (is_row refusal (true, k) && true)) (all (λ row. not (is_row refusal row && row.0)) rows) h in
+    clash (and_intro (eqb_yes (ap refusal_number same)) refl) (not_is other.0)
+never_answers refusal ((false, k) ∷ rows) h e =
+    never_answers refusal rows (both (not (is_row refusal (false, k) && false)) (all (λ row. not (is_row refusal row && row.0)) rows) h).1 e
 
 -- ---- any, all and keep, by the elements
 

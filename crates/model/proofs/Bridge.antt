@@ -11,9 +11,8 @@ use Rattle.transaction.specs.Lists.{any}
 use Rattle.transaction.specs.Tokens.{used_inputs, shards_of}
 use Rattle.model.specs.declared.Outcome.{Outcome}
 use Rattle.model.specs.declared.Outcome.TheVariants.{Wait, Commit}
-use Rattle.model.specs.declared.Answer.{Answer}
-use Rattle.model.specs.declared.Answer.TheVariants.{Refused}
-use Rattle.model.specs.declared.Told.TheVariants.{Findings}
+use Rattle.model.specs.Answers.{Answer}
+use Rattle.model.specs.declared.Findings.{Findings}
 use Rattle.model.specs.Lists.{map_option}
 use Rattle.model.specs.Steps.{Limits, Ledger}
 use Rattle.model.specs.Shard.{Call}
@@ -24,6 +23,8 @@ use Rattle.model.specs.Demand.{outcome_in, heard_all_in, WasAvailable, commits, 
 use Rattle.model.proofs.Theorem.{demand_3}
 use Rattle.model.proofs.Tables.{never_eleven}
 use Rattle.model.proofs.TrueFindings.{true_findings}
+use Rattle.std.specs.Prelude.{Ok, Err}
+use Rattle.transaction.specs.declared.refusal.Refusal.TheVariants.{NumberUnknown}
 
 -- the model's step is the cluster's step, with the model's notes
 pub step_cluster : (limits : Limits) (place : ℕ) (model : Model) (call : Call)
@@ -164,14 +165,14 @@ module _ {limits : Limits} (engine : Engine limits) where
   run_sound {s = s} g (then {s' = s₁} {c = c} {a = a} x rest) = run_sound (engine.keeps s s₁ c a g x) rest
 
   -- and the findings that it reports are true (document 02, 2)
-  pub run_true_findings : {s : State} {calls : List Call} {replies : List Answer} → Run engine.first calls replies s → (p number count : ℕ)
-      → (report_at limits (engine.view s) p number).answer ≡ Findings count
+  pub run_true_findings : {s : State} {calls : List Call} {replies : List Answer} → Run engine.first calls replies s → (p number : ℕ) (found : Findings)
+      → report_at limits (engine.view s) p number ≡ Ok found
       → TrueFindings limits calls p number (reported (report_at limits (engine.view s) p number))
-  run_true_findings {calls = calls} x p number count = subst
-      (λ (l : List Ledger). (report_at limits l p number).answer ≡ Findings count → TrueFindings limits calls p number (reported (report_at limits l p number)))
-      (sym (played x).viewed) (true_findings limits calls p number count)
+  run_true_findings {calls = calls} x p number found = subst
+      (λ (l : List Ledger). report_at limits l p number ≡ Ok found → TrueFindings limits calls p number (reported (report_at limits l p number)))
+      (sym (played x).viewed) (true_findings limits calls p number found)
 
   -- and in every run 11 is never answered
   pub run_never_eleven : {s : State} {calls : List Call} {replies : List Answer} → Run engine.first calls replies s
-      → Memᴰ (Refused 11) replies → ⊥
-  run_never_eleven {calls = calls} x m = never_eleven limits calls (subst (λ (l : List Answer). Memᴰ (Refused 11) l) (played x).answered m)
+      → Memᴰ (Err NumberUnknown) replies → ⊥
+  run_never_eleven {calls = calls} x m = never_eleven limits calls (subst (λ (l : List Answer). Memᴰ (Err NumberUnknown) l) (played x).answered m)

@@ -6,7 +6,6 @@ use mathlib.Core.Path.{◌≡◌, refl, ap, sym, ◌∙◌, subst}
 use mathlib.Core.Logic.{◌≢◌}
 use mathlib.Core.Bool.{Bool, true, false, cond, not, ◌&&◌}
 use mathlib.Core.List.{List, ◌∷◌, Memᴰ}
-use lib.Dec.{eqb}
 use lib.ListN.{length, set, replicate, length-set}
 use lib.Seq.{get_or-set_same, get_or-set_other, set-set}
 use Rattle.transaction.specs.declared.Transaction.{Transaction}
@@ -16,8 +15,8 @@ use Rattle.transaction.proofs.Tables.{first-behind}
 use Rattle.model.specs.declared.Known.{Known}
 use Rattle.model.specs.declared.Outcome.{Outcome}
 use Rattle.model.specs.declared.Outcome.TheVariants.{Abort}
-use Rattle.model.specs.declared.Answer.{Answer}
-use Rattle.model.specs.declared.Answer.TheVariants.{Refused, Registered, Heard, Again, Brought}
+use Rattle.model.specs.Answers.{Answer}
+use Rattle.model.specs.declared.Done.TheVariants.{Registered, Heard, Again, Brought}
 use Rattle.model.specs.Steps.{Limits, Ledger, empty_ledger, vote, noted, newly_known, heard_from, hearing, outcome_of, entry_of, after_register, after_vote}
 use Rattle.model.specs.Shard.{
   Call,
@@ -55,23 +54,26 @@ use Rattle.model.proofs.Refusals.{
 use Rattle.model.proofs.Effects.{ShardEffect, shard-refused, shard-heard, shard-again, shard-brought, shard-effect, deliver-elim}
 use Rattle.model.proofs.Votes.{shard_count, Fresh, Brings, own-no, own-yes, votes-bring}
 use Rattle.model.proofs.Tables.{unless-done}
+use Rattle.std.specs.Prelude.{Result, Ok, Err, is_ok}
+use Rattle.transaction.specs.declared.refusal.Refusal.{Refusal}
+use Rattle.transaction.specs.declared.refusal.Refusal.TheVariants.{NumberUnknown, VoteNotGiven}
 
 -- ---- Under 9, 10 and 17
 
 module _ (limits : Limits) (me : ℕ) (ledger : Ledger) (receiver sender verdict : ℕ) (t : Transaction) where
   -- a vote on an unknown number, from another shard, that has passed 3 to 6: the first of 9, 10 and 17 that fits refuses it and leaves all as it was;
   -- else it brings its transaction
-  pub brings_under : is_unknown t ledger.known ≡ true → sender ≢ me → first_of (deliver_form limits me receiver sender verdict t) ≡ 0
+  pub brings_under : is_unknown t ledger.known ≡ true → sender ≢ me → first_of (deliver_form limits me receiver sender verdict t) ≡ Ok tt
       → shard_step limits me ledger (deliver receiver sender verdict t)
       ≡ unless (first_of (entry_refusals limits me ledger t)) ledger (bring me ledger sender verdict t)
   unfolding shard_step deliver_refusals deliver_form
   brings_under unknown other form =
       let rows = hear_rest ledger sender verdict t in
-      let cause = first-behind (deliver_form limits me receiver sender verdict t) (deliver_rest limits me ledger sender verdict t) refl form in
-      ap (λ (n : ℕ). unless n ledger (delivered me ledger sender verdict t)) cause
+      let cause = first-behind (deliver_form limits me receiver sender verdict t) (deliver_rest limits me ledger sender verdict t) form in
+      ap (λ (found : Result Unit Refusal). unless found ledger (delivered me ledger sender verdict t)) cause
       ∙ ap (λ (b : Bool). unless (first_of (cond b (bring_rest limits me ledger sender t) rows)) ledger
       (cond b (bring me ledger sender verdict t) (hear me ledger sender verdict t))) unknown
-      ∙ ap (λ (b : Bool). unless (cond b 11 (first_of (entry_refusals limits me ledger t))) ledger (bring me ledger sender verdict t)) (eqb_no other)
+      ∙ ap (λ (b : Bool). unless (cond b (Err NumberUnknown) (first_of (entry_refusals limits me ledger t))) ledger (bring me ledger sender verdict t)) (eqb_no other)
 
 -- ---- The two calls
 
@@ -79,14 +81,14 @@ module _ (limits : Limits) (me : ℕ) (ledger : Ledger) (receiver sender verdict
 pub record Bringing (limits : Limits) (me : ℕ) (ledger : Ledger) (receiver sender verdict : ℕ) (t : Transaction) (own : Bool) (o : Outcome)
     (after : Ledger) : Type 0 where
   pub passes : BringPasses limits me ledger receiver sender verdict t
-  pub form : first_of (deliver_form limits me receiver sender verdict t) ≡ 0
+  pub form : first_of (deliver_form limits me receiver sender verdict t) ≡ Ok tt
   pub voted : vote me ledger.tokens t ≡ own
   pub decided : outcome_of (hearing sender verdict (newly_known me ledger.tokens t)) ≡ o
   pub leaves : after ≡ after_vote me (after_register me ledger t) sender verdict t
 
 -- by cases on what the vote did
 bringing-by : (limits : Limits) (me : ℕ) (ledger : Ledger) (receiver sender verdict : ℕ) (t : Transaction) (r : Ledger × Answer)
-    → ShardEffect limits me ledger (deliver receiver sender verdict t) r → (own : Bool) (o : Outcome) → r.1 ≡ Brought own o
+    → ShardEffect limits me ledger (deliver receiver sender verdict t) r → (own : Bool) (o : Outcome) → r.1 ≡ Ok (Brought own o)
     → Bringing limits me ledger receiver sender verdict t own o r.0
 bringing-by limits me ledger receiver sender verdict t _ (shard-brought h f) own o e =
     let entry : entry_of t (after_register me ledger t).known ≡ newly_known me ledger.tokens t = registered-entry me ledger t (brought-registers h).unknown in
@@ -98,12 +100,12 @@ bringing-by limits me ledger receiver sender verdict t _ (shard-brought h f) own
       decided = ap (λ (k : Known). outcome_of (hearing sender verdict k)) (sym entry) ∙ outcome;
       leaves = refl;
     }
-bringing-by limits me ledger receiver sender verdict t _ (shard-refused h) own o e = let z : ◌≡◌ {A = ℕ} 0 1 = cc in absurd (omega arith)
+bringing-by limits me ledger receiver sender verdict t _ shard-refused own o e = let z : ◌≡◌ {A = ℕ} 0 1 = cc in absurd (omega arith)
 bringing-by limits me ledger receiver sender verdict t _ (shard-heard h f z) own o e = let y : ◌≡◌ {A = ℕ} 0 1 = cc in absurd (omega arith)
 bringing-by limits me ledger receiver sender verdict t _ (shard-again h z) own o e = let y : ◌≡◌ {A = ℕ} 0 1 = cc in absurd (omega arith)
 
 module _ (limits : Limits) (me : ℕ) (ledger : Ledger) (receiver sender verdict : ℕ) (t : Transaction) (own : Bool) (o : Outcome)
-    (e : (shard_step limits me ledger (deliver receiver sender verdict t)).1 ≡ Brought own o) where
+    (e : (shard_step limits me ledger (deliver receiver sender verdict t)).1 ≡ Ok (Brought own o)) where
   -- the vote
   abbrev call : Call
   call = deliver receiver sender verdict t
@@ -119,15 +121,15 @@ module _ (limits : Limits) (me : ℕ) (ledger : Ledger) (receiver sender verdict
   bringing = bringing-by limits me ledger receiver sender verdict t (shard_step limits me ledger call) (shard-effect limits me ledger call) own o e
 
   -- first the registration, with this verdict
-  pub brings-first : shard_step limits me ledger (register receiver t) ≡ (registered, Registered own (outcome_of entered))
+  pub brings-first : shard_step limits me ledger (register receiver t) ≡ (registered, Ok (Registered own (outcome_of entered)))
   unfolding shard_step
   brings-first =
       unless-done (first_of (register_refusals limits me ledger receiver t)) ledger
-      (registered, Registered (vote me ledger.tokens t) (outcome_of entered)) bringing.passes.registers
-      ∙ ap (λ (b : Bool). (registered, Registered b (outcome_of entered))) bringing.voted
+      (registered, Ok (Registered (vote me ledger.tokens t) (outcome_of entered))) bringing.passes.registers
+      ∙ ap (λ (b : Bool). (registered, Ok (Registered b (outcome_of entered)))) bringing.voted
 
   -- then the vote, with this outcome
-  pub brings-then : shard_step limits me registered call ≡ ((shard_step limits me ledger call).0, Heard o)
+  pub brings-then : shard_step limits me registered call ≡ ((shard_step limits me ledger call).0, Ok (Heard o))
   unfolding shard_step hear
   brings-then =
       let h = bringing.passes in
@@ -138,8 +140,8 @@ module _ (limits : Limits) (me : ℕ) (ledger : Ledger) (receiver sender verdict
       unless-done (first_of (deliver_refusals limits me registered receiver sender verdict t)) registered (delivered me registered sender verdict t)
       (brought-passes h bringing.form)
       ∙ ap (λ (b : Bool). cond b (bring me registered sender verdict t) (hear me registered sender verdict t)) (brought-known h)
-      ∙ ap (λ (b : Bool). cond b (after, Heard (outcome_of (hearing sender verdict k))) (registered, Again (outcome_of k))) (eqb_yes (brought-fresh h))
-      ∙ (λ i. (sym bringing.leaves i, Heard (outcome i)))
+      ∙ ap (λ (b : Bool). cond b (after, Ok (Heard (outcome_of (hearing sender verdict k)))) (registered, Ok (Again (outcome_of k)))) (eqb_yes (brought-fresh h))
+      ∙ (λ i. (sym bringing.leaves i, Ok (Heard (outcome i))))
 
   -- ---- What it is answered
 
@@ -209,7 +211,7 @@ module _ (limits : Limits) (me : ℕ) (ledger : Ledger) (receiver sender verdict
 -- ---- In a cluster
 
 module _ (limits : Limits) (shards : List Ledger) (p sender verdict : ℕ) (t : Transaction) (own : Bool) (o : Outcome)
-    (e : (cluster_step limits shards (deliver p sender verdict t)).1 ≡ Brought own o) where
+    (e : (cluster_step limits shards (deliver p sender verdict t)).1 ≡ Ok (Brought own o)) where
   -- the receiver's ledger before the vote, and the vote
   abbrev ledger : Ledger
   ledger = ledger_at limits shards p
@@ -218,25 +220,25 @@ module _ (limits : Limits) (shards : List Ledger) (p sender verdict : ℕ) (t : 
   vote-in = deliver p sender verdict t
 
   -- it is not refused with 16, and so answered by its receiver, of which all that was said holds
-  pub brought-at : (not_given limits shards p sender verdict t ≡ false) × ((shard_step limits p ledger vote-in).1 ≡ Brought own o)
+  pub brought-at : (not_given limits shards p sender verdict t ≡ false) × ((shard_step limits p ledger vote-in).1 ≡ Ok (Brought own o))
   unfolding at_shard
   brought-at =
       deliver-elim limits shards p sender verdict t
-      (λ r. r.1 ≡ Brought own o → (not_given limits shards p sender verdict t ≡ false) × ((shard_step limits p ledger vote-in).1 ≡ Brought own o))
+      (λ r. r.1 ≡ Ok (Brought own o) → (not_given limits shards p sender verdict t ≡ false) × ((shard_step limits p ledger vote-in).1 ≡ Ok (Brought own o)))
       (λ z. let y : ◌≡◌ {A = ℕ} 0 1 = cc in absurd (omega arith)) (λ given z. (given, z)) e
 
   abbrev between : List Ledger
   between = set shards p (after_register p ledger t)
 
   -- first the registration
-  pub brings_first_in : cluster_step limits shards (register p t) ≡ (between, Registered own (outcome_of (newly_known p ledger.tokens t)))
+  pub brings_first_in : cluster_step limits shards (register p t) ≡ (between, Ok (Registered own (outcome_of (newly_known p ledger.tokens t))))
   unfolding cluster_step at_shard
   brings_first_in =
       let first = brings-first limits p ledger p sender verdict t own o brought-at.1 in
       λ i. (set shards p (first i).0, (first i).1)
 
   -- then the vote
-  pub brings_then_in : length shards ≡ 8 → cluster_step limits between vote-in ≡ ((cluster_step limits shards vote-in).0, Heard o)
+  pub brings_then_in : length shards ≡ 8 → cluster_step limits between vote-in ≡ ((cluster_step limits shards vote-in).0, Ok (Heard o))
   unfolding cluster_step at_shard not_given
   brings_then_in eight =
       let b = bringing limits p ledger p sender verdict t own o brought-at.1 in
@@ -245,18 +247,18 @@ module _ (limits : Limits) (shards : List Ledger) (p sender verdict : ℕ) (t : 
       let here : ledger_at limits between p ≡ after_register p ledger t = get_or-set_same shards p (after_register p ledger t) (empty_ledger limits) below in
       let others : ledger_at limits between sender ≡ ledger_at limits shards sender =
       get_or-set_other shards p sender (after_register p ledger t) (empty_ledger limits) b.passes.from-other in
-      let form = eqb (first_of (deliver_form limits p p sender verdict t)) 0 in
+      let form = is_ok (first_of (deliver_form limits p p sender verdict t)) in
       let given : not_given limits between p sender verdict t ≡ false = ap (λ (l : Ledger). form && not (gave l sender verdict t)) others ∙ brought-at.0 in
       let after : Ledger = (shard_step limits p ledger vote-in).0 in
-      ap (λ (b : Bool). cond b (between, Refused 16) (at_shard limits between p vote-in)) given
+      ap (λ (b : Bool). cond b (between, Err VoteNotGiven) (at_shard limits between p vote-in)) given
       ∙ ap (λ (l : Ledger). (set between p (shard_step limits p l vote-in).0, (shard_step limits p l vote-in).1)) here
       ∙ (λ i. (set between p (second i).0, (second i).1))
-      ∙ (λ i. (set-set shards p (after_register p ledger t) after i, Heard o))
-      ∙ (λ i. ((cond (sym brought-at.0 i) (shards, Refused 16) (at_shard limits shards p vote-in)).0, Heard o))
+      ∙ (λ i. (set-set shards p (after_register p ledger t) after i, Ok (Heard o)))
+      ∙ (λ i. ((cond (sym brought-at.0 i) (shards, Err VoteNotGiven) (at_shard limits shards p vote-in)).0, Ok (Heard o)))
 
 -- the log is the one that the registration would have left at the place of the vote's call
 pub brings-log : (limits : Limits) (place : ℕ) (model : Model) (p sender verdict : ℕ) (t : Transaction) (own : Bool) (o : Outcome)
-    → (step limits place model (deliver p sender verdict t)).1 ≡ Brought own o
+    → (step limits place model (deliver p sender verdict t)).1 ≡ Ok (Brought own o)
     → (step limits place model (deliver p sender verdict t)).0.log ≡ (step limits place model (register p t)).0.log
 unfolding step log_after
 brings-log limits place model p sender verdict t own o e =

@@ -9,6 +9,7 @@ use mathlib.Core.List.Memᴰ
 use mathlib.Core.List.{List, [], ◌∷◌, ◌++◌, Memᴰ}
 use lib.ListN.{length, get_or, set, replicate, length-append, length-map, length-set, length-replicate}
 use Rattle.transaction.specs.declared.Output.{Output}
+use Rattle.std.specs.Prelude.{Ok}
 use Rattle.transaction.specs.declared.Transaction.{Transaction}
 use Rattle.transaction.specs.Lists.{any, total}
 use Rattle.transaction.specs.Tokens.{used_outputs, shards_of}
@@ -18,7 +19,7 @@ use Rattle.model.specs.declared.Token.{Token}
 use Rattle.model.specs.declared.Known.{Known}
 use Rattle.model.specs.declared.Outcome.{Outcome}
 use Rattle.model.specs.declared.Outcome.TheVariants.{Wait, Commit, Abort}
-use Rattle.model.specs.declared.Answer.{Answer}
+use Rattle.model.specs.Answers.{Answer}
 use Rattle.model.specs.Lists.{keep, find}
 use Rattle.model.specs.Steps.{
   Limits,
@@ -210,8 +211,8 @@ empty-fit limits me = record {
   eight = λ k m. elim m [ ];
 }
 
--- the checks passed, as one cause
-form-checked : (genesis : ℕ) (t : Transaction) → fields_fit genesis t ≡ true → named_twice t ≡ false → balanced t ≡ true → cause_of genesis t ≡ 0
+-- the checks passed, as one
+form-checked : (genesis : ℕ) (t : Transaction) → fields_fit genesis t ≡ true → named_twice t ≡ false → balanced t ≡ true → cause_of genesis t ≡ Ok tt
 unfolding cause_of
 form-checked genesis t a b c = rw (a, b, c) refl
 
@@ -315,7 +316,7 @@ module _ (limits : Limits) (sized : limits.genesis ≤ limits.tokens) (me : ℕ)
 -- a call at a lone shard keeps it, also a vote that brings its transaction: the registration keeps it, and then the vote
 pub shard-fit : (limits : Limits) → limits.genesis ≤ limits.tokens → (me : ℕ) (ledger : Ledger) → Fit limits me ledger
     → (call : Call) (r : Ledger × Answer) → ShardEffect limits me ledger call r → Fit limits me r.0
-shard-fit limits sized me ledger f call _ (shard-refused h) = f
+shard-fit limits sized me ledger f call _ shard-refused = f
 shard-fit limits sized me ledger f call _ (shard-minted h) = mint-fit limits sized me ledger f h
 shard-fit limits sized me ledger f call _ (shard-registered h) = register-fit limits sized me ledger f h
 shard-fit limits sized me ledger f call _ (shard-heard h e z) = vote-fit limits sized me ledger f h z
@@ -335,7 +336,7 @@ module _ (limits : Limits) (sized : limits.genesis ≤ limits.tokens) where
   -- a call at the cluster keeps every shard's ledger fit
   step-fit : (place : ℕ) (model : Model) → Inv limits model → ((p : ℕ) → Fit limits p (ledger_at limits model.shards p))
       → (call : Call) (r : Model × Answer) → Effect limits place model call r → (p : ℕ) → Fit limits p (ledger_at limits r.0.shards p)
-  step-fit place model w f call _ (did_refuse h) = f
+  step-fit place model w f call _ did_refuse = f
   step-fit place model w f call _ (did_repeat h z) = f
   step-fit place model w f call _ (did_mint {p = p} h) =
       at_one limits place model w (Fit limits) p _ h.receiver_fits (mint-fit limits sized p (ledger_at limits model.shards p) (f p) h) (λ q n. f q)

@@ -14,10 +14,9 @@ use Rattle.transaction.specs.Checks.{index_fits, value_fits, input_fits, output_
 use Rattle.model.specs.declared.Token.{Token}
 use Rattle.model.specs.declared.Finding.{Finding}
 use Rattle.model.specs.declared.Finding.TheVariants.{Available, NotHeld, OtherOwner, OtherAmount, Pledged}
-use Rattle.model.specs.declared.Told.{Told}
-use Rattle.model.specs.declared.Told.TheVariants as told
+use Rattle.model.specs.Answers.{Report}
 use Rattle.model.specs.declared.Outcome.TheVariants.{Wait, Commit, Abort}
-use Rattle.model.specs.declared.Answer.TheVariants.{Refused, Minted, Registered, Heard, Again, Turned, Brought}
+use Rattle.model.specs.declared.Done.TheVariants.{Minted, Registered, Heard, Again, Turned, Brought}
 use Rattle.model.specs.Lists.{and_then}
 use Rattle.model.specs.Steps.{
   Limits,
@@ -79,6 +78,9 @@ use Rattle.model.specs.Demand.{
   last_place,
 }
 use Rattle.model.specs.Findings.{report, report_at, reported}
+use Rattle.std.specs.Prelude.{Result, Ok, Err}
+use Rattle.transaction.specs.declared.refusal.Refusal.{Refusal}
+use Rattle.transaction.specs.declared.refusal.Refusal.TheVariants.{OutOfRange, NumberTaken, KnownAlready, TransactionsFull, TokensFull, NumberUnknown, OtherVerdict, MintTooLate, IndexGiven, VoteNotGiven, HeldOff, NoSuchNumber, TurnedAlready}
 
 -- ---- Small transactions
 
@@ -204,9 +206,14 @@ brought = mint 0 0 10 3 ∷ mint 1 0 20 2 ∷ register 0 both ∷ deliver 1 0 1 
 asked : List Call → ℕ → ℕ → List Finding
 asked calls shard number = reported (report_at house (play house calls).shards shard number)
 
--- and its answer
-answered : List Call → ℕ → ℕ → Told
-answered calls shard number = (report_at house (play house calls).shards shard number).answer
+-- how many there are, or why the call is refused
+abbrev many : Report → Result ℕ Refusal
+many (Ok found) = Ok found.count
+many (Err refusal) = Err refusal
+
+-- and so of that call
+answered : List Call → ℕ → ℕ → Result ℕ Refusal
+answered calls shard number = many (report_at house (play house calls).shards shard number)
 
 -- a transaction of that number and these inputs, for a token of their amount at shard 1
 claims : ℕ → List Input → ℕ → Transaction
@@ -225,8 +232,8 @@ small = record { tokens = 2; transactions = 2; genesis = 2 }
 -- the facts
 pub record Examples : Type 0 where
   -- document 01's seven calls, and what the shards then hold
-  seven_answers : play_answers house (known-at-both ++ votes) ≡ Minted ∷ Minted ∷ Registered true Wait
-      ∷ Registered true Wait ∷ Heard Commit ∷ Heard Commit ∷ Again Commit ∷ []
+  seven_answers : play_answers house (known-at-both ++ votes) ≡ Ok Minted ∷ Ok Minted ∷ Ok (Registered true Wait)
+      ∷ Ok (Registered true Wait) ∷ Ok (Heard Commit) ∷ Ok (Heard Commit) ∷ Ok (Again Commit) ∷ []
   seven_0 : tokens_after (known-at-both ++ votes) 0 ≡ token 5 1 20 2 0 ∷ []
   seven_1 : tokens_after (known-at-both ++ votes) 1 ≡ token 5 0 10 3 0 ∷ []
   seven_order : serial_order (play house (known-at-both ++ votes)) ≡ both ∷ []
@@ -237,14 +244,14 @@ pub record Examples : Type 0 where
   cut_0 : tokens_after (known-at-both ++ (deliver 0 1 1 both ∷ [])) 0 ≡ token 5 1 20 2 0 ∷ []
   cut_1 : tokens_after (known-at-both ++ (deliver 0 1 1 both ∷ [])) 1 ≡ token 0 0 20 2 5 ∷ []
   -- two transactions name one held token rightly: the first registered votes yes, the other no
-  two-claims : play_answers house (mint 0 0 10 3 ∷ register 0 (alone 1) ∷ register 0 (alone 2) ∷ []) ≡ Minted
-      ∷ Registered true Commit ∷ Registered false Abort ∷ []
+  two-claims : play_answers house (mint 0 0 10 3 ∷ register 0 (alone 1) ∷ register 0 (alone 2) ∷ []) ≡ Ok Minted
+      ∷ Ok (Registered true Commit) ∷ Ok (Registered false Abort) ∷ []
   two-claims-held : tokens_after (mint 0 0 10 3 ∷ register 0 both ∷ register 0 (alone 2) ∷ []) 0 ≡ token 0 0 10 3 5 ∷ []
   -- right token, wrong owner: no, and nothing is pledged
-  wrong-owner : play_answers house (mint 0 0 10 3 ∷ register 0 wrong ∷ []) ≡ Minted ∷ Registered false Abort ∷ []
+  wrong-owner : play_answers house (mint 0 0 10 3 ∷ register 0 wrong ∷ []) ≡ Ok Minted ∷ Ok (Registered false Abort) ∷ []
   wrong-owner-held : tokens_after (mint 0 0 10 3 ∷ register 0 wrong ∷ []) 0 ≡ token 0 0 10 3 0 ∷ []
   -- one input available, one not: no, and the first stays pledged
-  half-there : play_answers house (mint 0 0 10 3 ∷ register 0 half ∷ register 0 (alone 1) ∷ []) ≡ Minted ∷ Registered false Abort ∷ Registered false Abort ∷ []
+  half-there : play_answers house (mint 0 0 10 3 ∷ register 0 half ∷ register 0 (alone 1) ∷ []) ≡ Ok Minted ∷ Ok (Registered false Abort) ∷ Ok (Registered false Abort) ∷ []
   half-there-held : tokens_after (mint 0 0 10 3 ∷ register 0 half ∷ register 0 (alone 1) ∷ []) 0 ≡ token 0 0 10 3 6 ∷ []
   -- the local step's four parts: the inputs here, the available one among them, its pledge beside another's, a no; with outputs only a yes
   local_inputs : inputs_here 0 mixed ≡ input 0 0 0 10 3 ∷ input 0 0 1 10 1 ∷ []
@@ -253,10 +260,10 @@ pub record Examples : Type 0 where
   local_message : vote 0 two-held mixed ≡ false
   local_outputs_only : vote 2 two-held mixed ≡ true
   -- registered again: 8; another of that number: 7; also once it is decided
-  again_8 : play_answers house (mint 0 0 10 3 ∷ register 0 both ∷ register 0 both ∷ register 0 other5 ∷ []) ≡ Minted
-      ∷ Registered true Wait ∷ Refused 8 ∷ Refused 7 ∷ []
+  again_8 : play_answers house (mint 0 0 10 3 ∷ register 0 both ∷ register 0 both ∷ register 0 other5 ∷ []) ≡ Ok Minted
+      ∷ Ok (Registered true Wait) ∷ Err KnownAlready ∷ Err NumberTaken ∷ []
   decided_8 : play_answers house (known-at-both ++ (deliver 0 1 1 both ∷ register 0 both ∷ register 0 other5 ∷ []))
-      ≡ Minted ∷ Minted ∷ Registered true Wait ∷ Registered true Wait ∷ Heard Commit ∷ Refused 8 ∷ Refused 7 ∷ []
+      ≡ Ok Minted ∷ Ok Minted ∷ Ok (Registered true Wait) ∷ Ok (Registered true Wait) ∷ Ok (Heard Commit) ∷ Err KnownAlready ∷ Err NumberTaken ∷ []
   -- two transactions numbered 7, one of shards 0 and 1, one of 2 and 3: both commit
   two-sevens : play_answers house (
       mint 0 0 10 3
@@ -269,31 +276,31 @@ pub record Examples : Type 0 where
       ∷ deliver 3 2 1 (pass 2 3)
       ∷ []
       )
-      ≡ Minted ∷ Minted ∷ Registered true Wait ∷ Registered true Wait ∷ Registered true Wait ∷ Registered true Wait ∷ Heard Commit ∷ Heard Commit ∷ []
+      ≡ Ok Minted ∷ Ok Minted ∷ Ok (Registered true Wait) ∷ Ok (Registered true Wait) ∷ Ok (Registered true Wait) ∷ Ok (Registered true Wait) ∷ Ok (Heard Commit) ∷ Ok (Heard Commit) ∷ []
   -- one no among the votes: abort at both shards, and the pledge stays, so that a later transaction finds nothing
-  one-no : play_answers house (torn-apart ++ (register 0 (alone 1) ∷ [])) ≡ Minted ∷ Registered true Wait
-      ∷ Registered false Abort ∷ Heard Abort ∷ Heard Abort ∷ Registered false Abort ∷ []
+  one-no : play_answers house (torn-apart ++ (register 0 (alone 1) ∷ [])) ≡ Ok Minted ∷ Ok (Registered true Wait)
+      ∷ Ok (Registered false Abort) ∷ Ok (Heard Abort) ∷ Ok (Heard Abort) ∷ Ok (Registered false Abort) ∷ []
   one-no-held : tokens_after torn-apart 0 ≡ token 0 0 10 3 8 ∷ []
   -- a genesis token after a transaction is known: 13; an index given twice: 14
-  late-mint : play_answers house (mint 0 0 10 3 ∷ mint 0 0 10 3 ∷ register 0 both ∷ mint 0 1 10 3 ∷ []) ≡ Minted
-      ∷ Refused 14 ∷ Registered true Wait ∷ Refused 13 ∷ []
+  late-mint : play_answers house (mint 0 0 10 3 ∷ mint 0 0 10 3 ∷ register 0 both ∷ mint 0 1 10 3 ∷ []) ≡ Ok Minted
+      ∷ Err IndexGiven ∷ Ok (Registered true Wait) ∷ Err MintTooLate ∷ []
   -- a vote that was not given: 16, also on a transaction that differs in one field; given, and the receiver does not know it: it is brought
   not-given : play_answers house (mint 0 0 10 3 ∷ register 0 both ∷ deliver 0 1 1 both ∷ deliver 1 0 0 both ∷ deliver 1 0 1 near5 ∷ deliver 1 0 1 both ∷ [])
-      ≡ Minted ∷ Registered true Wait ∷ Refused 16 ∷ Refused 16 ∷ Refused 16 ∷ Brought false Abort ∷ []
+      ≡ Ok Minted ∷ Ok (Registered true Wait) ∷ Err VoteNotGiven ∷ Err VoteNotGiven ∷ Err VoteNotGiven ∷ Ok (Brought false Abort) ∷ []
   -- given, and the receiver knows its number for a transaction that differs in one field: 7
   near_vote : play_answers house (mint 0 0 10 3 ∷ mint 1 0 20 2 ∷ register 0 near5 ∷ register 1 both ∷ deliver 0 1 1 both ∷ [])
-      ≡ Minted ∷ Minted ∷ Registered true Wait ∷ Registered true Wait ∷ Refused 7 ∷ []
+      ≡ Ok Minted ∷ Ok Minted ∷ Ok (Registered true Wait) ∷ Ok (Registered true Wait) ∷ Err NumberTaken ∷ []
   -- a vote to the shard itself: its own is a repeat, the other is not given
-  own-vote : play_answers house (mint 0 0 10 3 ∷ register 0 both ∷ deliver 0 0 1 both ∷ deliver 0 0 0 both ∷ []) ≡ Minted
-      ∷ Registered true Wait ∷ Again Wait ∷ Refused 16 ∷ []
+  own-vote : play_answers house (mint 0 0 10 3 ∷ register 0 both ∷ deliver 0 0 1 both ∷ deliver 0 0 0 both ∷ []) ≡ Ok Minted
+      ∷ Ok (Registered true Wait) ∷ Ok (Again Wait) ∷ Err VoteNotGiven ∷ []
   -- at a lone shard: a record for another shard is 3, and the other verdict from one sender is 12
-  lone_3 : (shard_step house 0 (ledger_at house (play house known-at-both).shards 0) (register 1 both)).1 ≡ Refused 3
-  lone_12 : (shard_step house 0 (ledger_at house (play house (known-at-both ++ votes)).shards 0) (deliver 0 1 0 both)).1 ≡ Refused 12
+  lone_3 : (shard_step house 0 (ledger_at house (play house known-at-both).shards 0) (register 1 both)).1 ≡ Err OutOfRange
+  lone_12 : (shard_step house 0 (ledger_at house (play house (known-at-both ++ votes)).shards 0) (deliver 0 1 0 both)).1 ≡ Err OtherVerdict
   -- a full shard: 9 and 10 at the stated counts only
   full_9 : play_answers small (mint 0 0 10 3 ∷ register 0 (alone 1) ∷ register 0 (alone 2) ∷ register 0 (alone 3) ∷ [])
-      ≡ Minted ∷ Registered true Commit ∷ Registered false Abort ∷ Refused 9 ∷ []
-  full_10 : play_answers small (mint 0 0 10 3 ∷ register 0 (alone 1) ∷ []) ≡ Minted ∷ Registered true Commit ∷ []
-  over_10 : play_answers small (mint 0 0 10 3 ∷ mint 0 1 10 3 ∷ register 0 (alone 1) ∷ []) ≡ Minted ∷ Minted ∷ Refused 10 ∷ []
+      ≡ Ok Minted ∷ Ok (Registered true Commit) ∷ Ok (Registered false Abort) ∷ Err TransactionsFull ∷ []
+  full_10 : play_answers small (mint 0 0 10 3 ∷ register 0 (alone 1) ∷ []) ≡ Ok Minted ∷ Ok (Registered true Commit) ∷ []
+  over_10 : play_answers small (mint 0 0 10 3 ∷ mint 0 1 10 3 ∷ register 0 (alone 1) ∷ []) ≡ Ok Minted ∷ Ok Minted ∷ Err TokensFull ∷ []
   -- an output here of an undecided transaction passed on: 17, whoever is named as its owner; not where the output is at another shard;
   -- once the first is committed here, the same transaction is registered and voted yes
   held_17 : play_answers house (known-at-both ++ (
@@ -304,8 +311,8 @@ pub record Examples : Type 0 where
       ∷ register 0 (onward 6 5 1 20)
       ∷ []
       ))
-      ≡ Minted ∷ Minted ∷ Registered true Wait ∷ Registered true Wait ∷ Refused 17 ∷ Refused 17
-      ∷ Registered false Abort ∷ Heard Commit ∷ Registered true Commit ∷ []
+      ≡ Ok Minted ∷ Ok Minted ∷ Ok (Registered true Wait) ∷ Ok (Registered true Wait) ∷ Err HeldOff ∷ Err HeldOff
+      ∷ Ok (Registered false Abort) ∷ Ok (Heard Commit) ∷ Ok (Registered true Commit) ∷ []
   -- once it is aborted here, registered and voted no
   aborted_17 : play_answers house (
       mint 0 0 10 3
@@ -316,10 +323,10 @@ pub record Examples : Type 0 where
       ∷ register 0 (onward 9 8 1 20)
       ∷ []
       )
-      ≡ Minted ∷ Registered true Wait ∷ Registered false Abort ∷ Refused 17 ∷ Heard Abort ∷ Registered false Abort ∷ []
+      ≡ Ok Minted ∷ Ok (Registered true Wait) ∷ Ok (Registered false Abort) ∷ Err HeldOff ∷ Ok (Heard Abort) ∷ Ok (Registered false Abort) ∷ []
   -- a full shard: 10 and 9 go first
   full_17 : play_answers small (mint 0 0 10 3 ∷ register 0 both ∷ register 0 (onward 6 5 1 20) ∷ register 0 (pass 0 1) ∷ register 0 (onward 6 5 1 20) ∷ [])
-      ≡ Minted ∷ Registered true Wait ∷ Refused 10 ∷ Registered false Abort ∷ Refused 9 ∷ []
+      ≡ Ok Minted ∷ Ok (Registered true Wait) ∷ Err TokensFull ∷ Ok (Registered false Abort) ∷ Err TransactionsFull ∷ []
   -- two that each take what the other is to make: known at one shard each, they are held off at the other, each until the other is decided, and no vote
   -- brings them
   crossed_17 : play_answers house (
@@ -330,10 +337,10 @@ pub record Examples : Type 0 where
       ∷ deliver 1 0 1 (crossed 6 7 1 0)
       ∷ []
       )
-      ≡ Registered true Wait ∷ Registered true Wait ∷ Refused 17 ∷ Refused 17 ∷ Refused 17 ∷ []
+      ≡ Ok (Registered true Wait) ∷ Ok (Registered true Wait) ∷ Err HeldOff ∷ Err HeldOff ∷ Err HeldOff ∷ []
   -- commit needs every yes: two of three shards heard is not enough
   every_yes : play_answers house (mint 0 0 10 3 ∷ mint 1 0 20 2 ∷ known-at-three ++ (deliver 0 1 1 three ∷ deliver 0 2 1 three ∷ []))
-      ≡ Minted ∷ Minted ∷ Registered true Wait ∷ Registered true Wait ∷ Registered true Wait ∷ Heard Wait ∷ Heard Commit ∷ []
+      ≡ Ok Minted ∷ Ok Minted ∷ Ok (Registered true Wait) ∷ Ok (Registered true Wait) ∷ Ok (Registered true Wait) ∷ Ok (Heard Wait) ∷ Ok (Heard Commit) ∷ []
   -- one no suffices, the own one and a heard one; later fresh votes are noted and answer abort, yes and no
   early-no : play_answers house (early ++ (
       deliver 0 2 1 three
@@ -343,17 +350,17 @@ pub record Examples : Type 0 where
       ∷ deliver 2 1 0 three
       ∷ []
       ))
-      ≡ Minted ∷ Registered true Wait ∷ Registered false Abort ∷ Registered true Wait ∷ Heard Abort
-      ∷ Heard Abort ∷ Again Abort ∷ Heard Abort ∷ Heard Wait ∷ Heard Abort ∷ []
+      ≡ Ok Minted ∷ Ok (Registered true Wait) ∷ Ok (Registered false Abort) ∷ Ok (Registered true Wait) ∷ Ok (Heard Abort)
+      ∷ Ok (Heard Abort) ∷ Ok (Again Abort) ∷ Ok (Heard Abort) ∷ Ok (Heard Wait) ∷ Ok (Heard Abort) ∷ []
   -- the pledge stays, and no later yes takes the place of the no
   early-held : tokens_after early 0 ≡ token 0 0 10 3 9 ∷ []
-  early_12 : (shard_step house 0 (ledger_at house (play house early).shards 0) (deliver 0 1 1 three)).1 ≡ Refused 12
+  early_12 : (shard_step house 0 (ledger_at house (play house early).shards 0) (deliver 0 1 1 three)).1 ≡ Err OtherVerdict
   -- not all votes are in at that abort, and with the last one they are
   early-missing : heard_all_at house (play house early) 0 three ≡ false
   early_in : heard_all_at house (play house (early ++ (deliver 0 2 1 three ∷ []))) 0 three ≡ true
   -- aborted early, it reserves nothing and holds off nothing
   early_10 : play_answers small (mint 0 0 10 3 ∷ register 0 three ∷ register 1 three ∷ register 0 (alone 6) ∷ deliver 0 1 0 three ∷ register 0 (alone 6) ∷ [])
-      ≡ Minted ∷ Registered true Wait ∷ Registered false Abort ∷ Refused 10 ∷ Heard Abort ∷ Registered false Abort ∷ []
+      ≡ Ok Minted ∷ Ok (Registered true Wait) ∷ Ok (Registered false Abort) ∷ Err TokensFull ∷ Ok (Heard Abort) ∷ Ok (Registered false Abort) ∷ []
   early_17 : play_answers house (
       mint 0 0 10 3
       ∷ register 0 three
@@ -363,19 +370,19 @@ pub record Examples : Type 0 where
       ∷ register 0 (onward 10 9 1 20)
       ∷ []
       )
-      ≡ Minted ∷ Registered true Wait ∷ Registered false Abort ∷ Refused 17 ∷ Heard Abort ∷ Registered false Abort ∷ []
+      ≡ Ok Minted ∷ Ok (Registered true Wait) ∷ Ok (Registered false Abort) ∷ Err HeldOff ∷ Ok (Heard Abort) ∷ Ok (Registered false Abort) ∷ []
   -- turning frees what is pledged to an aborted transaction, and a third one spends it; once: 19; no such shard: 3
   turn_frees : play_answers house (torn-apart ++ (register 0 (alone 1) ∷ turn 0 ∷ turn 0 ∷ turn 8 ∷ register 0 (alone 2) ∷ []))
-      ≡ Minted ∷ Registered true Wait ∷ Registered false Abort ∷ Heard Abort ∷ Heard Abort ∷ Registered false Abort
-      ∷ Turned ∷ Refused 19 ∷ Refused 3 ∷ Registered true Commit ∷ []
+      ≡ Ok Minted ∷ Ok (Registered true Wait) ∷ Ok (Registered false Abort) ∷ Ok (Heard Abort) ∷ Ok (Heard Abort) ∷ Ok (Registered false Abort)
+      ∷ Ok Turned ∷ Err TurnedAlready ∷ Err OutOfRange ∷ Ok (Registered true Commit) ∷ []
   turn_freed : tokens_after (torn-apart ++ (turn 0 ∷ [])) 0 ≡ token 0 0 10 3 0 ∷ []
   -- what is pledged to an undecided transaction stays pledged, and that one still commits
   turn_waits : tokens_after (mint 0 0 10 3 ∷ register 0 both ∷ turn 0 ∷ []) 0 ≡ token 0 0 10 3 5 ∷ []
   turn-commits : play_answers house (known-at-both ++ (turn 0 ∷ register 0 (alone 1) ∷ deliver 0 1 1 both ∷ turn 1 ∷ deliver 1 0 1 both ∷ []))
-      ≡ Minted ∷ Minted ∷ Registered true Wait ∷ Registered true Wait ∷ Turned ∷ Registered false Abort ∷ Heard Commit ∷ Turned ∷ Heard Commit ∷ []
+      ≡ Ok Minted ∷ Ok Minted ∷ Ok (Registered true Wait) ∷ Ok (Registered true Wait) ∷ Ok Turned ∷ Ok (Registered false Abort) ∷ Ok (Heard Commit) ∷ Ok Turned ∷ Ok (Heard Commit) ∷ []
   -- at a turned shard an abort frees its tokens at once: inside a registration, by the last vote, and by an early no
   turned-own : play_answers house (turn 0 ∷ mint 0 0 10 3 ∷ register 0 half ∷ register 0 (alone 1) ∷ [])
-      ≡ Turned ∷ Minted ∷ Registered false Abort ∷ Registered true Commit ∷ []
+      ≡ Ok Turned ∷ Ok Minted ∷ Ok (Registered false Abort) ∷ Ok (Registered true Commit) ∷ []
   turned-vote : tokens_after (turn 0 ∷ torn-apart) 0 ≡ token 0 0 10 3 0 ∷ []
   turned-early : tokens_after (turn 0 ∷ early) 0 ≡ token 0 0 10 3 0 ∷ []
   -- it frees none that is pledged to another one
@@ -386,10 +393,10 @@ pub record Examples : Type 0 where
   -- another shard's turn frees nothing here
   turned-other : tokens_after (turn 1 ∷ torn-apart) 0 ≡ token 0 0 10 3 8 ∷ []
   -- at a lone shard: a turn of another shard is 3
-  lone_turn : (shard_step house 0 (ledger_at house (play house []).shards 0) (turn 1)).1 ≡ Refused 3
+  lone_turn : (shard_step house 0 (ledger_at house (play house []).shards 0) (turn 1)).1 ≡ Err OutOfRange
   -- a vote brings its transaction, which both votes decide; it is known from then on, and the receiver's own vote is given
   brings : play_answers house (brought ++ (deliver 1 0 1 both ∷ deliver 0 1 1 both ∷ register 1 both ∷ []))
-      ≡ Minted ∷ Minted ∷ Registered true Wait ∷ Brought true Commit ∷ Again Commit ∷ Heard Commit ∷ Refused 8 ∷ []
+      ≡ Ok Minted ∷ Ok Minted ∷ Ok (Registered true Wait) ∷ Ok (Brought true Commit) ∷ Ok (Again Commit) ∷ Ok (Heard Commit) ∷ Err KnownAlready ∷ []
   brings-held : tokens_after brought 1 ≡ token 5 0 10 3 0 ∷ []
   -- it is logged at the place of the vote's call, and last registration counts it: of two that commit, the one brought last is the newest
   brings-logged : (play house brought).log ≡ entry 4 1 both (input 1 0 0 20 2 ∷ []) ∷ entry 3 0 both (input 0 0 0 10 3 ∷ []) ∷ []
@@ -405,14 +412,14 @@ pub record Examples : Type 0 where
       ≡ pass 0 1 ∷ alone-second 6 ∷ []
   -- three shards: it waits for the third; the own no aborts, and so does the sender's
   brings_waits : play_answers house (mint 0 0 10 3 ∷ mint 1 0 20 2 ∷ register 0 three ∷ deliver 1 0 1 three ∷ deliver 2 1 1 three ∷ deliver 2 0 1 three ∷ [])
-      ≡ Minted ∷ Minted ∷ Registered true Wait ∷ Brought true Wait ∷ Brought true Wait ∷ Heard Commit ∷ []
+      ≡ Ok Minted ∷ Ok Minted ∷ Ok (Registered true Wait) ∷ Ok (Brought true Wait) ∷ Ok (Brought true Wait) ∷ Ok (Heard Commit) ∷ []
   brings-own-no : play_answers house (mint 0 0 10 3 ∷ register 0 three ∷ deliver 1 0 1 three ∷ deliver 2 1 0 three ∷ [])
-      ≡ Minted ∷ Registered true Wait ∷ Brought false Abort ∷ Brought true Abort ∷ []
+      ≡ Ok Minted ∷ Ok (Registered true Wait) ∷ Ok (Brought false Abort) ∷ Ok (Brought true Abort) ∷ []
   -- under 9, 10 and 17: refused, nothing is changed; the same vote brings it once that no longer fits
   brings_9 : play_answers small (register 1 three ∷ register 0 (alone 1) ∷ register 0 (alone 2) ∷ deliver 0 1 0 three ∷ [])
-      ≡ Registered false Abort ∷ Registered false Abort ∷ Registered false Abort ∷ Refused 9 ∷ []
+      ≡ Ok (Registered false Abort) ∷ Ok (Registered false Abort) ∷ Ok (Registered false Abort) ∷ Err TransactionsFull ∷ []
   brings_10 : play_answers small (mint 0 0 10 3 ∷ mint 0 1 10 3 ∷ register 1 three ∷ deliver 0 1 0 three ∷ [])
-      ≡ Minted ∷ Minted ∷ Registered false Abort ∷ Refused 10 ∷ []
+      ≡ Ok Minted ∷ Ok Minted ∷ Ok (Registered false Abort) ∷ Err TokensFull ∷ []
   brings_17 : play_answers house (known-at-both ++ (
       register 1 (onward-to 6)
       ∷ deliver 0 1 1 (onward-to 6)
@@ -420,17 +427,17 @@ pub record Examples : Type 0 where
       ∷ deliver 0 1 1 (onward-to 6)
       ∷ []
       ))
-      ≡ Minted ∷ Minted ∷ Registered true Wait ∷ Registered true Wait ∷ Registered true Wait ∷ Refused 17 ∷ Heard Commit ∷ Brought true Commit ∷ []
+      ≡ Ok Minted ∷ Ok Minted ∷ Ok (Registered true Wait) ∷ Ok (Registered true Wait) ∷ Ok (Registered true Wait) ∷ Err HeldOff ∷ Ok (Heard Commit) ∷ Ok (Brought true Commit) ∷ []
   brings_17_held : tokens_after (known-at-both ++ (register 1 (onward-to 6) ∷ deliver 0 1 1 (onward-to 6) ∷ [])) 0 ≡ token 0 0 10 3 5 ∷ []
   -- a number that is known for another transaction: 7
   brings_7 : play_answers house (mint 0 0 10 3 ∷ register 1 both ∷ register 0 other5 ∷ deliver 0 1 0 both ∷ [])
-      ≡ Minted ∷ Registered false Abort ∷ Registered true Wait ∷ Refused 7 ∷ []
+      ≡ Ok Minted ∷ Ok (Registered false Abort) ∷ Ok (Registered true Wait) ∷ Err NumberTaken ∷ []
   -- at a turned shard an abort frees at once what the registration inside has pledged
   brings-turned : tokens_after (turn 0 ∷ mint 0 0 10 3 ∷ register 1 torn ∷ deliver 0 1 0 torn ∷ []) 0 ≡ token 0 0 10 3 0 ∷ []
   brings-unturned : tokens_after (mint 0 0 10 3 ∷ register 1 torn ∷ deliver 0 1 0 torn ∷ []) 0 ≡ token 0 0 10 3 8 ∷ []
   -- at a lone shard: its own vote on an unknown number is 11, another shard's brings its transaction
-  lone_11 : (shard_step house 0 (ledger_at house (play house []).shards 0) (deliver 0 0 1 both)).1 ≡ Refused 11
-  lone_brings : (shard_step house 0 (ledger_at house (play house []).shards 0) (deliver 0 1 1 both)).1 ≡ Brought false Abort
+  lone_11 : (shard_step house 0 (ledger_at house (play house []).shards 0) (deliver 0 0 1 both)).1 ≡ Err NumberUnknown
+  lone_brings : (shard_step house 0 (ledger_at house (play house []).shards 0) (deliver 0 1 1 both)).1 ≡ Ok (Brought false Abort)
   -- each finding: available, not held, another owner, another amount, pledged with its number
   found-each : asked (claimed (claims 6 (input 0 0 0 10 3 ∷ input 0 0 7 10 3 ∷ input 0 0 1 99 3 ∷ input 0 0 2 10 3 ∷ []) 12)) 0 6
       ≡ Available ∷ NotHeld ∷ OtherOwner ∷ Pledged 9 ∷ []
@@ -440,7 +447,7 @@ pub record Examples : Type 0 where
   found-amount-first : asked (claimed (claims 6 (input 0 0 2 10 2 ∷ []) 2)) 0 6 ≡ OtherAmount ∷ []
   -- in input order, past an input of another shard; where there are outputs only, none
   found_here : asked (mint 0 0 10 3 ∷ mint 0 1 10 3 ∷ register 0 mixed ∷ []) 0 6 ≡ Available ∷ OtherAmount ∷ []
-  found_none : answered (register 2 mixed ∷ []) 2 6 ≡ told.Findings 0
+  found_none : answered (register 2 mixed ∷ []) 2 6 ≡ Ok 0
   -- a vote that brings its transaction finds alike: a token that is there, and one that is not
   found-brought : asked brought 1 5 ≡ Available ∷ []
   found-brought-no : asked (mint 0 0 10 3 ∷ register 0 torn ∷ deliver 1 0 1 torn ∷ []) 1 8 ≡ NotHeld ∷ []
@@ -449,13 +456,13 @@ pub record Examples : Type 0 where
   found-commits : asked (known-at-both ++ votes) 0 5 ≡ Available ∷ []
   found-turns : asked (torn-apart ++ (register 0 (alone 1) ∷ turn 0 ∷ [])) 0 1 ≡ Pledged 8 ∷ []
   -- no such shard, and number 0: 3, which goes first; a number that the shard does not know, though another may: 18; a refused call reports nothing
-  report-shard : answered known-at-both 8 5 ≡ told.Refused 3
-  report-zero : answered known-at-both 0 0 ≡ told.Refused 3
-  report-unknown : answered known-at-both 0 6 ≡ told.Refused 18
-  report_elsewhere : answered known-at-both 2 5 ≡ told.Refused 18
+  report-shard : answered known-at-both 8 5 ≡ Err OutOfRange
+  report-zero : answered known-at-both 0 0 ≡ Err OutOfRange
+  report-unknown : answered known-at-both 0 6 ≡ Err NoSuchNumber
+  report_elsewhere : answered known-at-both 2 5 ≡ Err NoSuchNumber
   report-nothing : asked known-at-both 0 6 ≡ []
   -- at a lone shard: another shard is 3
-  lone_report : (report 0 (ledger_at house (play house known-at-both).shards 0) 1 5).answer ≡ told.Refused 3
+  lone_report : report 0 (ledger_at house (play house known-at-both).shards 0) 1 5 ≡ Err OutOfRange
 
 -- each of them by computation
 pub examples : Examples

@@ -5,7 +5,6 @@ use native.Mathlib.Omega.{arith}
 use mathlib.Core.Path.{◌≡◌, refl, ap, sym, ◌∙◌}
 use mathlib.Core.Logic.{◌≢◌}
 use mathlib.Core.Bool.{Bool, true, false, cond, not, ◌&&◌}
-use lib.Dec.{eqb}
 use mathlib.Core.Option.{Option, none, some}
 use mathlib.Core.List.{List, ◌++◌, Memᴰ}
 use Rattle.transaction.specs.declared.Input.{Input}
@@ -15,8 +14,8 @@ use Rattle.model.specs.declared.Token.{Token}
 use Rattle.model.specs.declared.Known.{Known}
 use Rattle.model.specs.declared.Outcome.{Outcome}
 use Rattle.model.specs.declared.Outcome.TheVariants.{Wait, Commit, Abort}
-use Rattle.model.specs.declared.Answer.{Answer}
-use Rattle.model.specs.declared.Answer.TheVariants.{Refused, Registered, Brought}
+use Rattle.model.specs.Answers.{Answer}
+use Rattle.model.specs.declared.Done.TheVariants.{Registered, Brought}
 use Rattle.model.specs.Steps.{Limits, Ledger, names, inputs_here, vote, newly_known, outcome_of, made_here, after_register}
 use Rattle.model.specs.Shard.{
   Call,
@@ -25,6 +24,7 @@ use Rattle.model.specs.Shard.{
   awaits,
   held_off,
   register_refusals,
+  unless,
   shard_step,
   deliver,
   is_unknown,
@@ -48,6 +48,9 @@ use Rattle.model.proofs.Decisions.{knows, final_at}
 use Rattle.model.proofs.Laws.{leaves, model_unchanged}
 use Rattle.model.proofs.Tables.{unless_never, deliver-number}
 use Rattle.model.proofs.Brought.{brings_first_in}
+use Rattle.std.specs.Prelude.{Result, Ok, Err}
+use Rattle.transaction.specs.declared.refusal.Refusal.{Refusal}
+use Rattle.transaction.specs.declared.refusal.Refusal.TheVariants.{HeldOff}
 
 -- the outcome is wait
 is_wait : (o : Outcome) → is_undecided o ≡ true → o ≡ Wait
@@ -82,7 +85,7 @@ awaited me x known e =
 -- a registration that 17 refuses changes nothing, and neither does a vote that would bring its transaction: the shards, the log and the genesis tokens
 -- stay as they were
 pub held_off_unchanged : (limits : Limits) (place : ℕ) (model : Model) (call : Call)
-    → (step limits place model call).1 ≡ Refused 17 → (step limits place model call).0 ≡ model
+    → (step limits place model call).1 ≡ Err HeldOff → (step limits place model call).0 ≡ model
 held_off_unchanged limits place model call e = model_unchanged limits place model call (ap leaves e)
 
 -- once the first transaction is decided at a shard, no input that names it awaits it there, at that time or later
@@ -159,43 +162,40 @@ module _ (limits : Limits) (calls : List Call) (p : ℕ) (t : Transaction) (free
   passes_17 : not (held_off p ledger.known t) && true ≡ true
   passes_17 = ap (λ (b : Bool). not b && true) (free-passes limits calls p t free)
 
-  pub free-registers : (cluster_step limits (play limits calls).shards (register p t)).1 ≢ Refused 17
+  pub free-registers : (cluster_step limits (play limits calls).shards (register p t)).1 ≢ Err HeldOff
   unfolding cluster_step at_shard shard_step register_refusals
   free-registers =
-      unless_never 17 (λ z. omega arith) (register_refusals limits p ledger p t) passes_17 ledger
-      (after_register p ledger t, Registered (vote p ledger.tokens t) outcome) (λ y. let z : ◌≡◌ {A = ℕ} 0 1 = cc in omega arith)
+      unless_never HeldOff (register_refusals limits p ledger p t) passes_17 ledger
+      (after_register p ledger t, Ok (Registered (vote p ledger.tokens t) outcome)) (λ y. let z : ◌≡◌ {A = ℕ} 0 1 = cc in omega arith)
 
-  pub free-voted : (v : Bool) (o : Outcome) → (cluster_step limits (play limits calls).shards (register p t)).1 ≡ Registered v o → v ≡ true
+  pub free-voted : (v : Bool) (o : Outcome) → (cluster_step limits (play limits calls).shards (register p t)).1 ≡ Ok (Registered v o) → v ≡ true
   unfolding cluster_step at_shard shard_step
-  free-voted v o e = go (eqb cause 0) e
+  free-voted v o e = go (first_of (register_refusals limits p ledger p t)) e
     where
-      cause : ℕ
-      cause = first_of (register_refusals limits p ledger p t)
-
-      go : (b : Bool) → (cond {A = Ledger × Answer} b (after_register p ledger t, Registered (vote p ledger.tokens t) outcome) (ledger, Refused cause)).1
-          ≡ Registered v o → v ≡ true
-      go true e = let z : vote p ledger.tokens t ≡ v = cc in sym z ∙ free
-      go false e = let y : ◌≡◌ {A = ℕ} 0 1 = cc in absurd (omega arith)
+      go : (found : Result Unit Refusal)
+          → (unless {A = Ledger} found ledger (after_register p ledger t, Ok (Registered (vote p ledger.tokens t) outcome))).1 ≡ Ok (Registered v o) → v ≡ true
+      go (Ok tt) e = let z : vote p ledger.tokens t ≡ v = cc in sym z ∙ free
+      go (Err refusal) e = let y : ◌≡◌ {A = ℕ} 0 1 = cc in absurd (omega arith)
 
   module _ (sender verdict : ℕ) where
-    pub free-brings : (cluster_step limits (play limits calls).shards (deliver p sender verdict t)).1 ≢ Refused 17
+    pub free-brings : (cluster_step limits (play limits calls).shards (deliver p sender verdict t)).1 ≢ Err HeldOff
     unfolding at_shard deliver_refusals deliver_form
     free-brings =
-        deliver-elim limits (play limits calls).shards p sender verdict t (λ r. r.1 ≢ Refused 17)
-        (λ e. let z : ◌≡◌ {A = ℕ} 16 17 = cc in omega arith) (λ given e. answered e)
+        deliver-elim limits (play limits calls).shards p sender verdict t (λ r. r.1 ≢ Err HeldOff)
+        (λ e. let z : ◌≡◌ {A = ℕ} 0 1 = cc in omega arith) (λ given e. answered e)
       where
-        rest : (unknown : Bool) → first_of (cond unknown (bring_rest limits p ledger sender t) (hear_rest ledger sender verdict t)) ≡ 17 → ⊥
-        rest true e = never_answers 17 (λ z. omega arith) (bring_rest limits p ledger sender t) passes_17 e
-        rest false e = never_answers 17 (λ z. omega arith) (hear_rest ledger sender verdict t) refl e
+        rest : (unknown : Bool) → first_of (cond unknown (bring_rest limits p ledger sender t) (hear_rest ledger sender verdict t)) ≡ Err HeldOff → ⊥
+        rest true e = never_answers HeldOff (bring_rest limits p ledger sender t) passes_17 e
+        rest false e = never_answers HeldOff (hear_rest ledger sender verdict t) refl e
 
-        answered : (shard_step limits p ledger (deliver p sender verdict t)).1 ≢ Refused 17
+        answered : (shard_step limits p ledger (deliver p sender verdict t)).1 ≢ Err HeldOff
         answered e =
             let form = deliver_form limits p p sender verdict t in
-            let said = number_behind 17 form (deliver_rest limits p ledger sender verdict t) refl (deliver-number limits p ledger sender verdict t 17 e) in
+            let said = number_behind HeldOff form (deliver_rest limits p ledger sender verdict t) refl (deliver-number limits p ledger sender verdict t HeldOff e) in
             rest (is_unknown t ledger.known) said.1
 
     pub free-brought : (v : Bool) (o : Outcome)
-        → (cluster_step limits (play limits calls).shards (deliver p sender verdict t)).1 ≡ Brought v o → v ≡ true
+        → (cluster_step limits (play limits calls).shards (deliver p sender verdict t)).1 ≡ Ok (Brought v o) → v ≡ true
     free-brought v o e =
         let registered = brings_first_in limits (play limits calls).shards p sender verdict t v o e in
         free-voted v outcome (ap (λ (r : List Ledger × Answer). r.1) registered)

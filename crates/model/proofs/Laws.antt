@@ -13,14 +13,14 @@ use Rattle.transaction.specs.Lists.{total, repeats}
 use Rattle.transaction.specs.Tokens.{used_inputs, used_outputs}
 use Rattle.transaction.specs.Checks.{input_amount, output_amount, balanced}
 use Rattle.model.specs.declared.Outcome.TheVariants.{Abort}
-use Rattle.model.specs.declared.Answer.{Answer}
-use Rattle.model.specs.declared.Answer.TheVariants.{Refused, Minted, Registered, Heard, Again, Turned, Brought}
+use Rattle.model.specs.Answers.{Answer, number_of}
+use Rattle.model.specs.declared.Done.TheVariants.{Minted, Registered, Heard, Again, Turned, Brought}
 use Rattle.model.specs.Steps.{Limits, Ledger, empty_ledger, inputs_here}
 use Rattle.model.specs.Shard.{Call, mint, register, deliver, shard_step, turn}
 use Rattle.model.specs.Cluster.{ledger_at, at_shard, cluster_step}
 use Rattle.model.specs.Model.{Entry, Model, entry_for, step, after, answers, play}
 use Rattle.model.specs.Demand.{committed, outcome_at}
-use Rattle.model.proofs.Basics.{eqb-eq, clash}
+use Rattle.model.proofs.Basics.{eqb-eq, eqb_apart, clash}
 use Rattle.model.proofs.Lookups.{alone-repeats}
 use Rattle.model.proofs.Entries.{same_number}
 use Rattle.model.proofs.Effects.{
@@ -49,23 +49,48 @@ use Rattle.model.proofs.Steps.{play-inv, Keeps, play-keeps}
 use Rattle.model.proofs.Order.{committed-logged}
 use Rattle.model.proofs.Holdings.{in_here}
 use Rattle.model.proofs.Decisions.{not_aborted, taken-once}
+use Rattle.std.specs.Prelude.{Ok, Err}
+use lib.Dec.{eqb}
+use Rattle.transaction.specs.declared.refusal.Refusal.{Refusal}
+use Rattle.transaction.specs.declared.refusal.Refusal.TheVariants.{
+  UnknownKind,
+  TooShort,
+  OutOfRange,
+  TokenTwice,
+  SumsDiffer,
+  NotTakingPart,
+  NumberTaken,
+  KnownAlready,
+  TransactionsFull,
+  TokensFull,
+  NumberUnknown,
+  OtherVerdict,
+  MintTooLate,
+  IndexGiven,
+  BufferTooShort,
+  VoteNotGiven,
+  HeldOff,
+  NoSuchNumber,
+  TurnedAlready,
+}
+use Rattle.transaction.specs.Refusals.{refusal_number}
 
 -- ---- What changes nothing
 
 -- the answers of calls that change nothing: a refusal and a repeat
 abbrev pub leaves : Answer → Bool
-leaves (Refused number) = true
-leaves Minted = false
-leaves (Registered verdict outcome) = false
-leaves (Heard outcome) = false
-leaves (Again outcome) = true
-leaves Turned = false
-leaves (Brought verdict outcome) = false
+leaves (Err refusal) = true
+leaves (Ok Minted) = false
+leaves (Ok (Registered verdict outcome)) = false
+leaves (Ok (Heard outcome)) = false
+leaves (Ok (Again outcome)) = true
+leaves (Ok Turned) = false
+leaves (Ok (Brought verdict outcome)) = false
 
 -- by cases on what a call did at a shard
 shard-left : (limits : Limits) (me : ℕ) (ledger : Ledger) (call : Call) (r : Ledger × Answer)
     → ShardEffect limits me ledger call r → leaves r.1 ≡ true → r.0 ≡ ledger
-shard-left limits me ledger call _ (shard-refused h) e = refl
+shard-left limits me ledger call _ shard-refused e = refl
 shard-left limits me ledger call _ (shard-again h z) e = refl
 shard-left limits me ledger call _ (shard-minted h) e = absurd (true≢false (sym e))
 shard-left limits me ledger call _ (shard-registered h) e = absurd (true≢false (sym e))
@@ -99,7 +124,7 @@ cluster_unchanged limits shards (deliver p sender verdict t) e =
 -- by cases on what a call did to the model
 model-left : (limits : Limits) (place : ℕ) (model : Model) (call : Call) (r : Model × Answer)
     → Effects limits place model call r → leaves r.1 ≡ true → r.0 ≡ model
-model-left limits place model call _ (did_one (did_refuse h)) e = refl
+model-left limits place model call _ (did_one did_refuse) e = refl
 model-left limits place model call _ (did_one (did_repeat h z)) e = refl
 model-left limits place model call _ (did_one (did_mint h)) e = absurd (true≢false (sym e))
 model-left limits place model call _ (did_one (did_register h)) e = absurd (true≢false (sym e))
@@ -112,20 +137,32 @@ pub model_unchanged : (limits : Limits) (place : ℕ) (model : Model) (call : Ca
     → leaves (step limits place model call).1 ≡ true → (step limits place model call).0 ≡ model
 model_unchanged limits place model call e = model-left limits place model call (step limits place model call) (effect limits place model call) e
 
--- a refusal has a number
-number-left : (limits : Limits) (me : ℕ) (ledger : Ledger) (call : Call) (r : Ledger × Answer)
-    → ShardEffect limits me ledger call r → (n : ℕ) → r.1 ≡ Refused n → n ≢ 0
-number-left limits me ledger call _ (shard-refused {n = m} h) n e z = let y : m ≡ n = cc in h (y ∙ z)
-number-left limits me ledger call _ (shard-minted h) n e z = let y : ◌≡◌ {A = ℕ} 0 1 = cc in omega arith
-number-left limits me ledger call _ (shard-registered h) n e z = let y : ◌≡◌ {A = ℕ} 0 1 = cc in omega arith
-number-left limits me ledger call _ (shard-heard h g w) n e z = let y : ◌≡◌ {A = ℕ} 0 1 = cc in omega arith
-number-left limits me ledger call _ (shard-again h w) n e z = let y : ◌≡◌ {A = ℕ} 0 1 = cc in omega arith
-number-left limits me ledger call _ (shard-turned h) n e z = let y : ◌≡◌ {A = ℕ} 0 1 = cc in omega arith
-number-left limits me ledger call _ (shard-brought h g) n e z = let y : ◌≡◌ {A = ℕ} 0 1 = cc in omega arith
+-- the table numbers its rows from 1 on
+numbered : (refusal : Refusal) → eqb (refusal_number refusal) 0 ≡ false
+numbered UnknownKind = refl
+numbered TooShort = refl
+numbered OutOfRange = refl
+numbered TokenTwice = refl
+numbered SumsDiffer = refl
+numbered NotTakingPart = refl
+numbered NumberTaken = refl
+numbered KnownAlready = refl
+numbered TransactionsFull = refl
+numbered TokensFull = refl
+numbered NumberUnknown = refl
+numbered OtherVerdict = refl
+numbered MintTooLate = refl
+numbered IndexGiven = refl
+numbered BufferTooShort = refl
+numbered VoteNotGiven = refl
+numbered HeldOff = refl
+numbered NoSuchNumber = refl
+numbered TurnedAlready = refl
 
 -- a refusal has a number
-pub refused-number : (limits : Limits) (me : ℕ) (ledger : Ledger) (call : Call) (n : ℕ) → (shard_step limits me ledger call).1 ≡ Refused n → n ≢ 0
-refused-number limits me ledger call = number-left limits me ledger call (shard_step limits me ledger call) (shard-effect limits me ledger call)
+pub refused-number : (limits : Limits) (me : ℕ) (ledger : Ledger) (call : Call) (refusal : Refusal)
+    → (shard_step limits me ledger call).1 ≡ Err refusal → number_of (shard_step limits me ledger call).1 ≢ 0
+refused-number limits me ledger call refusal e z = eqb_apart (numbered refusal) (sym (ap number_of e) ∙ z)
 
 -- ---- Tokens and numbers
 
@@ -171,7 +208,7 @@ Balanced model = (e : Entry) → Memᴰ e model.log → balanced e.transaction �
 
 -- by cases on what a call did
 keeps-balanced : (limits : Limits) → Keeps limits Balanced
-keeps-balanced limits place model w f call _ (did_refuse h) = f
+keeps-balanced limits place model w f call _ did_refuse = f
 keeps-balanced limits place model w f call _ (did_mint h) = f
 keeps-balanced limits place model w f call _ (did_hear h g z) = f
 keeps-balanced limits place model w f call _ (did_repeat h z) = f

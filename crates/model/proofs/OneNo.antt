@@ -15,8 +15,8 @@ use Rattle.transaction.specs.Tokens.{used_inputs, shards_of}
 use Rattle.model.specs.declared.Known.{Known}
 use Rattle.model.specs.declared.Outcome.{Outcome}
 use Rattle.model.specs.declared.Outcome.TheVariants.{Wait, Commit, Abort}
-use Rattle.model.specs.declared.Answer.{Answer}
-use Rattle.model.specs.declared.Answer.TheVariants.{Registered, Heard, Again}
+use Rattle.model.specs.Answers.{Answer}
+use Rattle.model.specs.declared.Done.TheVariants.{Registered, Heard, Again}
 use Rattle.model.specs.Steps.{
   Limits,
   Ledger,
@@ -57,6 +57,7 @@ use Rattle.model.proofs.Effects.{
 use Rattle.model.proofs.Steps.{play-inv}
 use Rattle.model.proofs.Decisions.{decided_exact, all_in-at}
 use Rattle.model.proofs.Votes.{own-no, own-yes}
+use Rattle.std.specs.Prelude.{Ok}
 
 -- ---- What a registration is answered
 
@@ -66,7 +67,7 @@ AtOnce verdict o = (verdict ≡ false → o ≡ Abort) × (verdict ≡ true → 
 
 -- by cases on what a call did at a shard
 at-once-by : (limits : Limits) (me : ℕ) (ledger : Ledger) (call : Call) (r : Ledger × Answer)
-    → ShardEffect limits me ledger call r → (verdict : Bool) (o : Outcome) → r.1 ≡ Registered verdict o → AtOnce verdict o
+    → ShardEffect limits me ledger call r → (verdict : Bool) (o : Outcome) → r.1 ≡ Ok (Registered verdict o) → AtOnce verdict o
 at-once-by limits me ledger call _ (shard-registered {receiver = receiver} {t = t} h) verdict o e =
     let addressed : receiver ≡ me = h.form.addressed in
     let here : me < 8 = subst (λ (p : ℕ). p < 8) addressed (shard-below receiver h.form.receiver_fits) in
@@ -74,7 +75,7 @@ at-once-by limits me ledger call _ (shard-registered {receiver = receiver} {t = 
     let voted : vote me ledger.tokens t ≡ verdict = cc in
     let outcome : outcome_of (newly_known me ledger.tokens t) ≡ o = cc in
     (λ f. sym outcome ∙ own-no me ledger.tokens t here part (voted ∙ f), λ f a. own-yes me ledger.tokens t here (voted ∙ f) (outcome ∙ a))
-at-once-by limits me ledger call _ (shard-refused h) verdict o e = let z : ◌≡◌ {A = ℕ} 0 1 = cc in absurd (omega arith)
+at-once-by limits me ledger call _ shard-refused verdict o e = let z : ◌≡◌ {A = ℕ} 0 1 = cc in absurd (omega arith)
 at-once-by limits me ledger call _ (shard-minted h) verdict o e = let z : ◌≡◌ {A = ℕ} 0 1 = cc in absurd (omega arith)
 at-once-by limits me ledger call _ (shard-heard h f z) verdict o e = let y : ◌≡◌ {A = ℕ} 0 1 = cc in absurd (omega arith)
 at-once-by limits me ledger call _ (shard-again h z) verdict o e = let y : ◌≡◌ {A = ℕ} 0 1 = cc in absurd (omega arith)
@@ -83,18 +84,18 @@ at-once-by limits me ledger call _ (shard-brought h f) verdict o e = let y : ◌
 
 -- at a lone shard
 pub at_once : (limits : Limits) (me : ℕ) (ledger : Ledger) (call : Call) (verdict : Bool) (o : Outcome)
-    → (shard_step limits me ledger call).1 ≡ Registered verdict o → AtOnce verdict o
+    → (shard_step limits me ledger call).1 ≡ Ok (Registered verdict o) → AtOnce verdict o
 at_once limits me ledger call = at-once-by limits me ledger call (shard_step limits me ledger call) (shard-effect limits me ledger call)
 
 -- and in a cluster
 pub at_once_in : (limits : Limits) (shards : List Ledger) (call : Call) (verdict : Bool) (o : Outcome)
-    → (cluster_step limits shards call).1 ≡ Registered verdict o → AtOnce verdict o
+    → (cluster_step limits shards call).1 ≡ Ok (Registered verdict o) → AtOnce verdict o
 unfolding cluster_step at_shard
 at_once_in limits shards (mint p index owner amount) verdict o e = at_once limits p (ledger_at limits shards p) (mint p index owner amount) verdict o e
 at_once_in limits shards (register p t) verdict o e = at_once limits p (ledger_at limits shards p) (register p t) verdict o e
 at_once_in limits shards (turn p) verdict o e = at_once limits p (ledger_at limits shards p) (turn p) verdict o e
 at_once_in limits shards (deliver p sender said t) verdict o e =
-    deliver-elim limits shards p sender said t (λ r. r.1 ≡ Registered verdict o → AtOnce verdict o)
+    deliver-elim limits shards p sender said t (λ r. r.1 ≡ Ok (Registered verdict o) → AtOnce verdict o)
     (λ y. let z : ◌≡◌ {A = ℕ} 0 1 = cc in absurd (omega arith))
     (λ given y. at_once limits p (ledger_at limits shards p) (deliver p sender said t) verdict o y) e
 
@@ -116,7 +117,7 @@ pub late-vote : (me : ℕ) (ledger : Ledger) (sender verdict : ℕ) (t : Transac
     ≡ (
       holding ledger (ended ledger.turned Abort (entry_of t ledger.known).transaction.number ledger.tokens)
           (set ledger.known (place_of t ledger.known) (hearing sender verdict (entry_of t ledger.known))),
-      Heard Abort,
+      Ok (Heard Abort),
     )
 unfolding hear after_vote
 late-vote me ledger sender verdict t fresh e =
@@ -125,8 +126,8 @@ late-vote me ledger sender verdict t fresh e =
     let known : List Known = set ledger.known (place_of t ledger.known) heard in
     let stays : outcome_of heard ≡ Abort = abort_stays k sender verdict fresh e in
     λ i. cond (eqb_yes fresh i)
-    (holding ledger (concluded ledger.turned (stays i) me k.transaction ledger.tokens) known, Heard (stays i))
-    (ledger, Again (outcome_of k))
+    (holding ledger (concluded ledger.turned (stays i) me k.transaction ledger.tokens) known, Ok (Heard (stays i)))
+    (ledger, Ok (Again (outcome_of k)))
 
 -- ---- The commit rule, sooner
 

@@ -6,7 +6,7 @@ use mathlib.Core.Logic.{◌↔◌}
 use mathlib.Core.Bool.{Bool, true, false, cond, ◌&&◌}
 use mathlib.Core.List.{List, [], ◌∷◌, reverse_aux, Memᴰ}
 use Rattle.transaction.specs.declared.Transaction.{Transaction}
-use Rattle.model.specs.declared.Answer.{Answer}
+use Rattle.model.specs.Answers.{Answer}
 use Rattle.model.specs.Steps.{Limits}
 use Rattle.model.specs.Shard.{Call}
 use Rattle.model.specs.Model.{Entry, Model, empty_model, entry_for, step, after, play}
@@ -119,7 +119,7 @@ placed_new place log r z h = record { below = go; falls = (λ e m. let y = h.bel
 -- by cases on what a call did
 placed_step : (limits : Limits) (place : ℕ) (model : Model) → Placed place model.log
     → (call : Call) (r : Model × Answer) → Effects limits place model call r → Placed (suc place) r.0.log
-placed_step limits place model h call _ (did_one (did_refuse n)) = placed_same place model.log h
+placed_step limits place model h call _ (did_one did_refuse) = placed_same place model.log h
 placed_step limits place model h call _ (did_one (did_mint n)) = placed_same place model.log h
 placed_step limits place model h call _ (did_one (did_register {p = p} {t = t} n)) =
     placed_new place model.log (entry_for limits place model.shards p t) refl h

@@ -1,4 +1,4 @@
--- What a table of refusals that answers 0 says: every test of it has passed.
+-- What a table that refuses nothing says: every test of it has passed.
 use Prim.Native.Nat.{ℕ, ◌+◌, ◌≤◌, ◌<◌}
 use native.Mathlib.Omega.{arith}
 use mathlib.Core.Path.{◌≡◌, refl, sym, ap, ◌∙◌}
@@ -33,6 +33,7 @@ use Rattle.model.specs.Shard.{
 }
 use Rattle.model.proofs.Basics.{eqb-eq, eqb_apart, both, not-no, not_is, passed, first-append, any_at, eqb_yes, first-none}
 use Rattle.model.proofs.Entries.{whole-known, new-number, registered-known, registered-unheard, known-number, registered-alone}
+use Rattle.std.specs.Prelude.{Ok}
 
 -- ---- Parts of the field checks
 
@@ -81,11 +82,11 @@ module _ (limits : Limits) (me receiver : ℕ) where
     pub sender-part : takes_part sender t ≡ true
 
   -- what their table says
-  pub vote-passes : (sender verdict : ℕ) (t : Transaction) → first_of (deliver_form limits me receiver sender verdict t) ≡ 0
+  pub vote-passes : (sender verdict : ℕ) (t : Transaction) → first_of (deliver_form limits me receiver sender verdict t) ≡ Ok tt
       → VotePasses sender verdict t
   unfolding deliver_form
   vote-passes sender verdict t e =
-      let g = passed (deliver_form limits me receiver sender verdict t) refl e in
+      let g = passed (deliver_form limits me receiver sender verdict t) e in
       record {
         form = record {
           addressed = eqb-eq receiver me (not-no (eqb receiver me) g.0);
@@ -112,10 +113,10 @@ module _ (limits : Limits) (me : ℕ) (ledger : Ledger) (receiver : ℕ) where
     pub ungiven : get_or ledger.given index false ≡ false
 
   -- what its table says
-  pub mint-passes : (index owner amount : ℕ) → first_of (mint_refusals limits me ledger receiver index owner amount) ≡ 0 → MintPasses index owner amount
+  pub mint-passes : (index owner amount : ℕ) → first_of (mint_refusals limits me ledger receiver index owner amount) ≡ Ok tt → MintPasses index owner amount
   unfolding mint_refusals mint_fits index_fits
   mint-passes index owner amount e =
-      let g = passed (mint_refusals limits me ledger receiver index owner amount) refl e in
+      let g = passed (mint_refusals limits me ledger receiver index owner amount) e in
       let f = both (shard_fits receiver && index_fits limits.genesis 0 index) (value_fits owner amount)
       (not-no (mint_fits limits.genesis receiver index owner amount) g.1.0) in
       let h = both (shard_fits receiver) (index_fits limits.genesis 0 index) f.0 in
@@ -134,10 +135,10 @@ module _ (limits : Limits) (me : ℕ) (ledger : Ledger) (receiver : ℕ) where
     pub unturned : ledger.turned ≡ false
 
   -- what its table says
-  pub turn-passes : first_of (turn_refusals me ledger receiver) ≡ 0 → TurnPasses
+  pub turn-passes : first_of (turn_refusals me ledger receiver) ≡ Ok tt → TurnPasses
   unfolding turn_refusals
   turn-passes e =
-      let g = passed (turn_refusals me ledger receiver) refl e in
+      let g = passed (turn_refusals me ledger receiver) e in
       record {
         addressed = eqb-eq receiver me (not-no (eqb receiver me) g.0);
         receiver_fits = not-no (shard_fits receiver) g.1.0;
@@ -153,10 +154,10 @@ module _ (limits : Limits) (me : ℕ) (ledger : Ledger) (receiver : ℕ) where
     pub token-room : length ledger.tokens + reserved me ledger.known + length (outputs_here me t) ≤ limits.tokens
 
   -- what its table says
-  pub register-passes : (t : Transaction) → first_of (register_refusals limits me ledger receiver t) ≡ 0 → RegisterPasses t
+  pub register-passes : (t : Transaction) → first_of (register_refusals limits me ledger receiver t) ≡ Ok tt → RegisterPasses t
   unfolding register_refusals
   register-passes t e =
-      let g = passed (register_refusals limits me ledger receiver t) refl e in
+      let g = passed (register_refusals limits me ledger receiver t) e in
       record {
         form = record {
           addressed = eqb-eq receiver me (not-no (eqb receiver me) g.0);
@@ -183,26 +184,26 @@ module _ (limits : Limits) (me : ℕ) (ledger : Ledger) (receiver : ℕ) where
   pub record BringPasses (sender verdict : ℕ) (t : Transaction) : Type 0 where
     pub passes : VotePasses limits me receiver sender verdict t
     pub from-other : sender ≡ me → ⊥
-    pub registers : first_of (register_refusals limits me ledger receiver t) ≡ 0
+    pub registers : first_of (register_refusals limits me ledger receiver t) ≡ Ok tt
 
-  module _ (sender verdict : ℕ) (t : Transaction) (e : first_of (deliver_refusals limits me ledger receiver sender verdict t) ≡ 0) where
+  module _ (sender verdict : ℕ) (t : Transaction) (e : first_of (deliver_refusals limits me ledger receiver sender verdict t) ≡ Ok tt) where
     -- 3 to 6 come first
-    pub form-passes : first_of (deliver_form limits me receiver sender verdict t) ≡ 0
+    pub form-passes : first_of (deliver_form limits me receiver sender verdict t) ≡ Ok tt
     unfolding deliver_refusals deliver_form
-    form-passes = first-append (deliver_form limits me receiver sender verdict t) (deliver_rest limits me ledger sender verdict t) refl e
+    form-passes = first-append (deliver_form limits me receiver sender verdict t) (deliver_rest limits me ledger sender verdict t) e
 
     -- then what the ledger says
-    rest-passes : first_of (deliver_rest limits me ledger sender verdict t) ≡ 0
+    rest-passes : first_of (deliver_rest limits me ledger sender verdict t) ≡ Ok tt
     unfolding deliver_refusals deliver_form
     rest-passes =
         let form = deliver_form limits me receiver sender verdict t in
-        sym (first-behind form (deliver_rest limits me ledger sender verdict t) refl form-passes) ∙ e
+        sym (first-behind form (deliver_rest limits me ledger sender verdict t) form-passes) ∙ e
 
     -- of a known number
     pub deliver-passes : is_unknown t ledger.known ≡ false → DeliverPasses sender verdict t
     deliver-passes known =
         let rows = hear_rest ledger sender verdict t in
-        let g = passed rows refl (ap (λ (b : Bool). first_of (cond b (bring_rest limits me ledger sender t) rows)) (sym known) ∙ rest-passes) in
+        let g = passed rows (ap (λ (b : Bool). first_of (cond b (bring_rest limits me ledger sender t) rows)) (sym known) ∙ rest-passes) in
         record {
           passes = vote-passes limits me receiver sender verdict t form-passes;
           is_known = whole-known t ledger.known (not-no (any (has_number t) ledger.known) known) g.0;
@@ -214,7 +215,7 @@ module _ (limits : Limits) (me : ℕ) (ledger : Ledger) (receiver : ℕ) where
     unfolding register_refusals
     bring-passes unknown =
         let rows = bring_rest limits me ledger sender t in
-        let g = passed rows refl (ap (λ (b : Bool). first_of (cond b rows (hear_rest ledger sender verdict t))) (sym unknown) ∙ rest-passes) in
+        let g = passed rows (ap (λ (b : Bool). first_of (cond b rows (hear_rest ledger sender verdict t))) (sym unknown) ∙ rest-passes) in
         let vote = vote-passes limits me receiver sender verdict t form-passes in
         let new = new-number t ledger.known unknown in
         let form = vote.form in
@@ -251,13 +252,13 @@ module _ {limits : Limits} {me : ℕ} {ledger : Ledger} {receiver sender verdict
   brought-known = ap not (known-number t (after_register me ledger t).known brought-hears.is_known)
 
   -- so that no test of its table refuses it
-  pub brought-passes : first_of (deliver_form limits me receiver sender verdict t) ≡ 0
-      → first_of (deliver_refusals limits me (after_register me ledger t) receiver sender verdict t) ≡ 0
+  pub brought-passes : first_of (deliver_form limits me receiver sender verdict t) ≡ Ok tt
+      → first_of (deliver_refusals limits me (after_register me ledger t) receiver sender verdict t) ≡ Ok tt
   unfolding deliver_refusals deliver_form
   brought-passes form =
       let registered = after_register me ledger t in
       let rows = hear_rest registered sender verdict t in
       let alone = registered-alone me ledger t brought-registers.unknown brought-registers.no_other in
-      first-behind (deliver_form limits me receiver sender verdict t) (deliver_rest limits me registered sender verdict t) refl form
+      first-behind (deliver_form limits me receiver sender verdict t) (deliver_rest limits me registered sender verdict t) form
       ∙ ap (λ (b : Bool). first_of (cond b (bring_rest limits me registered sender t) rows)) brought-known
       ∙ first-none rows (alone, (brought-hears.no-clash, tt))

@@ -18,8 +18,8 @@ use Rattle.model.specs.declared.Token.{Token}
 use Rattle.model.specs.declared.Known.{Known}
 use Rattle.model.specs.declared.Outcome.{Outcome}
 use Rattle.model.specs.declared.Outcome.TheVariants.{Wait, Commit, Abort}
-use Rattle.model.specs.declared.Answer.{Answer}
-use Rattle.model.specs.declared.Answer.TheVariants.{Registered, Heard}
+use Rattle.model.specs.Answers.{Answer}
+use Rattle.model.specs.declared.Done.TheVariants.{Registered, Heard}
 use Rattle.model.specs.Lists.{map_option}
 use Rattle.model.specs.Steps.{
   Limits,
@@ -137,6 +137,7 @@ use Rattle.model.proofs.Effects.{
   did_one,
   did_bring,
 }
+use Rattle.std.specs.Prelude.{Ok as carried}
 
 -- ---- The log
 
@@ -691,7 +692,7 @@ module _ (limits : Limits) (place : ℕ) (model : Model) (w : Inv limits model) 
 
   -- by cases on what the call did
   pub step-next : (call : Call) (r : Model × Answer) → Effect limits place model call r → Next limits model r.0
-  step-next call _ (did_refuse h) = stay w
+  step-next call _ did_refuse = stay w
   step-next call _ (did_repeat h z) = stay w
   step-next call _ (did_turn {p = p} h) =
       replaced_next p (after_turn (at p)) model.log model.minted h.receiver_fits (turn_ok (w.at p)) (λ q n. w.at q) w.logged
@@ -734,7 +735,7 @@ module _ (limits : Limits) (place : ℕ) (model : Model) (w : Inv limits model) 
     -- what the vote does then, to a ledger and to the shards
     abbrev heard : Ledger → List Ledger → Model × Answer
     heard l shards =
-        (record { shards = shards; log = between.log; minted = between.minted }, Heard (outcome_of (hearing sender verdict (entry_of t l.known))))
+        (record { shards = shards; log = between.log; minted = between.minted }, carried (Heard (outcome_of (hearing sender verdict (entry_of t l.known)))))
 
     here : ledger_at limits between.shards p ≡ registered
     here =
@@ -745,7 +746,7 @@ module _ (limits : Limits) (place : ℕ) (model : Model) (w : Inv limits model) 
     others = get_or-set_other model.shards p sender registered (empty_ledger limits) h.from-other
 
     -- it is registered
-    pub brought-first : Effect limits place model (register p t) (between, Registered (vote p (at p).tokens t) (outcome_of (newly_known p (at p).tokens t)))
+    pub brought-first : Effect limits place model (register p t) (between, carried (Registered (vote p (at p).tokens t) (outcome_of (newly_known p (at p).tokens t))))
     brought-first = did_register (brought-registers h)
 
     -- and then the vote is heard

@@ -12,8 +12,8 @@ use Rattle.transaction.specs.declared.Transaction.{Transaction}
 use Rattle.transaction.specs.Lists.{any, all, first_of}
 use Rattle.transaction.specs.Checks.{shard_fits, index_fits, value_fits, mint_fits}
 use Rattle.model.specs.declared.Known.{Known}
-use Rattle.model.specs.declared.Answer.{Answer}
-use Rattle.model.specs.declared.Answer.TheVariants.{Refused, Minted, Registered, Heard, Again, Turned}
+use Rattle.model.specs.Answers.{Answer}
+use Rattle.model.specs.declared.Done.TheVariants.{Minted, Registered, Heard, Again, Turned}
 use Rattle.model.specs.Steps.{
   Limits,
   Ledger,
@@ -59,14 +59,12 @@ use Rattle.model.specs.Cluster.{ledger_at, gave, not_given, at_shard, cluster_st
 use Rattle.model.specs.Model.{Model, play, empty_model, step, answers, play_answers}
 use Rattle.model.proofs.Basics.{
   eqb_same,
-  eqb_yes,
-  eqb_no,
   eqb_apart,
   both,
   not-no,
   not_is,
   clash,
-  is_number,
+  is_row,
   passed,
   number_behind,
   eqb-eq,
@@ -79,46 +77,49 @@ use Rattle.model.proofs.Invariant.{Voted}
 use Rattle.model.proofs.Effects.{was-given, deliver-elim}
 use Rattle.model.proofs.Steps.{Inv, play-inv, gave-vote}
 use Rattle.model.proofs.Decisions.{voted-same}
+use Rattle.std.specs.Prelude.{Result, Ok, Err, is_ok}
+use Rattle.transaction.specs.declared.refusal.Refusal.{Refusal}
+use Rattle.transaction.specs.declared.refusal.Refusal.TheVariants.{OutOfRange, NumberTaken, NumberUnknown, OtherVerdict, VoteNotGiven}
 
 -- ---- One call, from what its table answers
 
--- the table's number
-pub unless-refused : {A : Type 0} (cause : ℕ) (before : A) (done : A × Answer) → (cause ≡ 0 → ⊥) → unless cause before done ≡ (before, Refused cause)
-unless-refused cause before done h = ap (λ (b : Bool). cond b done (before, Refused cause)) (eqb_no h)
+-- what the table refuses it for
+pub unless-refused : {A : Type 0} {refusal : Refusal} (cause : Result Unit Refusal) (before : A) (done : A × Answer) → cause ≡ Err refusal
+    → unless cause before done ≡ (before, Err refusal)
+unless-refused cause before done h = ap (λ (found : Result Unit Refusal). unless found before done) h
 
--- or, where it is 0, the step
-pub unless-done : {A : Type 0} (cause : ℕ) (before : A) (done : A × Answer) → cause ≡ 0 → unless cause before done ≡ done
-unless-done cause before done h = ap (λ (b : Bool). cond b done (before, Refused cause)) (eqb_yes h)
+-- or, where it refuses nothing, the step
+pub unless-done : {A : Type 0} (cause : Result Unit Refusal) (before : A) (done : A × Answer) → cause ≡ Ok tt → unless cause before done ≡ done
+unless-done cause before done h = ap (λ (found : Result Unit Refusal). unless found before done) h
 
--- a call that is refused, where its step never is, is refused with the table's number
-pub unless-number : {A : Type 0} (cause : ℕ) (before : A) (done : A × Answer) (n : ℕ) → done.1 ≢ Refused n
-    → (unless cause before done).1 ≡ Refused n → cause ≡ n
-unless-number cause before done n never e = go (eqb cause 0) e
-  where
-    go : (b : Bool) → (cond b done (before, Refused cause)).1 ≡ Refused n → cause ≡ n
-    go true e = absurd (never e)
-    go false e = cc
+-- a call that is refused, where its step never is, is refused by the table
+pub unless-number : {A : Type 0} (cause : Result Unit Refusal) (before : A) (done : A × Answer) (refusal : Refusal) → done.1 ≢ Err refusal
+    → (unless cause before done).1 ≡ Err refusal → cause ≡ Err refusal
+unless-number (Ok tt) before done refusal never e = absurd (never e)
+unless-number (Err k) before done refusal never e = cc
 
--- and never with a number that no row of the table says
-pub unless_never : {A : Type 0} (n : ℕ) → (n ≡ 0 → ⊥) → (table : List (Bool × ℕ)) → all (λ row. not (eqb row.1 n && row.0)) table ≡ true
-    → (before : A) (done : A × Answer) → done.1 ≢ Refused n → (unless (first_of table) before done).1 ≢ Refused n
-unless_never n z table none before done never e = never_answers n z table none (unless-number (first_of table) before done n never e)
+-- and never for what no row of the table says
+pub unless_never : {A : Type 0} (refusal : Refusal) (table : List (Bool × Refusal)) → all (λ row. not (is_row refusal row && row.0)) table ≡ true
+    → (before : A) (done : A × Answer) → done.1 ≢ Err refusal → (unless (first_of table) before done).1 ≢ Err refusal
+unless_never refusal table none before done never e =
+    never_answers refusal table none (unless-number (first_of table) before done refusal never e)
+
+-- the first of two answers that refuses
+abbrev first_refusal : Result Unit Refusal → Result Unit Refusal → Result Unit Refusal
+first_refusal (Ok passed) behind = behind
+first_refusal (Err refusal) behind = Err refusal
 
 -- two tables one behind the other
-first-of-both : (a b : List (Bool × ℕ)) → all is_number a ≡ true → first_of (a ++ b) ≡ cond (eqb (first_of a) 0) (first_of b) (first_of a)
-first-of-both [] b s = refl
-first-of-both (t ∷ a) b s = let r = both (is_number t) (all is_number a) s in go t.0 r.0 (first-of-both a b r.1)
-  where
-    go : (c : Bool) → is_number t ≡ true → first_of (a ++ b) ≡ cond (eqb (first_of a) 0) (first_of b) (first_of a)
-        → cond c t.1 (first_of (a ++ b)) ≡ cond (eqb (cond c t.1 (first_of a)) 0) (first_of b) (cond c t.1 (first_of a))
-    go true n h = sym (ap (λ (d : Bool). cond d (first_of b) t.1) (not_is {b = eqb t.1 0} n))
-    go false n h = h
+first-of-both : (a b : List (Bool × Refusal)) → first_of (a ++ b) ≡ first_refusal (first_of a) (first_of b)
+first-of-both [] b = refl
+first-of-both ((true, k) ∷ a) b = refl
+first-of-both ((false, k) ∷ a) b = first-of-both a b
 
 -- kind 2 in a cluster, in the paper's order: 3, 4, 5, 6, 16, then what the receiver's ledger says
-unfoldable pub cluster_refusals : Limits → List Ledger → ℕ → ℕ → ℕ → Transaction → List (Bool × ℕ)
+unfoldable pub cluster_refusals : Limits → List Ledger → ℕ → ℕ → ℕ → Transaction → List (Bool × Refusal)
 cluster_refusals limits shards p sender verdict t =
     deliver_form limits p p sender verdict t
-    ++ (not (gave (ledger_at limits shards sender) sender verdict t), 16)
+    ++ (not (gave (ledger_at limits shards sender) sender verdict t), VoteNotGiven)
     ∷ deliver_rest limits p (ledger_at limits shards p) sender verdict t
 
 -- a vote at the cluster is answered by this one table
@@ -128,43 +129,35 @@ pub cluster_deliver : (limits : Limits) (shards : List Ledger) (p sender verdict
     (set shards p (delivered p (ledger_at limits shards p) sender verdict t).0, (delivered p (ledger_at limits shards p) sender verdict t).1)
 unfolding cluster_step at_shard shard_step not_given cluster_refusals deliver_refusals deliver_form
 cluster_deliver limits shards p sender verdict t =
-    (λ i. cond (not_given limits shards p sender verdict t) (shards, Refused 16) (at (first-of-both form rest refl i)))
+    (λ i. cond (not_given limits shards p sender verdict t) (shards, Err VoteNotGiven) (at (first-of-both form rest i)))
     ∙ go (first_of form) (gave (ledger_at limits shards sender) sender verdict t)
-    ∙ sym (ap result (first-of-both form ((not (gave (ledger_at limits shards sender) sender verdict t), 16) ∷ rest) refl))
+    ∙ sym (ap result (first-of-both form ((not (gave (ledger_at limits shards sender) sender verdict t), VoteNotGiven) ∷ rest)))
   where
-    form : List (Bool × ℕ)
+    form : List (Bool × Refusal)
     form = deliver_form limits p p sender verdict t
 
-    rest : List (Bool × ℕ)
+    rest : List (Bool × Refusal)
     rest = deliver_rest limits p (ledger_at limits shards p) sender verdict t
 
     heard : Ledger × Answer
     heard = delivered p (ledger_at limits shards p) sender verdict t
 
     -- the receiving shard's answer, and the cluster's, where the table says this
-    at : ℕ → List Ledger × Answer
+    at : Result Unit Refusal → List Ledger × Answer
     at cause = (set shards p (unless cause (ledger_at limits shards p) heard).0, (unless cause (ledger_at limits shards p) heard).1)
 
-    result : ℕ → List Ledger × Answer
+    result : Result Unit Refusal → List Ledger × Answer
     result cause = unless cause shards (set shards p heard.0, heard.1)
 
-    same : (cause : ℕ) → at cause ≡ result cause
-    same cause = cut (eqb cause 0)
-      where
-        cut : (b : Bool) → ◌≡◌ {A = List Ledger × Answer}
-            (set shards p (cond b heard (ledger_at limits shards p, Refused cause)).0, (cond b heard (ledger_at limits shards p, Refused cause)).1)
-            (cond b (set shards p heard.0, heard.1) (shards, Refused cause))
-        cut true = refl
-        cut false = λ i. (set-get_or shards p (empty_ledger limits) i, Refused cause)
+    same : (cause : Result Unit Refusal) → at cause ≡ result cause
+    same (Ok tt) = refl
+    same (Err refusal) = λ i. (set-get_or shards p (empty_ledger limits) i, Err refusal)
 
-    go : (n : ℕ) (g : Bool) → cond (eqb n 0 && not g) (shards, Refused 16) (at (cond (eqb n 0) (first_of rest) n))
-        ≡ result (cond (eqb n 0) (cond (not g) 16 (first_of rest)) n)
-    go n g = cut (eqb n 0) g
-      where
-        cut : (b g : Bool) → cond (b && not g) (shards, Refused 16) (at (cond b (first_of rest) n)) ≡ result (cond b (cond (not g) 16 (first_of rest)) n)
-        cut true true = same (first_of rest)
-        cut true false = refl
-        cut false g = same n
+    go : (found : Result Unit Refusal) (g : Bool) → cond (is_ok found && not g) (shards, Err VoteNotGiven) (at (first_refusal found (first_of rest)))
+        ≡ result (first_refusal found (cond (not g) (Err VoteNotGiven) (first_of rest)))
+    go (Ok tt) true = same (first_of rest)
+    go (Ok tt) false = refl
+    go (Err refusal) g = same (Err refusal)
 
 -- ---- Refusal 12 is met at a lone shard only: in a cluster, a sender that has given a vote has given no other
 
@@ -189,88 +182,88 @@ no-other_verdict limits model w p sender verdict t known given other =
 
 module _ (limits : Limits) (p : ℕ) (ledger : Ledger) (sender verdict : ℕ) (t : Transaction) where
   -- the two tables of what the ledger says
-  abbrev on-unknown : List (Bool × ℕ)
+  abbrev on-unknown : List (Bool × Refusal)
   on-unknown = bring_rest limits p ledger sender t
 
-  abbrev on-known : List (Bool × ℕ)
+  abbrev on-known : List (Bool × Refusal)
   on-known = hear_rest ledger sender verdict t
 
-  -- the number with which a vote is refused at a shard is its table's
-  pub deliver-number : (n : ℕ) → (shard_step limits p ledger (deliver p sender verdict t)).1 ≡ Refused n
-      → first_of (deliver_refusals limits p ledger p sender verdict t) ≡ n
+  -- what a vote is refused for at a shard is what its table says
+  pub deliver-number : (refusal : Refusal) → (shard_step limits p ledger (deliver p sender verdict t)).1 ≡ Err refusal
+      → first_of (deliver_refusals limits p ledger p sender verdict t) ≡ Err refusal
   unfolding shard_step hear bring
-  deliver-number n e =
-      unless-number (first_of (deliver_refusals limits p ledger p sender verdict t)) ledger (delivered p ledger sender verdict t) n
+  deliver-number refusal e =
+      unless-number (first_of (deliver_refusals limits p ledger p sender verdict t)) ledger (delivered p ledger sender verdict t) refusal
       (carried (is_unknown t ledger.known) (eqb (heard_from sender (entry_of t ledger.known)) 0)) e
     where
       fresh : Ledger × Answer
-      fresh = (after_vote p ledger sender verdict t, Heard (outcome_of (hearing sender verdict (entry_of t ledger.known))))
+      fresh = (after_vote p ledger sender verdict t, Ok (Heard (outcome_of (hearing sender verdict (entry_of t ledger.known)))))
 
       again : Ledger × Answer
-      again = (ledger, Again (outcome_of (entry_of t ledger.known)))
+      again = (ledger, Ok (Again (outcome_of (entry_of t ledger.known))))
 
-      carried : (a b : Bool) → (cond a (bring p ledger sender verdict t) (cond b fresh again)).1 ≢ Refused n
+      carried : (a b : Bool) → (cond a (bring p ledger sender verdict t) (cond b fresh again)).1 ≢ Err refusal
       carried true b e = let z : ◌≡◌ {A = ℕ} 0 1 = cc in omega arith
       carried false true e = let z : ◌≡◌ {A = ℕ} 0 1 = cc in omega arith
       carried false false e = let z : ◌≡◌ {A = ℕ} 0 1 = cc in omega arith
 
   -- where a shard's table says 12, the vote passed 3 to 6, the transaction is known, and the other verdict was heard
-  twelve_says : first_of (deliver_refusals limits p ledger p sender verdict t) ≡ 12
-      → (first_of (deliver_form limits p p sender verdict t) ≡ 0) × (any (is_for t) ledger.known ≡ true)
+  twelve_says : first_of (deliver_refusals limits p ledger p sender verdict t) ≡ Err OtherVerdict
+      → (first_of (deliver_form limits p p sender verdict t) ≡ Ok tt) × (any (is_for t) ledger.known ≡ true)
       × (other_verdict (heard_from sender (entry_of t ledger.known)) verdict ≡ true)
   unfolding deliver_refusals deliver_form
   twelve_says e =
-      let r = number_behind 12 (deliver_form limits p p sender verdict t) (deliver_rest limits p ledger sender verdict t) refl e in
+      let r = number_behind OtherVerdict (deliver_form limits p p sender verdict t) (deliver_rest limits p ledger sender verdict t) refl e in
       let s = go (is_unknown t ledger.known) refl r.1 in
       (r.0, s.0, s.1)
     where
       other : Bool
       other = other_verdict (heard_from sender (entry_of t ledger.known)) verdict
 
-      last : (b : Bool) → ◌≡◌ {A = ℕ} (cond b 12 0) 12 → b ≡ true
+      last : (b : Bool) → first_of ((b, OtherVerdict) ∷ []) ≡ Err OtherVerdict → b ≡ true
       last true e = refl
-      last false e = absurd (eqb_apart {m = 0} {n = 12} refl e)
+      last false e = absurd cc
 
-      go : (unknown : Bool) → is_unknown t ledger.known ≡ unknown → first_of (cond unknown on-unknown on-known) ≡ 12
+      go : (unknown : Bool) → is_unknown t ledger.known ≡ unknown → first_of (cond unknown on-unknown on-known) ≡ Err OtherVerdict
           → (any (is_for t) ledger.known ≡ true) × (other ≡ true)
-      go true u e = absurd (never_answers 12 (λ z. omega arith) on-unknown refl e)
+      go true u e = absurd (never_answers OtherVerdict on-unknown refl e)
       go false u e =
-          let s = number_behind 12 ((any (is_other t) ledger.known, 7) ∷ []) ((other, 12) ∷ []) refl e in
-          let g = passed ((any (is_other t) ledger.known, 7) ∷ []) refl s.0 in
+          let s = number_behind OtherVerdict ((any (is_other t) ledger.known, NumberTaken) ∷ []) ((other, OtherVerdict) ∷ []) refl e in
+          let g = passed ((any (is_other t) ledger.known, NumberTaken) ∷ []) s.0 in
           (whole-known t ledger.known (not-no (any (has_number t) ledger.known) u) g.0, last other s.1)
 
   -- where it says 11, the vote passed 3 to 6, the number is unknown, and sender and receiver are one
-  pub eleven_says : first_of (deliver_refusals limits p ledger p sender verdict t) ≡ 11
-      → (first_of (deliver_form limits p p sender verdict t) ≡ 0) × (is_unknown t ledger.known ≡ true) × (sender ≡ p)
+  pub eleven_says : first_of (deliver_refusals limits p ledger p sender verdict t) ≡ Err NumberUnknown
+      → (first_of (deliver_form limits p p sender verdict t) ≡ Ok tt) × (is_unknown t ledger.known ≡ true) × (sender ≡ p)
   unfolding deliver_refusals deliver_form
   eleven_says e =
-      let r = number_behind 11 (deliver_form limits p p sender verdict t) (deliver_rest limits p ledger sender verdict t) refl e in
+      let r = number_behind NumberUnknown (deliver_form limits p p sender verdict t) (deliver_rest limits p ledger sender verdict t) refl e in
       let s = go (is_unknown t ledger.known) refl r.1 in
       (r.0, s.0, s.1)
     where
-      own : (b : Bool) → eqb sender p ≡ b → first_of ((b, 11) ∷ entry_refusals limits p ledger t) ≡ 11 → sender ≡ p
+      own : (b : Bool) → eqb sender p ≡ b → first_of ((b, NumberUnknown) ∷ entry_refusals limits p ledger t) ≡ Err NumberUnknown → sender ≡ p
       own true y e = eqb-eq sender p y
-      own false y e = absurd (never_answers 11 (λ z. omega arith) (entry_refusals limits p ledger t) refl e)
+      own false y e = absurd (never_answers NumberUnknown (entry_refusals limits p ledger t) refl e)
 
-      go : (unknown : Bool) → is_unknown t ledger.known ≡ unknown → first_of (cond unknown on-unknown on-known) ≡ 11
+      go : (unknown : Bool) → is_unknown t ledger.known ≡ unknown → first_of (cond unknown on-unknown on-known) ≡ Err NumberUnknown
           → (is_unknown t ledger.known ≡ true) × (sender ≡ p)
       go true u e = (u, own (eqb sender p) refl e)
-      go false u e = absurd (never_answers 11 (λ z. omega arith) on-known refl e)
+      go false u e = absurd (never_answers NumberUnknown on-known refl e)
 
 -- 12 is never answered in a cluster
 pub never_twelve : (limits : Limits) (calls : List Call) (p sender verdict : ℕ) (t : Transaction)
-    → (cluster_step limits (play limits calls).shards (deliver p sender verdict t)).1 ≢ Refused 12
+    → (cluster_step limits (play limits calls).shards (deliver p sender verdict t)).1 ≢ Err OtherVerdict
 unfolding at_shard
 never_twelve limits calls p sender verdict t =
-    deliver-elim limits shards p sender verdict t (λ r. r.1 ≢ Refused 12) (λ e. let z : ◌≡◌ {A = ℕ} 16 12 = cc in omega arith) answered
+    deliver-elim limits shards p sender verdict t (λ r. r.1 ≢ Err OtherVerdict) (λ e. let z : ◌≡◌ {A = ℕ} 0 1 = cc in omega arith) answered
   where
     shards : List Ledger
     shards = (play limits calls).shards
 
     answered : not_given limits shards p sender verdict t ≡ false
-        → (shard_step limits p (ledger_at limits shards p) (deliver p sender verdict t)).1 ≢ Refused 12
+        → (shard_step limits p (ledger_at limits shards p) (deliver p sender verdict t)).1 ≢ Err OtherVerdict
     answered g e =
-        let r = twelve_says limits p (ledger_at limits shards p) sender verdict t (deliver-number limits p (ledger_at limits shards p) sender verdict t 12 e) in
+        let r = twelve_says limits p (ledger_at limits shards p) sender verdict t (deliver-number limits p (ledger_at limits shards p) sender verdict t OtherVerdict e) in
         let given = was-given limits shards p sender verdict t g r.0 in
         no-other_verdict limits (play limits calls) (play-inv limits calls) p sender verdict t r.1 given r.2
 
@@ -285,40 +278,40 @@ gave-known ledger sender verdict t e =
     ap not (known-number t ledger.known (any_of (is_for t) r.1 y.0))
 
 -- no call of a cluster is answered with 11, whatever its shards hold
-pub no_eleven : (limits : Limits) (shards : List Ledger) (call : Call) → (cluster_step limits shards call).1 ≢ Refused 11
+pub no_eleven : (limits : Limits) (shards : List Ledger) (call : Call) → (cluster_step limits shards call).1 ≢ Err NumberUnknown
 unfolding cluster_step at_shard shard_step mint_refusals register_refusals turn_refusals
 no_eleven limits shards (mint p index owner amount) e =
     let ledger = ledger_at limits shards p in
-    unless_never 11 (λ z. omega arith) (mint_refusals limits p ledger p index owner amount) refl ledger (after_mint ledger index owner amount, Minted)
+    unless_never NumberUnknown (mint_refusals limits p ledger p index owner amount) refl ledger (after_mint ledger index owner amount, Ok Minted)
     (λ y. let z : ◌≡◌ {A = ℕ} 0 1 = cc in omega arith) e
 no_eleven limits shards (register p t) e =
     let ledger = ledger_at limits shards p in
-    let answer = Registered (vote p ledger.tokens t) (outcome_of (newly_known p ledger.tokens t)) in
-    unless_never 11 (λ z. omega arith) (register_refusals limits p ledger p t) refl ledger (after_register p ledger t, answer)
+    let answer = Ok (Registered (vote p ledger.tokens t) (outcome_of (newly_known p ledger.tokens t))) in
+    unless_never NumberUnknown (register_refusals limits p ledger p t) refl ledger (after_register p ledger t, answer)
     (λ y. let z : ◌≡◌ {A = ℕ} 0 1 = cc in omega arith) e
 no_eleven limits shards (turn p) e =
     let ledger = ledger_at limits shards p in
-    unless_never 11 (λ z. omega arith) (turn_refusals p ledger p) refl ledger (after_turn ledger, Turned)
+    unless_never NumberUnknown (turn_refusals p ledger p) refl ledger (after_turn ledger, Ok Turned)
     (λ y. let z : ◌≡◌ {A = ℕ} 0 1 = cc in omega arith) e
 no_eleven limits shards (deliver p sender verdict t) e =
-    deliver-elim limits shards p sender verdict t (λ r. r.1 ≢ Refused 11) (λ y. let z : ◌≡◌ {A = ℕ} 16 11 = cc in omega arith) answered e
+    deliver-elim limits shards p sender verdict t (λ r. r.1 ≢ Err NumberUnknown) (λ y. let z : ◌≡◌ {A = ℕ} 0 1 = cc in omega arith) answered e
   where
     ledger : Ledger
     ledger = ledger_at limits shards p
 
-    answered : not_given limits shards p sender verdict t ≡ false → (shard_step limits p ledger (deliver p sender verdict t)).1 ≢ Refused 11
+    answered : not_given limits shards p sender verdict t ≡ false → (shard_step limits p ledger (deliver p sender verdict t)).1 ≢ Err NumberUnknown
     answered g e =
-        let r = eleven_says limits p ledger sender verdict t (deliver-number limits p ledger sender verdict t 11 e) in
+        let r = eleven_says limits p ledger sender verdict t (deliver-number limits p ledger sender verdict t NumberUnknown e) in
         let given = was-given limits shards p sender verdict t g r.0 in
         let own : gave ledger sender verdict t ≡ true = subst (λ (q : ℕ). gave (ledger_at limits shards q) sender verdict t ≡ true) r.2 given in
         clash r.1 (gave-known ledger sender verdict t own)
 
 -- so that in a cluster 11 is never met, whatever list of calls it is
-pub never_eleven : (limits : Limits) (calls : List Call) → Memᴰ (Refused 11) (play_answers limits calls) → ⊥
+pub never_eleven : (limits : Limits) (calls : List Call) → Memᴰ (Err NumberUnknown) (play_answers limits calls) → ⊥
 unfolding play_answers answers step
 never_eleven limits calls = go 1 (empty_model limits) calls
   where
-    go : (place : ℕ) (model : Model) (calls : List Call) → Memᴰ (Refused 11) (answers limits place model calls) → ⊥
+    go : (place : ℕ) (model : Model) (calls : List Call) → Memᴰ (Err NumberUnknown) (answers limits place model calls) → ⊥
     go place model [] m = elim m [ ]
     go place model (call ∷ calls) (Memᴰ.head e) = no_eleven limits model.shards call (sym e)
     go place model (call ∷ calls) (Memᴰ.tail m) = go (suc place) (step limits place model call).0 calls m
@@ -333,68 +326,69 @@ receiver_of (deliver receiver sender verdict t) = receiver
 receiver_of (turn receiver) = receiver
 
 -- the first two tests of a table, where the second is met
-three-first : (r n : ℕ) (c : Bool) (rest : ℕ) → c ≡ true → cond (not (eqb r r)) n (cond c n rest) ≡ n
-three-first r n c rest h = λ i. cond (not (eqb_same r i)) n (cond (h i) n rest)
+three-first : (r : ℕ) (c : Bool) (rest : Result Unit Refusal) → c ≡ true
+    → cond (not (eqb r r)) (Err OutOfRange) (cond c (Err OutOfRange) rest) ≡ Err OutOfRange
+three-first r c rest h = λ i. cond (not (eqb_same r i)) (Err OutOfRange) (cond (h i) (Err OutOfRange) rest)
 
 -- the table of a genesis token for it says 3
 mint-three : (limits : Limits) (p : ℕ) (ledger : Ledger) (index owner amount : ℕ) → shard_fits p ≡ false
-    → first_of (mint_refusals limits p ledger p index owner amount) ≡ 3
+    → first_of (mint_refusals limits p ledger p index owner amount) ≡ Err OutOfRange
 unfolding mint_refusals mint_fits
 mint-three limits p ledger index owner amount h =
-    three-first p 3 (not (shard_fits p && index_fits limits.genesis 0 index && value_fits owner amount)) _
+    three-first p (not (shard_fits p && index_fits limits.genesis 0 index && value_fits owner amount)) _
     (λ i. not (h i && index_fits limits.genesis 0 index && value_fits owner amount))
 
 -- and so does that of a registration
-register-three : (limits : Limits) (p : ℕ) (ledger : Ledger) (t : Transaction) → shard_fits p ≡ false → first_of (register_refusals limits p ledger p t) ≡ 3
+register-three : (limits : Limits) (p : ℕ) (ledger : Ledger) (t : Transaction) → shard_fits p ≡ false → first_of (register_refusals limits p ledger p t) ≡ Err OutOfRange
 unfolding register_refusals
-register-three limits p ledger t h = three-first p 3 (not (shard_fits p)) _ (ap not h)
+register-three limits p ledger t h = three-first p (not (shard_fits p)) _ (ap not h)
 
 -- and that of a vote, among 3 to 6
-form-three : (limits : Limits) (p sender verdict : ℕ) (t : Transaction) → shard_fits p ≡ false → first_of (deliver_form limits p p sender verdict t) ≡ 3
+form-three : (limits : Limits) (p sender verdict : ℕ) (t : Transaction) → shard_fits p ≡ false → first_of (deliver_form limits p p sender verdict t) ≡ Err OutOfRange
 unfolding deliver_form
-form-three limits p sender verdict t h = three-first p 3 (not (shard_fits p)) _ (ap not h)
+form-three limits p sender verdict t h = three-first p (not (shard_fits p)) _ (ap not h)
 
 -- and in the whole
 deliver-three : (limits : Limits) (p : ℕ) (ledger : Ledger) (sender verdict : ℕ) (t : Transaction) → shard_fits p ≡ false
-    → first_of (deliver_refusals limits p ledger p sender verdict t) ≡ 3
+    → first_of (deliver_refusals limits p ledger p sender verdict t) ≡ Err OutOfRange
 unfolding deliver_refusals deliver_form
-deliver-three limits p ledger sender verdict t h = three-first p 3 (not (shard_fits p)) _ (ap not h)
+deliver-three limits p ledger sender verdict t h = three-first p (not (shard_fits p)) _ (ap not h)
 
 -- and that of a turn
-turn_three : (p : ℕ) (ledger : Ledger) → shard_fits p ≡ false → first_of (turn_refusals p ledger p) ≡ 3
+turn_three : (p : ℕ) (ledger : Ledger) → shard_fits p ≡ false → first_of (turn_refusals p ledger p) ≡ Err OutOfRange
 unfolding turn_refusals
-turn_three p ledger h = three-first p 3 (not (shard_fits p)) _ (ap not h)
+turn_three p ledger h = three-first p (not (shard_fits p)) _ (ap not h)
 
 -- the receiving shard's refusal is the cluster's
-refused-at : (limits : Limits) (shards : List Ledger) (p : ℕ) (call : Call) (n : ℕ)
-    → shard_step limits p (ledger_at limits shards p) call ≡ (ledger_at limits shards p, Refused n)
-    → at_shard limits shards p call ≡ (shards, Refused n)
+refused-at : (limits : Limits) (shards : List Ledger) (p : ℕ) (call : Call) (refusal : Refusal)
+    → shard_step limits p (ledger_at limits shards p) call ≡ (ledger_at limits shards p, Err refusal)
+    → at_shard limits shards p call ≡ (shards, Err refusal)
 unfolding at_shard
-refused-at limits shards p call n e =
-    (λ i. (set shards p (e i).0, (e i).1)) ∙ (λ i. (set-get_or shards p (empty_ledger limits) i, Refused n))
+refused-at limits shards p call refusal e =
+    (λ i. (set shards p (e i).0, (e i).1)) ∙ (λ i. (set-get_or shards p (empty_ledger limits) i, Err refusal))
 
 -- a call to a shard that does not exist is refused with 3
 pub no_such_shard : (limits : Limits) (shards : List Ledger) (call : Call) → shard_fits (receiver_of call) ≡ false
-    → cluster_step limits shards call ≡ (shards, Refused 3)
+    → cluster_step limits shards call ≡ (shards, Err OutOfRange)
 unfolding cluster_step shard_step not_given
 no_such_shard limits shards (mint p index owner amount) h =
-    refused-at limits shards p (mint p index owner amount) 3
-    (ap (λ (n : ℕ). unless n (ledger_at limits shards p) (after_mint (ledger_at limits shards p) index owner amount, Minted))
+    refused-at limits shards p (mint p index owner amount) OutOfRange
+    (ap (λ (found : Result Unit Refusal). unless found (ledger_at limits shards p) (after_mint (ledger_at limits shards p) index owner amount, Ok Minted))
     (mint-three limits p (ledger_at limits shards p) index owner amount h))
 no_such_shard limits shards (register p t) h =
-    refused-at limits shards p (register p t) 3
-    (ap (λ (n : ℕ). unless n (ledger_at limits shards p) (
+    refused-at limits shards p (register p t) OutOfRange
+    (ap (λ (found : Result Unit Refusal). unless found (ledger_at limits shards p) (
       after_register p (ledger_at limits shards p) t,
-      Registered (vote p (ledger_at limits shards p).tokens t)
-          (outcome_of (newly_known p (ledger_at limits shards p).tokens t)),
+      Ok (Registered (vote p (ledger_at limits shards p).tokens t)
+          (outcome_of (newly_known p (ledger_at limits shards p).tokens t))),
     ))
     (register-three limits p (ledger_at limits shards p) t h))
 no_such_shard limits shards (turn p) h =
     let ledger = ledger_at limits shards p in
-    refused-at limits shards p (turn p) 3 (ap (λ (n : ℕ). unless n ledger (after_turn ledger, Turned)) (turn_three p ledger h))
+    refused-at limits shards p (turn p) OutOfRange (ap (λ (found : Result Unit Refusal). unless found ledger (after_turn ledger, Ok Turned)) (turn_three p ledger h))
 no_such_shard limits shards (deliver p sender verdict t) h =
-    ap (λ (n : ℕ). cond (eqb n 0 && not (gave (ledger_at limits shards sender) sender verdict t)) (shards, Refused 16)
+    ap (λ (found : Result Unit Refusal). cond (is_ok found && not (gave (ledger_at limits shards sender) sender verdict t)) (shards, Err VoteNotGiven)
     (at_shard limits shards p (deliver p sender verdict t))) (form-three limits p sender verdict t h)
-    ∙ refused-at limits shards p (deliver p sender verdict t) 3
-    (ap (λ (n : ℕ). unless n (ledger_at limits shards p) (delivered p (ledger_at limits shards p) sender verdict t))
+    ∙ refused-at limits shards p (deliver p sender verdict t) OutOfRange
+    (ap (λ (found : Result Unit Refusal). unless found (ledger_at limits shards p) (delivered p (ledger_at limits shards p) sender verdict t))
     (deliver-three limits p (ledger_at limits shards p) sender verdict t h))

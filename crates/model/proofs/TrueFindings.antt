@@ -7,16 +7,7 @@ use mathlib.Core.Logic.{◌↔◌, ◌≢◌, ◌⊎◌, inl, inr, ⊎_elim}
 use mathlib.Core.Bool.{Bool, true, false}
 use mathlib.Core.Option.{Option, none, some}
 use mathlib.Core.List.Memᴰ
-use mathlib.Core.List.{
-  List,
-  [],
-  ◌∷◌,
-  ◌++◌,
-  map,
-  append-nil,
-  append_assoc,
-  Memᴰ,
-}
+use mathlib.Core.List.{List, [], ◌∷◌, ◌++◌, append-nil, append_assoc, Memᴰ}
 use lib.Dec.{eqb}
 use lib.ListN.{length, take}
 use Rattle.transaction.specs.declared.Input.{Input}
@@ -25,13 +16,10 @@ use Rattle.transaction.specs.Lists.{any, first_of}
 use Rattle.model.specs.declared.Token.{Token}
 use Rattle.model.specs.declared.Finding.{Finding}
 use Rattle.model.specs.declared.Finding.TheVariants.{Pledged}
-use Rattle.model.specs.declared.Found.{Found}
 use Rattle.model.specs.declared.Known.{Known}
 use Rattle.model.specs.declared.Outcome.{Outcome}
-use Rattle.model.specs.declared.Told.TheVariants.{Findings}
-use Rattle.model.specs.declared.Report.{Report}
-use Rattle.model.specs.declared.Answer.{Answer}
-use Rattle.model.specs.Answers.{registers, finding_number, pledging_number, told_number, told_count}
+use Rattle.model.specs.declared.Findings.{Findings}
+use Rattle.model.specs.Answers.{Answer, Report, registers, finding_number, pledging_number, told_count}
 use Rattle.model.specs.Steps.{
   Limits,
   Ledger,
@@ -67,7 +55,6 @@ use Rattle.model.specs.Cluster.{ledger_at}
 use Rattle.model.specs.Model.{Entry, Model, empty_model, note_if, entry_for, log_after, step, after, play}
 use Rattle.model.specs.Demand.{has_spot, token_at}
 use Rattle.model.specs.Findings.{
-  finding_of,
   State,
   is-available,
   is-not-held,
@@ -97,7 +84,8 @@ use Rattle.model.proofs.Steps.{Inv, Grows, at_one, step-next, Keeps, play-keeps,
 use Rattle.model.proofs.Capacity.{mem-set}
 use Rattle.model.proofs.Laws.{after-append}
 use Rattle.model.proofs.Turned.{when_back, freeing-back, settle-back, ended-back}
-use Rattle.model.proofs.Findings.{vote-findings, findings-length, few-inputs, kept_back, findings-states, report-number, report-told, told-known}
+use Rattle.std.specs.Prelude.{Ok}
+use Rattle.model.proofs.Reported.{refused_by, vote-findings, findings-length, few-inputs, kept_back, findings-states, report-number, report-told, told-known}
 
 -- ---- What a pledge names is known
 
@@ -178,7 +166,7 @@ module _ (limits : Limits) where
   -- by cases on what a call did
   step_backs : (place : ℕ) (model : Model) → Inv limits model → (call : Call) (r : Model × Answer) → Effect limits place model call r
       → (p : ℕ) → BacksFrom model p (ledger_at limits r.0.shards p)
-  step_backs place model w call _ (did_refuse h) = λ q. backs_refl (ledger_at limits model.shards q)
+  step_backs place model w call _ did_refuse = λ q. backs_refl (ledger_at limits model.shards q)
   step_backs place model w call _ (did_repeat h z) = λ q. backs_refl (ledger_at limits model.shards q)
   step_backs place model w call _ (did_mint {p = p} h) =
       at_one limits place model w (BacksFrom model) p _ h.receiver_fits
@@ -224,20 +212,20 @@ module _ (limits : Limits) where
 -- ---- Where a known transaction and its findings come from
 
 -- known before, with these findings
-record WasKnown (known : List Known) (t : Transaction) (found : List Found) : Type 0 where
+record WasKnown (known : List Known) (t : Transaction) (found : List Finding) : Type 0 where
   entry : Known
   is_known : Memᴰ entry known
   same-transaction : entry.transaction ≡ t
   same-findings : entry.findings ≡ found
 
 -- registered by the call at that place, on these ledgers, with these findings
-record Taken (limits : Limits) (place : ℕ) (shards : List Ledger) (log : List Entry) (p : ℕ) (t : Transaction) (found : List Found) : Type 0 where
+record Taken (limits : Limits) (place : ℕ) (shards : List Ledger) (log : List Entry) (p : ℕ) (t : Transaction) (found : List Finding) : Type 0 where
   logged : Memᴰ (entry_for limits place shards p t) log
   kept : found ≡ keeping (findings p (ledger_at limits shards p).tokens t)
   few : length (inputs_here p t) ≤ 4
 
 -- what holds of a known transaction and its findings before holds after
-carried : {known : List Known} {t : Transaction} {found : List Found} (P : Transaction → List Found → Type 0) (b : WasKnown known t found)
+carried : {known : List Known} {t : Transaction} {found : List Finding} (P : Transaction → List Finding → Type 0) (b : WasKnown known t found)
     → P b.entry.transaction b.entry.findings → P t found
 carried {t = t} P b h = subst (P t) b.same-findings (subst (λ (s : Transaction). P s b.entry.findings) b.same-transaction h)
 
@@ -284,7 +272,7 @@ module _ (limits : Limits) (place : ℕ) (model : Model) where
   -- by cases on what the call did
   step_comes : Inv limits model → (call : Call) (r : Model × Answer) → Effects limits place model call r
       → (p : ℕ) → Comes r.0.log p (ledger_at limits r.0.shards p)
-  step_comes w call _ (did_one (did_refuse h)) = λ q k m. inl (still m)
+  step_comes w call _ (did_one did_refuse) = λ q k m. inl (still m)
   step_comes w call _ (did_one (did_repeat h z)) = λ q k m. inl (still m)
   step_comes w call _ (did_one (did_mint {p = p} h)) =
       at_one limits place model w (Comes model.log) p _ h.receiver_fits (unfold after_mint in λ k m. inl (still m)) (λ q n k m. inl (still m))
@@ -322,7 +310,7 @@ each_list P first more calls = go [] calls first
     go done (call ∷ rest) h = subst P (append_assoc done (call ∷ []) rest) (go (done ++ (call ∷ [])) rest (more done call h))
 
 -- registered by one of the calls, with these findings
-record Registered (limits : Limits) (calls : List Call) (p : ℕ) (t : Transaction) (found : List Found) : Type 0 where
+record Registered (limits : Limits) (calls : List Call) (p : ℕ) (t : Transaction) (found : List Finding) : Type 0 where
   before : List Call
   call : Call
   later : List Call
@@ -343,7 +331,7 @@ module _ (limits : Limits) where
       → Registered limits calls p k.transaction k.findings
 
   -- and still is, one call later
-  registered-more : (calls : List Call) (call : Call) {p : ℕ} {t : Transaction} {found : List Found}
+  registered-more : (calls : List Call) (call : Call) {p : ℕ} {t : Transaction} {found : List Finding}
       → Registered limits calls p t found → Registered limits (calls ++ (call ∷ [])) p t found
   unfolding step
   registered-more calls call {p} {t} r =
@@ -409,15 +397,15 @@ module _ (limits : Limits) (calls : List Call) (p : ℕ) (k : Known) (known : Me
   abbrev held : List Token
   held = (ledger_at limits (play limits registration.before).shards p).tokens
 
-  abbrev found : List Finding
-  found = findings p held k.transaction
+  abbrev found_before : List Finding
+  found_before = findings p held k.transaction
 
   -- what is told of it is what was found
-  told-found : reported (told p k) ≡ found
+  told-found : reported (Ok (told p k)) ≡ found_before
   told-found =
       let count = findings-length p held k.transaction in
-      (λ i. take (sym count i) (map finding_of (registration.taken.kept i)))
-      ∙ kept_back found (let few = registration.taken.few in omega arith)
+      (λ i. take (sym count i) (registration.taken.kept i))
+      ∙ kept_back found_before (let few = registration.taken.few in omega arith)
 
   -- the own vote that is heard is the one of the registration
   own-heard : (heard_from p k ≡ 2) ↔ (vote p held k.transaction ≡ true)
@@ -436,7 +424,7 @@ module _ (limits : Limits) (calls : List Call) (p : ℕ) (k : Known) (known : Me
       )
 
   -- what was found is true
-  found_true : (number : ℕ) → k.transaction.number ≡ number → TrueFindings limits calls p number found
+  found_true : (number : ℕ) → k.transaction.number ≡ number → TrueFindings limits calls p number found_before
   found_true number is_number =
       let t = k.transaction in
       let states = findings-states p held t ((play-inv limits registration.before).at p).no_twice in
@@ -456,12 +444,12 @@ module _ (limits : Limits) (calls : List Call) (p : ℕ) (k : Known) (known : Me
             (pledge_known limits registration.before p r.0 r.1 r.3);
       }
 
-module _ (limits : Limits) (calls : List Call) (p number count : ℕ) where
+module _ (limits : Limits) (calls : List Call) (p number : ℕ) (found : Findings) where
   -- what the shard answers after the calls
   abbrev asked : Report
   asked = report_at limits (play limits calls).shards p number
 
-  module _ (answered : asked.answer ≡ Findings count) where
+  module _ (answered : asked ≡ Ok found) where
     -- the shard's ledger, and the transaction that is asked for
     abbrev ledger : Ledger
     ledger = ledger_at limits (play limits calls).shards p
@@ -470,21 +458,21 @@ module _ (limits : Limits) (calls : List Call) (p number count : ℕ) where
     entry = numbered number ledger.known
 
     -- no test refuses the call, so it is known
-    passes : first_of (report_refusals p ledger p number) ≡ 0
-    passes = sym (report-number p ledger p number) ∙ ap told_number answered
+    passes : first_of (report_refusals p ledger p number) ≡ Ok tt
+    passes = sym (report-number p ledger p number) ∙ ap refused_by answered
 
     known : Memᴰ entry ledger.known
     known = (told-known p ledger p number passes).0
 
     -- it reports what was found
-    reports : reported asked ≡ found limits calls p entry known
+    reports : reported asked ≡ found_before limits calls p entry known
     reports = ap reported (report-told p ledger p number passes) ∙ told-found limits calls p entry known
 
     -- as many findings as it says
-    pub reported-count : length (reported asked) ≡ count
+    pub reported-count : length (reported asked) ≡ found.count
     reported-count =
         ap length reports ∙ findings-length p (held limits calls p entry known) entry.transaction
-        ∙ ap (λ (r : Report). told_count r.answer) (sym (report-told p ledger p number passes)) ∙ ap told_count answered
+        ∙ ap told_count (sym (report-told p ledger p number passes)) ∙ ap told_count answered
 
     -- and each of them is true
     pub true_findings : TrueFindings limits calls p number (reported asked)

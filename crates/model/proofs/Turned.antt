@@ -14,8 +14,8 @@ use Rattle.model.specs.declared.Token.{Token}
 use Rattle.model.specs.declared.Known.{Known}
 use Rattle.model.specs.declared.Outcome.{Outcome}
 use Rattle.model.specs.declared.Outcome.TheVariants.{Wait, Commit, Abort}
-use Rattle.model.specs.declared.Answer.{Answer}
-use Rattle.model.specs.declared.Answer.TheVariants.{Heard}
+use Rattle.model.specs.Answers.{Answer}
+use Rattle.model.specs.declared.Done.TheVariants.{Heard}
 use Rattle.model.specs.Lists.{find, map_option}
 use Rattle.model.specs.Steps.{
   Limits,
@@ -92,6 +92,7 @@ use Rattle.model.proofs.Refusals.{number-positive}
 use Rattle.model.proofs.Effects.{Effect, did_refuse, did_mint, did_register, did_hear, did_repeat, did_turn}
 use Rattle.model.proofs.Steps.{Inv, play-inv, at_one, play-keeps, play-longer}
 use Rattle.model.proofs.OneNo.{late-vote}
+use Rattle.std.specs.Prelude.{Ok as carried}
 
 -- ---- What turning leaves as it was
 
@@ -304,7 +305,7 @@ module _ (limits : Limits) where
   -- by cases on what a call did
   step_clear : (place : ℕ) (model : Model) → Inv limits model → ((p : ℕ) → TurnedClear (ledger_at limits model.shards p))
       → (call : Call) (r : Model × Answer) → Effect limits place model call r → (p : ℕ) → TurnedClear (ledger_at limits r.0.shards p)
-  step_clear place model w f call _ (did_refuse h) = f
+  step_clear place model w f call _ did_refuse = f
   step_clear place model w f call _ (did_repeat h z) = f
   step_clear place model w f call _ (did_mint {p = p} h) =
       at_one limits place model w (λ q l. TurnedClear l) p _ h.receiver_fits
@@ -344,7 +345,7 @@ module _ (limits : Limits) where
   -- by cases on what a call did
   step-turned : (place : ℕ) (model : Model) → Inv limits model → (call : Call) (r : Model × Answer) → Effect limits place model call r
       → (p : ℕ) → Stays model p (ledger_at limits r.0.shards p)
-  step-turned place model w call _ (did_refuse h) = λ q y. y
+  step-turned place model w call _ did_refuse = λ q y. y
   step-turned place model w call _ (did_repeat h z) = λ q y. y
   step-turned place model w call _ (did_mint {p = p} h) =
       at_one limits place model w (Stays model) p _ h.receiver_fits (unfold after_mint in λ y. y) (λ q n y. y)
@@ -369,7 +370,7 @@ module _ (limits : Limits) where
       let k = entry_of t ledger.known in
       any (is_for t) ledger.known ≡ true → heard_from sender k ≡ 0 → outcome_of k ≡ Abort
       → hear p ledger sender verdict t
-      ≡ (holding ledger ledger.tokens (set ledger.known (place_of t ledger.known) (hearing sender verdict k)), Heard Abort)
+      ≡ (holding ledger ledger.tokens (set ledger.known (place_of t ledger.known) (hearing sender verdict k)), carried (Heard Abort))
   late_vote_in calls p sender verdict t known fresh e =
       let ledger : Ledger = ledger_at limits (play limits calls).shards p in
       let k : Known = entry_of t ledger.known in
@@ -380,4 +381,4 @@ module _ (limits : Limits) where
       let aborted : Aborted ledger.known k.transaction.number = record { entry = k; is_known = found; is_abort = e } in
       let noted = set ledger.known (place_of t ledger.known) (hearing sender verdict k) in
       let kept = clear_ended o (play_clear calls p) k.transaction.number aborted in
-      late-vote p ledger sender verdict t fresh e ∙ ap (λ (l : List Token). (holding ledger l noted, Heard Abort)) kept
+      late-vote p ledger sender verdict t fresh e ∙ ap (λ (l : List Token). (holding ledger l noted, carried (Heard Abort))) kept

@@ -12,7 +12,7 @@ use lib.Seq.{get_or-set_same, get_or-set_other}
 use Rattle.transaction.specs.declared.Transaction.{Transaction}
 use Rattle.transaction.specs.Tokens.{shards_of, takes_part}
 use Rattle.model.specs.declared.Token.{Token}
-use Rattle.model.specs.declared.Found.{Found}
+use Rattle.model.specs.declared.Finding.{Finding}
 use Rattle.model.specs.declared.Known.{Known}
 use Rattle.model.specs.declared.Outcome.TheVariants.{Wait, Commit, Abort}
 use Rattle.model.specs.Steps.{findings, keeping, vote, noted, known_with, newly_known, heard_from, hearing, is_heard, is_yes, heard_all, outcome_of}
@@ -45,7 +45,7 @@ noted-heard true = refl
 noted-heard false = refl
 
 -- the own vote is heard by the registration
-own-said : (p : ℕ) (found : List Found) (verdict : Bool) (t : Transaction) → p < 8 → heard_from p (known_with p found verdict t) ≡ noted verdict
+own-said : (p : ℕ) (found : List Finding) (verdict : Bool) (t : Transaction) → p < 8 → heard_from p (known_with p found verdict t) ≡ noted verdict
 own-said p found verdict t h = get_or-set_same (replicate 8 0) p (noted verdict) 0 h
 
 -- the own no suffices, however many shards there are

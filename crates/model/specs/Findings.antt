@@ -1,8 +1,8 @@
 -- Document 02, 2, 'Which token spoiled it': the call that reports what a shard found about the inputs of a known transaction, and what is claimed
 -- of it about every list of calls: each finding that is reported is the true state of its token at the registration.
-use Rattle.std.specs.Prelude.{ℕ, suc, ◌≡◌, ◌↔◌, ◌≢◌, Result, Ok, Err, Bool, true, cond, not, eqb, length, get_or, take}
+use Rattle.std.specs.Prelude.{ℕ, suc, ◌≡◌, ◌↔◌, ◌≢◌, Result, Ok, Err, Bool, true, not, eqb, length, get_or, take}
 use Rattle.std.proofs.Math.Option.{none, some}
-use mathlib.Core.List.{List, [], ◌∷◌, ◌++◌, map, Memᴰ}
+use mathlib.Core.List.{List, [], ◌∷◌, ◌++◌, Memᴰ}
 use Rattle.transaction.specs.declared.Input.{Input}
 use Rattle.transaction.specs.declared.refusal.Refusal.{Refusal}
 use Rattle.transaction.specs.declared.refusal.Refusal.TheVariants.{OutOfRange, NoSuchNumber}
@@ -15,7 +15,7 @@ use Rattle.model.specs.declared.Findings.{Findings}
 use Rattle.model.specs.declared.Known.{Known}
 use Rattle.model.specs.Lists.{find}
 use Rattle.model.specs.Answers.{Report, is_available}
-use Rattle.model.specs.Steps.{Limits, Ledger, inputs_here, keeping, heard_from, nothing_known}
+use Rattle.model.specs.Steps.{Limits, Ledger, inputs_here, heard_from, nothing_known}
 use Rattle.model.specs.Shard.{Call, is_numbered}
 use Rattle.model.specs.Cluster.{ledger_at}
 use Rattle.model.specs.Model.{entry_for, play}

@@ -162,7 +162,7 @@ deliver_form limits me receiver sender verdict t =
     ∷ (not (takes_part sender t), NotTakingPart)
     ∷ []
 
--- the rest on an unknown number (document 02, NotTakingPart): 11 where sender and receiver are one; else the vote brings its transaction, under 9, 10, 17
+-- the rest on an unknown number (document 02, 6): 11 where sender and receiver are one; else the vote brings its transaction, under 9, 10, 17
 abbrev pub bring_rest : Limits → ℕ → Ledger → ℕ → Transaction → List (Bool × Refusal)
 bring_rest limits me ledger sender t = (eqb sender me, NumberUnknown) ∷ entry_refusals limits me ledger t
 
@@ -215,7 +215,7 @@ hear me ledger sender verdict t =
     (after_vote me ledger sender verdict t, Ok (Heard (outcome_of (hearing sender verdict k))))
     (ledger, Ok (Again (outcome_of k)))
 
--- a vote that passes on an unknown number brings its transaction (document 02, NotTakingPart): the registration, and then the vote
+-- a vote that passes on an unknown number brings its transaction (document 02, 6): the registration, and then the vote
 unfoldable pub bring : ℕ → Ledger → ℕ → ℕ → Transaction → Ledger × Answer
 bring me ledger sender verdict t =
     let registered = after_register me ledger t in

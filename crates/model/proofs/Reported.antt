@@ -1,8 +1,7 @@
 -- Document 02, 2, 'Which token spoiled it', of any tokens and any ledger: what a finding says beside its definition, and what the call for them answers.
 use Prim.Native.Nat.{ℕ, suc, ◌≤◌}
 use native.Mathlib.Omega.{arith}
-use mathlib.Core.Path.{◌≡◌, refl, ap, sym, ◌∙◌}
-use mathlib.Core.Logic.{◌≢◌}
+use mathlib.Core.Path.{◌≡◌, refl, ap, ◌∙◌}
 use mathlib.Core.Bool.{Bool, true, false, cond, ◌&&◌, not}
 use mathlib.Core.Option.{Option, none, some}
 use mathlib.Core.List.{List, [], ◌∷◌, map, Memᴰ}
@@ -19,12 +18,14 @@ use Rattle.model.specs.declared.Token.{Token}
 use Rattle.model.specs.declared.Finding.{Finding}
 use Rattle.model.specs.declared.Finding.TheVariants.{Available, OtherOwner, OtherAmount, Pledged}
 use Rattle.model.specs.Lists.{lookup}
-use Rattle.model.specs.Answers.{is_available, told_number}
+use Rattle.std.specs.Prelude.{Result, Ok, Err}
+use Rattle.transaction.specs.declared.refusal.Refusal.{Refusal}
+use Rattle.transaction.specs.declared.refusal.Refusal.TheVariants.{OutOfRange, NoSuchNumber}
+use Rattle.model.specs.Answers.{Report, is_available, told_number}
 use Rattle.model.specs.Steps.{Ledger, input_here, inputs_here, names, free_for, available, obstacle, finding, findings, keeping, vote, nothing_known}
 use Rattle.model.specs.Shard.{is_numbered}
 use Rattle.model.specs.Demand.{token_at}
 use Rattle.model.specs.Findings.{
-  finding_of,
   State,
   is-available,
   is-not-held,
@@ -35,28 +36,12 @@ use Rattle.model.specs.Findings.{
   no_more,
   and_more,
   numbered,
-  report_form,
-  report_rest,
   report_refusals,
   told,
+  unless_refused,
   report,
 }
-use Rattle.model.proofs.Basics.{
-  eqb-eq,
-  eqb_yes,
-  eqb_no,
-  eqb_same,
-  eqb_apart,
-  not-no,
-  passed,
-  number_behind,
-  both,
-  and_intro,
-  clash,
-  any_of,
-  keep-length,
-  find_at,
-}
+use Rattle.model.proofs.Basics.{eqb-eq, eqb_yes, eqb_same, eqb_apart, not-no, passed, both, and_intro, clash, any_of, keep-length, find_at}
 use Rattle.model.proofs.Lookups.{lookup-passes, lookup-mem}
 use Rattle.model.proofs.Holdings.{NoTwice, available-token}
 use Prim.Native.Nat.{◌<◌}
@@ -64,7 +49,6 @@ use native.Mathlib.Nat.{not-suc-le-zero, le_of_suc-le-suc}
 use lib.ListN.{get_or}
 use Rattle.model.specs.Lists.{find}
 use Rattle.model.specs.declared.Finding.TheVariants.{NotHeld}
-use Rattle.model.specs.Findings.{refusing}
 
 -- ---- Findings of any tokens
 
@@ -153,7 +137,7 @@ few-inputs genesis p t e =
     omega arith
 
 -- up to four findings are read back as they were kept
-pub kept_back : (found : List Finding) → length found ≤ 4 → take (length found) (map finding_of (keeping found)) ≡ found
+pub kept_back : (found : List Finding) → length found ≤ 4 → take (length found) (keeping found) ≡ found
 unfolding keeping
 kept_back [] h = refl
 kept_back (a ∷ []) h = refl
@@ -200,25 +184,29 @@ findings-states p tokens t once = go (inputs_here p t)
 
 -- ---- The report
 
+-- why the call is refused, if it is
+abbrev pub refused_by : Report → Result Unit Refusal
+refused_by (Err refusal) = Err refusal
+refused_by (Ok found) = Ok tt
+
 module _ (me : ℕ) (ledger : Ledger) (shard number : ℕ) where
-  -- the first refusal that fits; 0 where the findings are told
-  pub report-number : told_number (report me ledger shard number).answer ≡ first_of (report_refusals me ledger shard number)
+  -- the first refusal that fits; none where the findings are told
+  pub report-number : refused_by (report me ledger shard number) ≡ first_of (report_refusals me ledger shard number)
   unfolding report
-  report-number = go (eqb cause 0) refl
+  report-number = go (first_of (report_refusals me ledger shard number))
     where
-      cause : ℕ
-      cause = first_of (report_refusals me ledger shard number)
+      go : (found : Result Unit Refusal) → refused_by (unless_refused found (told me (numbered number ledger.known))) ≡ found
+      go (Ok tt) = refl
+      go (Err refusal) = refl
 
-      go : (b : Bool) → eqb cause 0 ≡ b
-          → told_number (cond b (told me (numbered number ledger.known)) (refusing cause)).answer ≡ cause
-      go true e = sym (eqb-eq cause 0 e)
-      go false e = refl
-
-  -- it is no larger than 18
-  pub report-small : first_of (report_refusals me ledger shard number) ≤ 18
+  -- its number is no larger than 18
+  pub report-small : told_number (report me ledger shard number) ≤ 18
+  unfolding report
   report-small = go (not (eqb shard me)) (not (shard_fits shard)) (eqb number 0) (not (any (is_numbered number) ledger.known))
     where
-      go : (a b c d : Bool) → first_of ((a, 3) ∷ (b, 3) ∷ (c, 3) ∷ (d, 18) ∷ []) ≤ 18
+      go : (a b c d : Bool)
+          → told_number (unless_refused (first_of ((a, OutOfRange) ∷ (b, OutOfRange) ∷ (c, OutOfRange) ∷ (d, NoSuchNumber) ∷ []))
+          (told me (numbered number ledger.known))) ≤ 18
       go true b c d = omega arith
       go false true c d = omega arith
       go false false true d = omega arith
@@ -226,30 +214,28 @@ module _ (me : ℕ) (ledger : Ledger) (shard number : ℕ) where
       go false false false false = omega arith
 
   -- a call that no test refuses is told what the shard has kept of the transaction of that number
-  pub report-told : first_of (report_refusals me ledger shard number) ≡ 0 → report me ledger shard number ≡ told me (numbered number ledger.known)
+  pub report-told : first_of (report_refusals me ledger shard number) ≡ Ok tt → report me ledger shard number ≡ Ok (told me (numbered number ledger.known))
   unfolding report
-  report-told e = rw e refl
+  report-told e = ap (λ (found : Result Unit Refusal). unless_refused found (told me (numbered number ledger.known))) e
 
   -- any other is refused, with no finding
-  pub report-refused : first_of (report_refusals me ledger shard number) ≢ 0
-      → report me ledger shard number ≡ refusing (first_of (report_refusals me ledger shard number))
+  pub report-refused : {refusal : Refusal} → first_of (report_refusals me ledger shard number) ≡ Err refusal
+      → report me ledger shard number ≡ Err refusal
   unfolding report
-  report-refused n = rw (eqb_no n) refl
+  report-refused e = ap (λ (found : Result Unit Refusal). unless_refused found (told me (numbered number ledger.known))) e
 
   -- where the findings are told, the number is known
-  pub number-known : first_of (report_refusals me ledger shard number) ≡ 0 → any (is_numbered number) ledger.known ≡ true
-  number-known e =
-      let rest = (number_behind 0 (report_form me shard number) (report_rest ledger number) refl e).1 in
-      not-no (any (is_numbered number) ledger.known) (passed (report_rest ledger number) refl rest).0
+  pub number-known : first_of (report_refusals me ledger shard number) ≡ Ok tt → any (is_numbered number) ledger.known ≡ true
+  number-known e = not-no (any (is_numbered number) ledger.known) (passed (report_refusals me ledger shard number) e).1.1.1.0
 
   -- and so is its transaction
-  pub told-known : first_of (report_refusals me ledger shard number) ≡ 0
+  pub told-known : first_of (report_refusals me ledger shard number) ≡ Ok tt
       → Memᴰ (numbered number ledger.known) ledger.known × ((numbered number ledger.known).transaction.number ≡ number)
   told-known e =
       let r = find_at (is_numbered number) ledger.known nothing_known (number-known e) in
       (r.0, eqb-eq (numbered number ledger.known).transaction.number number r.1)
 
 -- a shard above 7 is refused with 3, whatever is known
-pub report-above : (ledger : Ledger) (shard number : ℕ) → shard_fits shard ≡ false → report shard ledger shard number ≡ refusing 3
+pub report-above : (ledger : Ledger) (shard number : ℕ) → shard_fits shard ≡ false → report shard ledger shard number ≡ Err OutOfRange
 unfolding report
 report-above ledger shard number h = rw (eqb_same shard, h) refl
