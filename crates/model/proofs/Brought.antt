@@ -73,7 +73,8 @@ module _ (limits : Limits) (me : ℕ) (ledger : Ledger) (receiver sender verdict
       ap (λ (found : Result Unit Refusal). unless found ledger (delivered me ledger sender verdict t)) cause
       ∙ ap (λ (b : Bool). unless (first_of (cond b (bring_rest limits me ledger sender t) rows)) ledger
       (cond b (bring me ledger sender verdict t) (hear me ledger sender verdict t))) unknown
-      ∙ ap (λ (b : Bool). unless (cond b (Err NumberUnknown) (first_of (entry_refusals limits me ledger t))) ledger (bring me ledger sender verdict t)) (eqb_no other)
+      ∙ ap (λ (b : Bool). unless (cond b (Err NumberUnknown) (first_of (entry_refusals limits me ledger t))) ledger
+      (bring me ledger sender verdict t)) (eqb_no other)
 
 -- ---- The two calls
 
@@ -140,7 +141,8 @@ module _ (limits : Limits) (me : ℕ) (ledger : Ledger) (receiver sender verdict
       unless-done (first_of (deliver_refusals limits me registered receiver sender verdict t)) registered (delivered me registered sender verdict t)
       (brought-passes h bringing.form)
       ∙ ap (λ (b : Bool). cond b (bring me registered sender verdict t) (hear me registered sender verdict t)) (brought-known h)
-      ∙ ap (λ (b : Bool). cond b (after, Ok (Heard (outcome_of (hearing sender verdict k)))) (registered, Ok (Again (outcome_of k)))) (eqb_yes (brought-fresh h))
+      ∙ ap (λ (b : Bool). cond b (after, Ok (Heard (outcome_of (hearing sender verdict k)))) (registered, Ok (Again (outcome_of k))))
+      (eqb_yes (brought-fresh h))
       ∙ (λ i. (sym bringing.leaves i, Ok (Heard (outcome i))))
 
   -- ---- What it is answered

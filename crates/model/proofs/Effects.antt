@@ -72,7 +72,8 @@ module _ (limits : Limits) (me : ℕ) (ledger : Ledger) where
     shard-minted : {receiver index owner amount : ℕ} → MintPasses limits me ledger receiver index owner amount
         → ShardEffect (mint receiver index owner amount) (after_mint ledger index owner amount, Ok Minted)
     shard-registered : {receiver : ℕ} {t : Transaction} → RegisterPasses limits me ledger receiver t
-        → ShardEffect (register receiver t) (after_register me ledger t, Ok (Registered (vote me ledger.tokens t) (outcome_of (newly_known me ledger.tokens t))))
+        → ShardEffect (register receiver t)
+        (after_register me ledger t, Ok (Registered (vote me ledger.tokens t) (outcome_of (newly_known me ledger.tokens t))))
     shard-heard : {receiver sender verdict : ℕ} {t : Transaction} → DeliverPasses limits me ledger receiver sender verdict t
         → first_of (deliver_form limits me receiver sender verdict t) ≡ Ok tt
         → heard_from sender (entry_of t ledger.known) ≡ 0
@@ -139,7 +140,8 @@ pub deliver-elim : (limits : Limits) (shards : List Ledger) (p sender verdict : 
 unfolding cluster_step
 deliver-elim limits shards p sender verdict t P refused answered = go (not_given limits shards p sender verdict t) refl
   where
-    go : (b : Bool) → not_given limits shards p sender verdict t ≡ b → P (cond b (shards, Err VoteNotGiven) (at_shard limits shards p (deliver p sender verdict t)))
+    go : (b : Bool) → not_given limits shards p sender verdict t ≡ b
+        → P (cond b (shards, Err VoteNotGiven) (at_shard limits shards p (deliver p sender verdict t)))
     go true g = refused
     go false g = answered g
 

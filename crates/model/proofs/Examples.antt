@@ -80,7 +80,21 @@ use Rattle.model.specs.Demand.{
 use Rattle.model.specs.Findings.{report, report_at, reported}
 use Rattle.std.specs.Prelude.{Result, Ok, Err}
 use Rattle.transaction.specs.declared.refusal.Refusal.{Refusal}
-use Rattle.transaction.specs.declared.refusal.Refusal.TheVariants.{OutOfRange, NumberTaken, KnownAlready, TransactionsFull, TokensFull, NumberUnknown, OtherVerdict, MintTooLate, IndexGiven, VoteNotGiven, HeldOff, NoSuchNumber, TurnedAlready}
+use Rattle.transaction.specs.declared.refusal.Refusal.TheVariants.{
+  OutOfRange,
+  NumberTaken,
+  KnownAlready,
+  TransactionsFull,
+  TokensFull,
+  NumberUnknown,
+  OtherVerdict,
+  MintTooLate,
+  IndexGiven,
+  VoteNotGiven,
+  HeldOff,
+  NoSuchNumber,
+  TurnedAlready,
+}
 
 -- ---- Small transactions
 
@@ -251,7 +265,8 @@ pub record Examples : Type 0 where
   wrong-owner : play_answers house (mint 0 0 10 3 ∷ register 0 wrong ∷ []) ≡ Ok Minted ∷ Ok (Registered false Abort) ∷ []
   wrong-owner-held : tokens_after (mint 0 0 10 3 ∷ register 0 wrong ∷ []) 0 ≡ token 0 0 10 3 0 ∷ []
   -- one input available, one not: no, and the first stays pledged
-  half-there : play_answers house (mint 0 0 10 3 ∷ register 0 half ∷ register 0 (alone 1) ∷ []) ≡ Ok Minted ∷ Ok (Registered false Abort) ∷ Ok (Registered false Abort) ∷ []
+  half-there : play_answers house (mint 0 0 10 3 ∷ register 0 half ∷ register 0 (alone 1) ∷ [])
+      ≡ Ok Minted ∷ Ok (Registered false Abort) ∷ Ok (Registered false Abort) ∷ []
   half-there-held : tokens_after (mint 0 0 10 3 ∷ register 0 half ∷ register 0 (alone 1) ∷ []) 0 ≡ token 0 0 10 3 6 ∷ []
   -- the local step's four parts: the inputs here, the available one among them, its pledge beside another's, a no; with outputs only a yes
   local_inputs : inputs_here 0 mixed ≡ input 0 0 0 10 3 ∷ input 0 0 1 10 1 ∷ []
@@ -276,7 +291,8 @@ pub record Examples : Type 0 where
       ∷ deliver 3 2 1 (pass 2 3)
       ∷ []
       )
-      ≡ Ok Minted ∷ Ok Minted ∷ Ok (Registered true Wait) ∷ Ok (Registered true Wait) ∷ Ok (Registered true Wait) ∷ Ok (Registered true Wait) ∷ Ok (Heard Commit) ∷ Ok (Heard Commit) ∷ []
+      ≡ Ok Minted ∷ Ok Minted ∷ Ok (Registered true Wait) ∷ Ok (Registered true Wait) ∷ Ok (Registered true Wait)
+      ∷ Ok (Registered true Wait) ∷ Ok (Heard Commit) ∷ Ok (Heard Commit) ∷ []
   -- one no among the votes: abort at both shards, and the pledge stays, so that a later transaction finds nothing
   one-no : play_answers house (torn-apart ++ (register 0 (alone 1) ∷ [])) ≡ Ok Minted ∷ Ok (Registered true Wait)
       ∷ Ok (Registered false Abort) ∷ Ok (Heard Abort) ∷ Ok (Heard Abort) ∷ Ok (Registered false Abort) ∷ []
@@ -379,7 +395,8 @@ pub record Examples : Type 0 where
   -- what is pledged to an undecided transaction stays pledged, and that one still commits
   turn_waits : tokens_after (mint 0 0 10 3 ∷ register 0 both ∷ turn 0 ∷ []) 0 ≡ token 0 0 10 3 5 ∷ []
   turn-commits : play_answers house (known-at-both ++ (turn 0 ∷ register 0 (alone 1) ∷ deliver 0 1 1 both ∷ turn 1 ∷ deliver 1 0 1 both ∷ []))
-      ≡ Ok Minted ∷ Ok Minted ∷ Ok (Registered true Wait) ∷ Ok (Registered true Wait) ∷ Ok Turned ∷ Ok (Registered false Abort) ∷ Ok (Heard Commit) ∷ Ok Turned ∷ Ok (Heard Commit) ∷ []
+      ≡ Ok Minted ∷ Ok Minted ∷ Ok (Registered true Wait) ∷ Ok (Registered true Wait) ∷ Ok Turned
+      ∷ Ok (Registered false Abort) ∷ Ok (Heard Commit) ∷ Ok Turned ∷ Ok (Heard Commit) ∷ []
   -- at a turned shard an abort frees its tokens at once: inside a registration, by the last vote, and by an early no
   turned-own : play_answers house (turn 0 ∷ mint 0 0 10 3 ∷ register 0 half ∷ register 0 (alone 1) ∷ [])
       ≡ Ok Turned ∷ Ok Minted ∷ Ok (Registered false Abort) ∷ Ok (Registered true Commit) ∷ []
@@ -427,7 +444,8 @@ pub record Examples : Type 0 where
       ∷ deliver 0 1 1 (onward-to 6)
       ∷ []
       ))
-      ≡ Ok Minted ∷ Ok Minted ∷ Ok (Registered true Wait) ∷ Ok (Registered true Wait) ∷ Ok (Registered true Wait) ∷ Err HeldOff ∷ Ok (Heard Commit) ∷ Ok (Brought true Commit) ∷ []
+      ≡ Ok Minted ∷ Ok Minted ∷ Ok (Registered true Wait) ∷ Ok (Registered true Wait) ∷ Ok (Registered true Wait)
+      ∷ Err HeldOff ∷ Ok (Heard Commit) ∷ Ok (Brought true Commit) ∷ []
   brings_17_held : tokens_after (known-at-both ++ (register 1 (onward-to 6) ∷ deliver 0 1 1 (onward-to 6) ∷ [])) 0 ≡ token 0 0 10 3 5 ∷ []
   -- a number that is known for another transaction: 7
   brings_7 : play_answers house (mint 0 0 10 3 ∷ register 1 both ∷ register 0 other5 ∷ deliver 0 1 0 both ∷ [])

@@ -191,7 +191,8 @@ module _ (limits : Limits) (calls : List Call) (p : ℕ) (t : Transaction) (free
         answered : (shard_step limits p ledger (deliver p sender verdict t)).1 ≢ Err HeldOff
         answered e =
             let form = deliver_form limits p p sender verdict t in
-            let said = number_behind HeldOff form (deliver_rest limits p ledger sender verdict t) refl (deliver-number limits p ledger sender verdict t HeldOff e) in
+            let said =
+            number_behind HeldOff form (deliver_rest limits p ledger sender verdict t) refl (deliver-number limits p ledger sender verdict t HeldOff e) in
             rest (is_unknown t ledger.known) said.1
 
     pub free-brought : (v : Bool) (o : Outcome)

@@ -746,7 +746,8 @@ module _ (limits : Limits) (place : ℕ) (model : Model) (w : Inv limits model) 
     others = get_or-set_other model.shards p sender registered (empty_ledger limits) h.from-other
 
     -- it is registered
-    pub brought-first : Effect limits place model (register p t) (between, carried (Registered (vote p (at p).tokens t) (outcome_of (newly_known p (at p).tokens t))))
+    pub brought-first : Effect limits place model (register p t)
+        (between, carried (Registered (vote p (at p).tokens t) (outcome_of (newly_known p (at p).tokens t))))
     brought-first = did_register (brought-registers h)
 
     -- and then the vote is heard

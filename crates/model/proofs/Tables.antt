@@ -263,7 +263,8 @@ never_twelve limits calls p sender verdict t =
     answered : not_given limits shards p sender verdict t ≡ false
         → (shard_step limits p (ledger_at limits shards p) (deliver p sender verdict t)).1 ≢ Err OtherVerdict
     answered g e =
-        let r = twelve_says limits p (ledger_at limits shards p) sender verdict t (deliver-number limits p (ledger_at limits shards p) sender verdict t OtherVerdict e) in
+        let r = twelve_says limits p (ledger_at limits shards p) sender verdict t
+        (deliver-number limits p (ledger_at limits shards p) sender verdict t OtherVerdict e) in
         let given = was-given limits shards p sender verdict t g r.0 in
         no-other_verdict limits (play limits calls) (play-inv limits calls) p sender verdict t r.1 given r.2
 
@@ -339,12 +340,14 @@ mint-three limits p ledger index owner amount h =
     (λ i. not (h i && index_fits limits.genesis 0 index && value_fits owner amount))
 
 -- and so does that of a registration
-register-three : (limits : Limits) (p : ℕ) (ledger : Ledger) (t : Transaction) → shard_fits p ≡ false → first_of (register_refusals limits p ledger p t) ≡ Err OutOfRange
+register-three : (limits : Limits) (p : ℕ) (ledger : Ledger) (t : Transaction) → shard_fits p ≡ false
+    → first_of (register_refusals limits p ledger p t) ≡ Err OutOfRange
 unfolding register_refusals
 register-three limits p ledger t h = three-first p (not (shard_fits p)) _ (ap not h)
 
 -- and that of a vote, among 3 to 6
-form-three : (limits : Limits) (p sender verdict : ℕ) (t : Transaction) → shard_fits p ≡ false → first_of (deliver_form limits p p sender verdict t) ≡ Err OutOfRange
+form-three : (limits : Limits) (p sender verdict : ℕ) (t : Transaction) → shard_fits p ≡ false
+    → first_of (deliver_form limits p p sender verdict t) ≡ Err OutOfRange
 unfolding deliver_form
 form-three limits p sender verdict t h = three-first p (not (shard_fits p)) _ (ap not h)
 
@@ -385,7 +388,8 @@ no_such_shard limits shards (register p t) h =
     (register-three limits p (ledger_at limits shards p) t h))
 no_such_shard limits shards (turn p) h =
     let ledger = ledger_at limits shards p in
-    refused-at limits shards p (turn p) OutOfRange (ap (λ (found : Result Unit Refusal). unless found ledger (after_turn ledger, Ok Turned)) (turn_three p ledger h))
+    refused-at limits shards p (turn p) OutOfRange
+    (ap (λ (found : Result Unit Refusal). unless found ledger (after_turn ledger, Ok Turned)) (turn_three p ledger h))
 no_such_shard limits shards (deliver p sender verdict t) h =
     ap (λ (found : Result Unit Refusal). cond (is_ok found && not (gave (ledger_at limits shards sender) sender verdict t)) (shards, Err VoteNotGiven)
     (at_shard limits shards p (deliver p sender verdict t))) (form-three limits p sender verdict t h)
