@@ -1,11 +1,12 @@
 -- A vote that brings its transaction (document 02, 6): it is entered under the checks of a registration's entry; it is the registration and the vote, one
 -- call behind the other; what it is answered, and how many votes bring the decision then.
-use Prim.Native.Nat.{ℕ, ◌+◌, ◌<◌}
+use Prim.Native.Nat.{ℕ, ◌<◌}
 use native.Mathlib.Omega.{arith}
 use mathlib.Core.Path.{◌≡◌, refl, ap, sym, ◌∙◌, subst}
 use mathlib.Core.Logic.{◌≢◌}
 use mathlib.Core.Bool.{Bool, true, false, cond, not, ◌&&◌}
 use mathlib.Core.List.{List, ◌∷◌, Memᴰ}
+use lib.Dec.{eqb}
 use lib.ListN.{length, set, replicate, length-set}
 use lib.Seq.{get_or-set_same, get_or-set_other, set-set}
 use Rattle.transaction.specs.declared.Transaction.{Transaction}
@@ -17,7 +18,8 @@ use Rattle.model.specs.declared.Outcome.{Outcome}
 use Rattle.model.specs.declared.Outcome.TheVariants.{Abort}
 use Rattle.model.specs.Answers.{Answer}
 use Rattle.model.specs.declared.Done.TheVariants.{Registered, Heard, Again, Brought}
-use Rattle.model.specs.Steps.{Limits, Ledger, empty_ledger, vote, noted, newly_known, heard_from, hearing, outcome_of, entry_of, after_register, after_vote}
+use Rattle.model.specs.Said.{Said}
+use Rattle.model.specs.Steps.{Limits, Ledger, empty_ledger, vote, newly_known, heard_from, hearing, outcome_of, entry_of, after_register, after_vote}
 use Rattle.model.specs.Shard.{
   Call,
   register,
@@ -38,9 +40,10 @@ use Rattle.model.specs.Shard.{
 }
 use Rattle.model.specs.Cluster.{ledger_at, gave, not_given, at_shard, cluster_step}
 use Rattle.model.specs.Model.{Model, logged, log_after, step}
-use Rattle.model.proofs.Basics.{eqb_yes, eqb_no, set-elim}
+use Rattle.model.proofs.Basics.{eqb_no, set-elim}
 use Rattle.model.proofs.Entries.{registered-entry}
-use Rattle.model.proofs.Outcomes.{one≢two, outcome_no, no_abort, abort_stays}
+use Rattle.model.proofs.Said.{no≢yes}
+use Rattle.model.proofs.Outcomes.{outcome_no, no_abort, abort_stays}
 use Rattle.model.proofs.Refusals.{
   shard-below,
   part_in,
@@ -54,7 +57,7 @@ use Rattle.model.proofs.Refusals.{
 use Rattle.model.proofs.Effects.{ShardEffect, shard-refused, shard-heard, shard-again, shard-brought, shard-effect, deliver-elim}
 use Rattle.model.proofs.Votes.{shard_count, Fresh, Brings, own-no, own-yes, votes-bring}
 use Rattle.model.proofs.Tables.{unless-done}
-use Rattle.std.specs.Prelude.{Result, Ok, Err, is_ok}
+use Rattle.std.specs.Prelude.{Some, None, is_some, Result, Ok, Err, is_ok}
 use Rattle.transaction.specs.declared.refusal.Refusal.{Refusal}
 use Rattle.transaction.specs.declared.refusal.Refusal.TheVariants.{NumberUnknown, VoteNotGiven}
 
@@ -141,8 +144,8 @@ module _ (limits : Limits) (me : ℕ) (ledger : Ledger) (receiver sender verdict
       unless-done (first_of (deliver_refusals limits me registered receiver sender verdict t)) registered (delivered me registered sender verdict t)
       (brought-passes h bringing.form)
       ∙ ap (λ (b : Bool). cond b (bring me registered sender verdict t) (hear me registered sender verdict t)) (brought-known h)
-      ∙ ap (λ (b : Bool). cond b (after, Ok (Heard (outcome_of (hearing sender verdict k)))) (registered, Ok (Again (outcome_of k))))
-      (eqb_yes (brought-fresh h))
+      ∙ ap (λ (b : Bool). cond b (registered, Ok (Again (outcome_of k))) (after, Ok (Heard (outcome_of (hearing sender verdict k)))))
+      (ap is_some (brought-fresh h))
       ∙ (λ i. (sym bringing.leaves i, Ok (Heard (outcome i))))
 
   -- ---- What it is answered
@@ -160,7 +163,7 @@ module _ (limits : Limits) (me : ℕ) (ledger : Ledger) (receiver sender verdict
   sender-part : Memᴰ sender (shards_of t)
   sender-part = part_in sender t bringing.passes.passes.sender-part
 
-  unheard : heard_from sender entered ≡ 0
+  unheard : heard_from sender entered ≡ None
   unheard =
       let h = bringing.passes in
       ap (heard_from sender) (sym (registered-entry me ledger t (brought-registers h).unknown)) ∙ brought-fresh h
@@ -168,7 +171,7 @@ module _ (limits : Limits) (me : ℕ) (ledger : Ledger) (receiver sender verdict
   below : sender < length entered.heard
   unfolding newly_known
   below =
-      let eight = length-set (replicate 8 0) me (noted (vote me ledger.tokens t)) in
+      let eight = length-set (replicate 8 None) me (Some (vote me ledger.tokens t)) in
       let small = shard-below sender bringing.passes.passes.sender-fits in
       omega arith
 
@@ -180,8 +183,9 @@ module _ (limits : Limits) (me : ℕ) (ledger : Ledger) (receiver sender verdict
   pub brought-by-no : verdict ≡ 0 → o ≡ Abort
   unfolding newly_known
   brought-by-no n =
-      let noted : heard_from sender (hearing sender verdict entered) ≡ verdict + 1 = get_or-set_same entered.heard sender (verdict + 1) 0 below in
-      let said = noted ∙ ap (λ (v : ℕ). v + 1) n in
+      let noted : heard_from sender (hearing sender verdict entered) ≡ Some (eqb verdict 1) =
+      get_or-set_same entered.heard sender (Some (eqb verdict 1)) None below in
+      let said = noted ∙ ap (λ (v : ℕ). Some (eqb v 1)) n in
       sym bringing.decided ∙ no_abort (hearing sender verdict entered) (record { sender = sender; is_part = sender-part; said = said })
 
   -- YES WAIT and YES COMMIT: two that are yes do not
@@ -189,10 +193,10 @@ module _ (limits : Limits) (me : ℕ) (ledger : Ledger) (receiver sender verdict
   unfolding newly_known
   brought-yes y v a =
       let n = outcome_no (hearing sender verdict entered) (bringing.decided ∙ a) in
-      let two : ◌≡◌ {A = ℕ} (verdict + 1) 1 → ⊥ = λ z. one≢two (sym z ∙ ap (λ (v : ℕ). v + 1) v) in
-      let others : (q : ℕ) → (q ≡ sender → ⊥) → heard_from q entered ≡ 1 → Memᴰ q (shards_of t) → ⊥ =
+      let yes : ◌≡◌ {A = Said} (Some (eqb verdict 1)) (Some false) → ⊥ = λ z. no≢yes (sym z ∙ ap (λ (v : ℕ). Some (eqb v 1)) v) in
+      let others : (q : ℕ) → (q ≡ sender → ⊥) → heard_from q entered ≡ Some false → Memᴰ q (shards_of t) → ⊥ =
       λ q d z m. own-yes me ledger.tokens t here (bringing.voted ∙ y) (no_abort entered (record { sender = q; is_part = m; said = z })) in
-      set-elim (λ q c. c ≡ 1 → Memᴰ q (shards_of t) → ⊥) entered.heard 0 sender (verdict + 1) below (λ z m. two z) others
+      set-elim (λ q c. c ≡ Some false → Memᴰ q (shards_of t) → ⊥) entered.heard None sender (Some (eqb verdict 1)) below (λ z m. yes z) others
       n.sender n.said n.is_part
 
   -- ---- How many votes bring the decision

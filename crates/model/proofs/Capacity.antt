@@ -7,9 +7,11 @@ use mathlib.Core.Logic.{◌⊎◌, inl, inr, ⊎_elim}
 use mathlib.Core.Bool.{Bool, true, false, cond, ◌||◌, true≢false, false≢true}
 use mathlib.Core.List.Memᴰ
 use mathlib.Core.List.{List, [], ◌∷◌, ◌++◌, Memᴰ}
+use lib.Dec.{eqb}
 use lib.ListN.{length, get_or, set, replicate, length-append, length-map, length-set, length-replicate}
 use Rattle.transaction.specs.declared.Output.{Output}
-use Rattle.std.specs.Prelude.{Ok}
+use Rattle.std.specs.Prelude.{Some, None, Ok}
+use Rattle.std.proofs.lemmas.Option.{none-some}
 use Rattle.transaction.specs.declared.Transaction.{Transaction}
 use Rattle.transaction.specs.Lists.{any, total}
 use Rattle.transaction.specs.Tokens.{used_outputs, shards_of}
@@ -30,7 +32,6 @@ use Rattle.model.specs.Steps.{
   available_here,
   pledges,
   vote,
-  noted,
   newly_known,
   heard_from,
   hearing,
@@ -61,7 +62,7 @@ use Rattle.model.specs.Shard.{Call, if_undecided, reserved_by, reserved, shard_s
 use Rattle.model.specs.Fit.{is_set, counted, Fit}
 use Rattle.model.specs.Cluster.{ledger_at}
 use Rattle.model.specs.Model.{Model, play}
-use Rattle.model.proofs.Basics.{eqb_apart, keep-length, find_at, get_or-same}
+use Rattle.model.proofs.Basics.{keep-length, find_at, get_or-same}
 use Rattle.model.proofs.Entries.{same-eq}
 use Rattle.model.proofs.Outcomes.{outcome_yes, CaseOutcome, case_wait, case-commit, case_abort, case_outcome, abort_stays}
 use Rattle.model.proofs.Refusals.{part_in, MintPasses, RegisterPasses, DeliverPasses, brought-registers, brought-hears, brought-fresh}
@@ -166,7 +167,7 @@ settle-room Commit me t tokens = let h = commit-length me t tokens in omega arit
 settle-room Abort me t tokens = omega arith
 
 -- a fresh vote takes no more room than was reserved: the transaction waited, or it was aborted and stays so
-hear-room : (me : ℕ) (k : Known) (q v : ℕ) (tokens : List Token) → Memᴰ q (shards_of k.transaction) → heard_from q k ≡ 0
+hear-room : (me : ℕ) (k : Known) (q v : ℕ) (tokens : List Token) → Memᴰ q (shards_of k.transaction) → heard_from q k ≡ None
     → length (settle (outcome_of (hearing q v k)) me k.transaction tokens) + reserved_by me (hearing q v k) ≤ length tokens + reserved_by me k
 unfolding reserved_by
 hear-room me k q v tokens m fresh = go (case_outcome k)
@@ -182,7 +183,7 @@ hear-room me k q v tokens m fresh = go (case_outcome k)
 
     go : CaseOutcome k → Room (outcome_of k) after
     go (case_wait e) = subst (λ (o : Outcome). Room o after) (sym e) (settle-room after me k.transaction tokens)
-    go (case-commit e) = absurd (eqb_apart {m = 0} {n = 2} refl (sym fresh ∙ outcome_yes k e q m))
+    go (case-commit e) = absurd (none-some true (sym fresh ∙ outcome_yes k e q m))
     go (case_abort e) = subst (λ (o : Outcome). Room o after) (sym e) (subst (Room Abort) (sym (abort_stays k q v fresh e)) (omega arith))
 
 -- tokens that come free are still held
@@ -265,12 +266,12 @@ module _ (limits : Limits) (sized : limits.genesis ≤ limits.tokens) (me : ℕ)
             ∙ form-checked limits.genesis t h.form.fields h.form.distinct h.form.balances) (Memᴰ.append_cases ledger.known m);
         eight = λ j m. ⊎_elim (f.eight j)
             (λ d. ap (λ (a : Known). length a.heard) (Memᴰ.eq_of_singleton d)
-            ∙ length-set (replicate 8 0) me (noted (vote me ledger.tokens t))) (Memᴰ.append_cases ledger.known m);
+            ∙ length-set (replicate 8 None) me (Some (vote me ledger.tokens t))) (Memᴰ.append_cases ledger.known m);
       }
 
   -- a fresh vote keeps it fit
   vote-fit : {receiver sender verdict : ℕ} {t : Transaction} → DeliverPasses limits me ledger receiver sender verdict t
-      → heard_from sender (entry_of t ledger.known) ≡ 0
+      → heard_from sender (entry_of t ledger.known) ≡ None
       → Fit limits me (after_vote me ledger sender verdict t)
   unfolding after_vote reserved reserved_by entry_of place_of
   vote-fit {sender = sender} {verdict = verdict} {t = t} h fresh =
@@ -295,7 +296,7 @@ module _ (limits : Limits) (sized : limits.genesis ≤ limits.tokens) (me : ℕ)
         only-given = λ e. let z : length (set known (find (is_for t) known) k') ≡ 0 = ap length e in absurd (omega arith);
         checked = λ j m. ⊎_elim (λ e. ap (λ (a : Known). cause_of limits.genesis a.transaction) e ∙ f.checked k at.0)
             (f.checked j) (mem-set known (find (is_for t) known) k' m);
-        eight = λ j m. ⊎_elim (λ e. ap (λ (a : Known). length a.heard) e ∙ length-set k.heard sender (verdict + 1) ∙ f.eight k at.0)
+        eight = λ j m. ⊎_elim (λ e. ap (λ (a : Known). length a.heard) e ∙ length-set k.heard sender (Some (eqb verdict 1)) ∙ f.eight k at.0)
             (f.eight j) (mem-set known (find (is_for t) known) k' m);
       }
 

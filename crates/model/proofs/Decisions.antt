@@ -1,14 +1,15 @@
 -- Demand 3, the decisions: none differ, none change, and each is the one that the log gives.
-use Prim.Native.Nat.{ℕ, ◌≤◌}
-use native.Mathlib.Omega.{arith}
+use Prim.Native.Nat.{ℕ}
 use mathlib.Core.Path.{◌≡◌, refl, ap, sym, ◌∙◌, subst}
 use mathlib.Core.Logic.{◌↔◌, ◌≢◌, ◌⊎◌, inl, inr}
 use mathlib.Core.Bool.{Bool, true, false, cond, false≢true}
 use mathlib.Core.Option.{some}
 use mathlib.Core.List.{List, ◌++◌, Memᴰ}
 use borrow.Author.Tests.{ltb-true, ltb-false}
-use lib.Dec.{eqb, ltb}
+use lib.Dec.{ltb}
 use lib.ListN.{length, get_or-eq_default}
+use Rattle.std.specs.Prelude.{Some, None}
+use Rattle.std.proofs.lemmas.Option.{none-some}
 use Rattle.transaction.specs.declared.Input.{Input}
 use Rattle.transaction.specs.declared.Transaction.{Transaction}
 use Rattle.transaction.specs.Lists.{any}
@@ -16,20 +17,20 @@ use Rattle.transaction.specs.Tokens.{used_inputs, shards_of}
 use Rattle.model.specs.declared.Known.{Known}
 use Rattle.model.specs.declared.Outcome.{Outcome}
 use Rattle.model.specs.declared.Outcome.TheVariants.{Wait, Commit, Abort}
+use Rattle.model.specs.Said.{Said}
 use Rattle.model.specs.Steps.{Limits, Ledger, empty_ledger, heard_from, heard_all, outcome_of, is_for, entry_of, inputs_here}
 use Rattle.model.specs.Shard.{Call}
 use Rattle.model.specs.Cluster.{ledger_at}
 use Rattle.model.specs.Model.{Entry, Model, play}
 use Rattle.model.specs.Demand.{outcome_in, heard_all_in, outcome_at, heard_all_at, is_commit, commits, committed, WasAvailable}
-use Rattle.model.proofs.Basics.{eqb-eq, eqb_apart, both, Case, yes-case, no-case, case, any_at, any_of, place_of_mem, get_or-mem, some_inj}
+use Rattle.model.proofs.Basics.{both, any_at, any_of, place_of_mem, get_or-mem, some_inj}
 use Rattle.model.proofs.Entries.{look, entry-look, look-entry, look-number}
+use Rattle.model.proofs.Said.{no≢yes}
 use Rattle.model.proofs.Outcomes.{
   commit≢wait,
   wait≢commit,
-  one≢two,
   outcome_yes,
   outcome_no,
-  Marks,
   all_in-decides,
   CaseOutcome,
   case_wait,
@@ -89,25 +90,25 @@ module _ (limits : Limits) (model : Model) (w : Inv limits model) where
       go false e h = absurd (h refl)
 
   -- a shard's vote on a transaction is one vote
-  pub voted-same : (q : ℕ) (t : Transaction) (c d : ℕ) → Voted model.log q t c → Voted model.log q t d → c ≡ d
+  pub voted-same : (q : ℕ) (t : Transaction) (c d : Said) → Voted model.log q t c → Voted model.log q t d → c ≡ d
   voted-same q t c d v u = go v.is-vote u.is-vote
     where
       e : v.entry ≡ u.entry
       e = w.logged.unique v.entry u.entry v.logged u.logged (v.at ∙ sym u.at) (v.of ∙ sym u.of)
 
-      forth : c ≡ 2 → d ≡ 2
+      forth : c ≡ Some true → d ≡ Some true
       forth y = u.says.1 (λ x m. subst (λ (r : Entry). Memᴰ x r.available) e (v.says.0 y x m))
 
-      back : d ≡ 2 → c ≡ 2
+      back : d ≡ Some true → c ≡ Some true
       back y = v.says.1 (λ x m. subst (λ (r : Entry). Memᴰ x r.available) (sym e) (u.says.0 y x m))
 
-      go : (c ≡ 1) ⊎ (c ≡ 2) → (d ≡ 1) ⊎ (d ≡ 2) → c ≡ d
+      go : (c ≡ Some false) ⊎ (c ≡ Some true) → (d ≡ Some false) ⊎ (d ≡ Some true) → c ≡ d
       go (inl a) (inl b) = a ∙ sym b
       go (inl a) (inr b) = back b ∙ sym b
       go (inr a) b = a ∙ sym (forth a)
 
   -- each vote that a shard heard is in the log
-  pub votes-at : (p : ℕ) (t : Transaction) (k : Knows p t) (q : ℕ) → (heard_from q k.entry ≡ 0 → ⊥) → Voted model.log q t (heard_from q k.entry)
+  pub votes-at : (p : ℕ) (t : Transaction) (k : Knows p t) (q : ℕ) → (heard_from q k.entry ≡ None → ⊥) → Voted model.log q t (heard_from q k.entry)
   votes-at p t k q h =
       subst (λ (a : Transaction). Voted model.log q a (heard_from q k.entry)) k.whole ((w.at p).core.votes t.number k.entry k.is_known q h)
 
@@ -119,7 +120,7 @@ module _ (limits : Limits) (model : Model) (w : Inv limits model) where
   agree_at p q t f g =
       let j = knows p t f in
       let k = knows q t g in
-      let same-vote : (a : ℕ) → (heard_from a j.entry ≡ 0 → ⊥) → (heard_from a k.entry ≡ 0 → ⊥) → heard_from a j.entry ≡ heard_from a k.entry =
+      let same-vote : (a : ℕ) → (heard_from a j.entry ≡ None → ⊥) → (heard_from a k.entry ≡ None → ⊥) → heard_from a j.entry ≡ heard_from a k.entry =
       λ a x y. voted-same a t (heard_from a j.entry) (heard_from a k.entry) (votes-at p t j a x) (votes-at q t k a y) in
       j.is_outcome
       ∙ outcome_agree j.entry k.entry (j.whole ∙ sym k.whole) same-vote (λ e. f (j.is_outcome ∙ e)) (λ e. g (k.is_outcome ∙ e))
@@ -128,12 +129,12 @@ module _ (limits : Limits) (model : Model) (w : Inv limits model) where
   -- ---- The commit rule
 
   -- where a transaction is committed, each of its shards voted yes
-  pub commit-votes : (p : ℕ) (t : Transaction) → outcome_at limits model p t ≡ Commit → (q : ℕ) → Memᴰ q (shards_of t) → Voted model.log q t 2
+  pub commit-votes : (p : ℕ) (t : Transaction) → outcome_at limits model p t ≡ Commit → (q : ℕ) → Memᴰ q (shards_of t) → Voted model.log q t (Some true)
   commit-votes p t e q m =
       let k = knows p t (λ z. commit≢wait (sym e ∙ z)) in
-      let two : heard_from q k.entry ≡ 2 =
+      let yes : heard_from q k.entry ≡ Some true =
       outcome_yes k.entry (sym k.is_outcome ∙ e) q (subst (λ (s : Transaction). Memᴰ q (shards_of s)) (sym k.whole) m) in
-      subst (λ (c : ℕ). Voted model.log q t c) two (votes-at p t k q (λ z. eqb_apart {m = 0} {n = 2} refl (sym z ∙ two)))
+      subst (λ (c : Said). Voted model.log q t c) yes (votes-at p t k q (λ z. none-some true (sym z ∙ yes)))
 
   -- a committed transaction found each of its inputs available
   commit-available : (p : ℕ) (t : Transaction) → outcome_at limits model p t ≡ Commit → (x : Input) → Memᴰ x (used_inputs t) → WasAvailable model.log t x
@@ -142,8 +143,8 @@ module _ (limits : Limits) (model : Model) (w : Inv limits model) where
       record { entry = v.entry; logged = v.logged; at = v.at; of = v.of; found = voted-available v x (in_here t x m) }
 
   -- where each input was available, every vote is yes
-  available-vote : (q : ℕ) (t : Transaction) (c : ℕ) → Voted model.log q t c
-      → ((x : Input) → Memᴰ x (used_inputs t) → WasAvailable model.log t x) → c ≡ 2
+  available-vote : (q : ℕ) (t : Transaction) (c : Said) → Voted model.log q t c
+      → ((x : Input) → Memᴰ x (used_inputs t) → WasAvailable model.log t x) → c ≡ Some true
   available-vote q t c v f = v.says.1 (λ x m.
       let h = here-shard q t x m in
       let a = f x h.0 in
@@ -163,13 +164,13 @@ module _ (limits : Limits) (model : Model) (w : Inv limits model) where
       go f (case-commit e) = k.is_outcome ∙ e
       go f (case_abort e) =
           let no = outcome_no k.entry e in
-          let v = votes-at p t k no.sender (λ z. eqb_apart {m = 0} {n = 1} refl (sym z ∙ no.said)) in
-          absurd (one≢two (sym no.said ∙ available-vote no.sender t (heard_from no.sender k.entry) v f))
+          let v = votes-at p t k no.sender (λ z. none-some false (sym z ∙ no.said)) in
+          absurd (no≢yes (sym no.said ∙ available-vote no.sender t (heard_from no.sender k.entry) v f))
 
   -- where all votes are in, the transaction is decided
   pub all_in-at : (p : ℕ) (t : Transaction) → heard_all_at limits model p t ≡ true → outcome_at limits model p t ≢ Wait
   unfolding heard_all_in knows-of knows_for
-  all_in-at p t h none_yet = all_in-decides entry marks all-heard (sym k.is_outcome ∙ none_yet)
+  all_in-at p t h none_yet = all_in-decides entry all-heard (sym k.is_outcome ∙ none_yet)
     where
       known : List Known
       known = (ledger_at limits model.shards p).known
@@ -185,18 +186,6 @@ module _ (limits : Limits) (model : Model) (w : Inv limits model) where
 
       all-heard : heard_all entry.transaction entry.heard ≡ true
       all-heard = subst (λ (s : Transaction). heard_all s entry.heard ≡ true) (sym k.whole) asked.1
-
-      most : {c : ℕ} → (c ≡ 1) ⊎ (c ≡ 2) → c ≤ 2
-      most (inl e) = omega arith
-      most (inr e) = omega arith
-
-      -- a vote that was heard was given, yes or no
-      marks : Marks entry
-      marks q = go (case (eqb (heard_from q entry) 0))
-        where
-          go : Case (eqb (heard_from q entry) 0) → heard_from q entry ≤ 2
-          go (yes-case e) = let z : heard_from q entry ≡ 0 = eqb-eq (heard_from q entry) 0 e in omega arith
-          go (no-case e) = most (votes-at p t k q (eqb_apart e)).is-vote
 
   -- commit exactly if each input was available
   pub exact_at : (p : ℕ) (t : Transaction) → heard_all_at limits model p t ≡ true

@@ -4,7 +4,6 @@ use Prim.Native.Nat.{ℕ}
 use mathlib.Core.Path.{◌≡◌, refl, ap, sym, subst}
 use mathlib.Core.Bool.{Bool, true, false, cond}
 use mathlib.Core.List.{List, ◌∷◌}
-use lib.Dec.{eqb}
 use lib.ListN.{set}
 use lib.Seq.{set-get_or}
 use Rattle.transaction.specs.declared.Transaction.{Transaction}
@@ -45,7 +44,8 @@ use Rattle.model.specs.Shard.{
 }
 use Rattle.model.specs.Cluster.{ledger_at, gave, not_given, at_shard, cluster_step}
 use Rattle.model.specs.Model.{Entry, Genesis, Model, entry_for, log_after, minted_after, step}
-use Rattle.model.proofs.Basics.{eqb-eq, eqb_apart, clash, and_intro, not_yes, not-no}
+use Rattle.model.proofs.Said.{nothing-said, something-said}
+use Rattle.model.proofs.Basics.{clash, and_intro, not_yes, not-no}
 use Rattle.model.proofs.Refusals.{
   MintPasses,
   mint-passes,
@@ -59,7 +59,7 @@ use Rattle.model.proofs.Refusals.{
   BringPasses,
   bring-passes,
 }
-use Rattle.std.specs.Prelude.{Result, Ok, Err, is_ok}
+use Rattle.std.specs.Prelude.{None, is_some, Result, Ok, Err, is_ok}
 use Rattle.transaction.specs.declared.refusal.Refusal.{Refusal}
 use Rattle.transaction.specs.declared.refusal.Refusal.TheVariants.{VoteNotGiven}
 
@@ -76,11 +76,11 @@ module _ (limits : Limits) (me : ℕ) (ledger : Ledger) where
         (after_register me ledger t, Ok (Registered (vote me ledger.tokens t) (outcome_of (newly_known me ledger.tokens t))))
     shard-heard : {receiver sender verdict : ℕ} {t : Transaction} → DeliverPasses limits me ledger receiver sender verdict t
         → first_of (deliver_form limits me receiver sender verdict t) ≡ Ok tt
-        → heard_from sender (entry_of t ledger.known) ≡ 0
+        → heard_from sender (entry_of t ledger.known) ≡ None
         → ShardEffect (deliver receiver sender verdict t)
         (after_vote me ledger sender verdict t, Ok (Heard (outcome_of (hearing sender verdict (entry_of t ledger.known)))))
     shard-again : {receiver sender verdict : ℕ} {t : Transaction} → DeliverPasses limits me ledger receiver sender verdict t
-        → (heard_from sender (entry_of t ledger.known) ≡ 0 → ⊥)
+        → (heard_from sender (entry_of t ledger.known) ≡ None → ⊥)
         → ShardEffect (deliver receiver sender verdict t) (ledger, Ok (Again (outcome_of (entry_of t ledger.known))))
     shard-turned : {receiver : ℕ} → TurnPasses limits me ledger receiver → ShardEffect (turn receiver) (after_turn ledger, Ok Turned)
     shard-brought : {receiver sender verdict : ℕ} {t : Transaction} → BringPasses limits me ledger receiver sender verdict t
@@ -108,22 +108,23 @@ module _ (limits : Limits) (me : ℕ) (ledger : Ledger) where
       go (Err refusal) e = shard-refused
   shard-effect (deliver receiver sender verdict t) =
       go (first_of (deliver_refusals limits me ledger receiver sender verdict t)) refl (is_unknown t ledger.known) refl
-      (eqb (heard_from sender (entry_of t ledger.known)) 0) refl
+      (is_some (heard_from sender (entry_of t ledger.known))) refl
     where
       go : (found : Result Unit Refusal) → first_of (deliver_refusals limits me ledger receiver sender verdict t) ≡ found
           → (unknown : Bool) → is_unknown t ledger.known ≡ unknown
-          → (fresh : Bool) → eqb (heard_from sender (entry_of t ledger.known)) 0 ≡ fresh
+          → (heard : Bool) → is_some (heard_from sender (entry_of t ledger.known)) ≡ heard
           → ShardEffect (deliver receiver sender verdict t) (unless found ledger
           (cond unknown (bring me ledger sender verdict t)
-          (cond fresh (after_vote me ledger sender verdict t, Ok (Heard (outcome_of (hearing sender verdict (entry_of t ledger.known)))))
-          (ledger, Ok (Again (outcome_of (entry_of t ledger.known)))))))
-      go (Ok tt) e true u fresh f =
+          (cond heard (ledger, Ok (Again (outcome_of (entry_of t ledger.known))))
+          (after_vote me ledger sender verdict t, Ok (Heard (outcome_of (hearing sender verdict (entry_of t ledger.known))))))))
+      go (Ok tt) e true u heard f =
           shard-brought (bring-passes limits me ledger receiver sender verdict t e u) (form-passes limits me ledger receiver sender verdict t e)
-      go (Ok tt) e false u true f =
+      go (Ok tt) e false u false f =
           shard-heard (deliver-passes limits me ledger receiver sender verdict t e u)
-          (form-passes limits me ledger receiver sender verdict t e) (eqb-eq (heard_from sender (entry_of t ledger.known)) 0 f)
-      go (Ok tt) e false u false f = shard-again (deliver-passes limits me ledger receiver sender verdict t e u) (eqb_apart f)
-      go (Err refusal) e unknown u fresh f = shard-refused
+          (form-passes limits me ledger receiver sender verdict t e) (nothing-said (heard_from sender (entry_of t ledger.known)) f)
+      go (Ok tt) e false u true f =
+          shard-again (deliver-passes limits me ledger receiver sender verdict t e u) (something-said (heard_from sender (entry_of t ledger.known)) f)
+      go (Err refusal) e unknown u heard f = shard-refused
   shard-effect (turn receiver) = go (first_of (turn_refusals me ledger receiver)) refl
     where
       go : (found : Result Unit Refusal) → first_of (turn_refusals me ledger receiver) ≡ found
@@ -176,11 +177,11 @@ module _ (limits : Limits) (place : ℕ) (model : Model) where
           Ok (Registered (vote p (at p).tokens t) (outcome_of (newly_known p (at p).tokens t))),
         )
     did_hear : {p sender verdict : ℕ} {t : Transaction} → DeliverPasses limits p (at p) p sender verdict t
-        → gave (at sender) sender verdict t ≡ true → heard_from sender (entry_of t (at p).known) ≡ 0
+        → gave (at sender) sender verdict t ≡ true → heard_from sender (entry_of t (at p).known) ≡ None
         → Effect (deliver p sender verdict t)
         (replaced p (after_vote p (at p) sender verdict t) model.log model.minted, Ok (Heard (outcome_of (hearing sender verdict (entry_of t (at p).known)))))
     did_repeat : {p sender verdict : ℕ} {t : Transaction} → DeliverPasses limits p (at p) p sender verdict t
-        → (heard_from sender (entry_of t (at p).known) ≡ 0 → ⊥)
+        → (heard_from sender (entry_of t (at p).known) ≡ None → ⊥)
         → Effect (deliver p sender verdict t) (model, Ok (Again (outcome_of (entry_of t (at p).known))))
     did_turn : {p : ℕ} → TurnPasses limits p (at p) p → Effect (turn p) (replaced p (after_turn (at p)) model.log model.minted, Ok Turned)
 

@@ -7,6 +7,7 @@ use mathlib.Core.List.{List, [], ◌∷◌, ◌++◌, Memᴰ}
 use lib.Dec.{eqb}
 use lib.ListN.{length, get_or, set, replicate}
 use lib.Seq.{get_or-set_other}
+use Rattle.std.specs.Prelude.{Some, None}
 use Rattle.transaction.specs.declared.Transaction.{Transaction}
 use Rattle.transaction.specs.Lists.{any}
 use Rattle.transaction.specs.Tokens.{same_transaction}
@@ -14,7 +15,8 @@ use Rattle.transaction.proofs.Same.{same_exactly}
 use Rattle.transaction.proofs.Slots.{any_append}
 use Rattle.model.specs.declared.Known.{Known}
 use Rattle.model.specs.Lists.{find, lookup}
-use Rattle.model.specs.Steps.{is_for, nothing_known, place_of, entry_of, Ledger, vote, noted, newly_known, heard_from, after_register}
+use Rattle.model.specs.Said.{Said}
+use Rattle.model.specs.Steps.{is_for, nothing_known, place_of, entry_of, Ledger, vote, newly_known, heard_from, after_register}
 use Rattle.model.specs.Shard.{has_number, is_other, is_unknown}
 use Rattle.model.proofs.Basics.{
   eqb-eq,
@@ -248,8 +250,8 @@ module _ (p : ℕ) (l : Ledger) (t : Transaction) (unknown : any (is_for t) l.kn
       and_no false e = refl
 
   -- no other shard is heard yet
-  pub registered-unheard : (q : ℕ) → (q ≡ p → ⊥) → heard_from q (entry_of t (after_register p l t).known) ≡ 0
+  pub registered-unheard : (q : ℕ) → (q ≡ p → ⊥) → heard_from q (entry_of t (after_register p l t).known) ≡ None
   unfolding newly_known
   registered-unheard q n =
       ap (heard_from q) registered-entry
-      ∙ get_or-set_other (replicate 8 0) p q (noted (vote p l.tokens t)) 0 n ∙ get_or-same {A = ℕ} 8 0 q
+      ∙ get_or-set_other (replicate 8 None) p q (Some (vote p l.tokens t)) None n ∙ get_or-same {A = Said} 8 None q

@@ -8,6 +8,7 @@ use mathlib.Core.Option.{Option, none, some}
 use mathlib.Core.List.{List, [], ◌∷◌, Memᴰ}
 use lib.Dec.{eqb}
 use lib.ListN.{length, get_or}
+use Rattle.std.specs.Prelude.{Some, None}
 use Rattle.transaction.specs.declared.Input.{Input}
 use Rattle.transaction.specs.declared.Transaction.{Transaction}
 use Rattle.transaction.specs.Tokens.{shards_of}
@@ -17,6 +18,7 @@ use Rattle.model.specs.declared.Known.{Known}
 use Rattle.model.specs.declared.Outcome.{Outcome}
 use Rattle.model.specs.declared.Outcome.TheVariants.{Wait, Commit, Abort}
 use Rattle.model.specs.Lists.{map_option}
+use Rattle.model.specs.Said.{Said}
 use Rattle.model.specs.Steps.{
   Limits,
   Ledger,
@@ -76,16 +78,16 @@ use Rattle.model.proofs.Holdings.{
 -- ---- Votes and registrations, as the log has them
 
 -- shard q registered t, and its vote is noted as c: yes exactly if all its inputs there were available
-pub record Voted (log : List Entry) (q : ℕ) (t : Transaction) (c : ℕ) : Type 0 where
+pub record Voted (log : List Entry) (q : ℕ) (t : Transaction) (c : Said) : Type 0 where
   pub entry : Entry
   pub logged : Memᴰ entry log
   pub at : entry.shard ≡ q
   pub of : entry.transaction ≡ t
-  pub is-vote : (c ≡ 1) ⊎ (c ≡ 2)
-  pub says : (c ≡ 2) ↔ ((x : Input) → Memᴰ x (inputs_here q t) → Memᴰ x entry.available)
+  pub is-vote : (c ≡ Some false) ⊎ (c ≡ Some true)
+  pub says : (c ≡ Some true) ↔ ((x : Input) → Memᴰ x (inputs_here q t) → Memᴰ x entry.available)
 
 -- a vote stays in a longer log
-pub voted-more : {log : List Entry} {q : ℕ} {t : Transaction} {c : ℕ} (r : Entry) → Voted log q t c → Voted (r ∷ log) q t c
+pub voted-more : {log : List Entry} {q : ℕ} {t : Transaction} {c : Said} (r : Entry) → Voted log q t c → Voted (r ∷ log) q t c
 voted-more r v = record { entry = v.entry; logged = Memᴰ.tail v.logged; at = v.at; of = v.of; is-vote = v.is-vote; says = v.says }
 
 -- shard q registered t
@@ -163,8 +165,8 @@ pub record Core (log : List Entry) (p : ℕ) (tokens : List Token) (genesis : �
   pub distinct : (n : ℕ) (k : Known) → look known n ≡ some k → named_twice k.transaction ≡ false
   -- the own vote is heard, and each vote heard is the sender's own
   pub eight : (n : ℕ) (k : Known) → look known n ≡ some k → length k.heard ≡ 8
-  pub own : (n : ℕ) (k : Known) → look known n ≡ some k → heard_from p k ≡ 0 → ⊥
-  pub votes : (n : ℕ) (k : Known) → look known n ≡ some k → (q : ℕ) → (heard_from q k ≡ 0 → ⊥) → Voted log q k.transaction (heard_from q k)
+  pub own : (n : ℕ) (k : Known) → look known n ≡ some k → heard_from p k ≡ None → ⊥
+  pub votes : (n : ℕ) (k : Known) → look known n ≡ some k → (q : ℕ) → (heard_from q k ≡ None → ⊥) → Voted log q k.transaction (heard_from q k)
   -- genesis tokens have creator 0; a consumed token is gone, and any other is there if it was made
   pub zero-only : (m i : ℕ) → (m ≡ 0 → ⊥) → genesis m i ≡ none
   pub gone : (m i : ℕ) → Consumed p known m i → token_at tokens m i ≡ none
@@ -212,13 +214,13 @@ sources-at p genesis known (r₀ ∷ older) x src r (Memᴰ.head e) at a =
 sources-at p genesis known (r₀ ∷ older) x src r (Memᴰ.tail d) at a = sources-at p genesis known older x src.1 r d at a
 
 -- a yes vote found each input available
-pub voted-available : {log : List Entry} {p : ℕ} {t : Transaction} (v : Voted log p t 2) (x : Input)
+pub voted-available : {log : List Entry} {p : ℕ} {t : Transaction} (v : Voted log p t (Some true)) (x : Input)
     → Memᴰ x (inputs_here p t) → Memᴰ x v.entry.available
 voted-available v x m = v.says.0 refl x m
 
 -- so each input of a yes vote has a source
 pub sourced : (p : ℕ) (genesis : ℕ → ℕ → Option Value) (known : List Known) (log : List Entry) (t : Transaction) (x : Input) → Sources p genesis known log
-    → Voted log p t 2 → Memᴰ x (inputs_here p t) → (older : List Entry) × Source p genesis known older x
+    → Voted log p t (Some true) → Memᴰ x (inputs_here p t) → (older : List Entry) × Source p genesis known older x
 sourced p genesis known log t x src v m = sources-at p genesis known log x src v.entry v.logged v.at (voted-available v x m)
 
 -- what has a source is made
@@ -239,9 +241,9 @@ module _ {log : List Entry} {p : ℕ} {tokens : List Token} {genesis : ℕ → �
   pub consumed_made : (m i : ℕ) → Consumed p known m i → made p genesis known m i ≡ none → ⊥
   consumed_made m i d z =
       let t = taken-by p d.entry.transaction m i d.is-taken in
-      let two : heard_from p d.entry ≡ 2 = outcome_yes d.entry d.is-commit p (here-shard p d.entry.transaction t.input t.is-here).2 in
-      let v : Voted log p d.entry.transaction 2 =
-      subst (λ (v : ℕ). Voted log p d.entry.transaction v) two
+      let yes : heard_from p d.entry ≡ Some true = outcome_yes d.entry d.is-commit p (here-shard p d.entry.transaction t.input t.is-here).2 in
+      let v : Voted log p d.entry.transaction (Some true) =
+      subst (λ (c : Said). Voted log p d.entry.transaction c) yes
       (c.votes d.number d.entry d.is_known p (c.own d.number d.entry d.is_known)) in
       let s = sourced p genesis known log d.entry.transaction t.input c.sources v t.is-here in
       some≢none (source_made p genesis known s.0 t.input c.number c.zero-only s.1)
@@ -268,8 +270,8 @@ pub record Enters (log : List Entry) (p : ℕ) (known : List Known) (k : Known) 
   pub positive : k.transaction.number ≡ 0 → ⊥
   pub distinct : named_twice k.transaction ≡ false
   pub eight : length k.heard ≡ 8
-  pub own : heard_from p k ≡ 0 → ⊥
-  pub votes : (q : ℕ) → (heard_from q k ≡ 0 → ⊥) → Voted log q k.transaction (heard_from q k)
+  pub own : heard_from p k ≡ None → ⊥
+  pub votes : (q : ℕ) → (heard_from q k ≡ None → ⊥) → Voted log q k.transaction (heard_from q k)
 
 module _ {log : List Entry} {p : ℕ} {tokens : List Token} {genesis : ℕ → ℕ → Option Value} {known : List Known} (c : Core log p tokens genesis known)
     (k : Known) (tokens₁ : List Token) (en : Enters log p known k)
@@ -364,9 +366,9 @@ module _ {log : List Entry} {p : ℕ} {tokens : List Token} {genesis : ℕ → �
   commit-made : outcome_of k ≡ Commit → (m i : ℕ) → taken p k.transaction m i ≡ true → made p genesis known m i ≡ none → ⊥
   commit-made y m i t z =
       let w = taken-by p k.transaction m i t in
-      let two : heard_from p k ≡ 2 = outcome_yes k y p (here-shard p k.transaction w.input w.is-here).2 in
+      let yes : heard_from p k ≡ Some true = outcome_yes k y p (here-shard p k.transaction w.input w.is-here).2 in
       let s = sourced p genesis known log k.transaction w.input c.sources
-      (subst (λ (v : ℕ). Voted log p k.transaction v) two (en.votes p en.own)) w.is-here in
+      (subst (λ (c : Said). Voted log p k.transaction c) yes (en.votes p en.own)) w.is-here in
       some≢none (source_made p genesis known s.0 w.input c.number c.zero-only s.1)
       ((λ j. made p genesis known (w.is_creator j) (w.is-index j)) ∙ z)
 
@@ -438,8 +440,8 @@ module _ {log : List Entry} {p : ℕ} {tokens : List Token} {genesis : ℕ → �
     number = look-put-elim (λ n j. n ≡ 0 → ⊥) k known en.positive c.number;
     distinct = look-put-elim (λ n j. named_twice j.transaction ≡ false) k known en.distinct c.distinct;
     eight = look-put-elim (λ n j. length j.heard ≡ 8) k known en.eight c.eight;
-    own = look-put-elim (λ n j. heard_from p j ≡ 0 → ⊥) k known en.own c.own;
-    votes = look-put-elim (λ n j. (q : ℕ) → (heard_from q j ≡ 0 → ⊥) → Voted log q j.transaction (heard_from q j)) k known en.votes c.votes;
+    own = look-put-elim (λ n j. heard_from p j ≡ None → ⊥) k known en.own c.own;
+    votes = look-put-elim (λ n j. (q : ℕ) → (heard_from q j ≡ None → ⊥) → Voted log q j.transaction (heard_from q j)) k known en.votes c.votes;
     zero-only = c.zero-only;
     gone = gone-new;
     there = there-new;

@@ -1,5 +1,6 @@
--- What is proved of the model. Laws of lists and lookups: Basics, Lookups. Laws of the definitions: Entries (known transactions), Outcomes (decisions),
--- Holdings (tokens), Refusals (what a table that refuses nothing says), Effects (what a call can do). The invariant: Invariant (one shard),
+-- What is proved of the model. Laws of lists, lookups and verdicts heard: Basics, Lookups, Said. Laws of the definitions: Entries (known
+-- transactions), Outcomes (decisions), Holdings (tokens), Refusals (what a table that refuses nothing says), Effects (what a call can do).
+-- The invariant: Invariant (one shard),
 -- Local (what each part of the local step yields), Steps (every list of calls).
 -- Demand 3: Decisions, Spending and Serial (the serial ledger), Order, and whole in Theorem; Bridge carries it to code.
 -- Further laws: Votes (how many bring a decision), OneNo (the abort that one no brings), Turned (aborts that free tokens), Capacity (the limits),
@@ -8,6 +9,7 @@
 -- Examples plays cases of the papers.
 pub mod Basics
 pub mod Lookups
+pub mod Said
 pub mod Entries
 pub mod Outcomes
 pub mod Holdings

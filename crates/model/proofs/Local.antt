@@ -3,17 +3,20 @@
 use Prim.Native.Nat.{ℕ}
 use mathlib.Core.Path.{◌≡◌, refl, ap, sym, ◌∙◌, subst}
 use mathlib.Core.Logic.{◌↔◌}
-use mathlib.Core.Bool.{Bool, true, false}
+use mathlib.Core.Bool.{true, false}
 use mathlib.Core.List.{List, Memᴰ}
 use lib.Dec.{eqb}
 use lib.ListN.{length}
+use Rattle.std.specs.Prelude.{Some}
+use Rattle.std.proofs.lemmas.Option.{same_Some}
 use Rattle.transaction.specs.declared.Input.{Input}
 use Rattle.transaction.specs.declared.Transaction.{Transaction}
 use Rattle.transaction.specs.Tokens.{used_inputs}
 use Rattle.model.specs.declared.Token.{Token}
-use Rattle.model.specs.Steps.{inputs_here, named_by, available, available_here, pledged_to, named_in, pledges, vote, noted}
+use Rattle.model.specs.Said.{Said}
+use Rattle.model.specs.Steps.{inputs_here, named_by, available, available_here, pledged_to, named_in, pledges, vote}
 use Rattle.model.specs.Demand.{token_at}
-use Rattle.model.proofs.Basics.{eqb-eq, eqb_same, eqb_apart, both, some_inj, all_of, any-no, keep_in, keep_out, keep_all, all-kept}
+use Rattle.model.proofs.Basics.{eqb-eq, eqb_same, both, some_inj, all_of, any-no, keep_in, keep_out, keep_all, all-kept}
 use Rattle.model.proofs.Holdings.{NoTwice, here-shard, in_here, tok_name, Available, available-token, tok_pledged, tok_unpledged}
 use Rattle.model.proofs.Invariant.{Pledged}
 
@@ -84,13 +87,9 @@ module _ (p : ℕ) (tokens : List Token) (t : Transaction) where
   vote-counts = all-kept (available tokens) (inputs_here p t)
 
   -- and, as it is noted, exactly if each of I(S, τ) is in D(S, τ)
-  pub vote-says : (noted (vote p tokens t) ≡ 2) ↔ ((x : Input) → Memᴰ x (inputs_here p t) → Memᴰ x (available_here p tokens t))
+  pub vote-says : ◌≡◌ {A = Said} (Some (vote p tokens t)) (Some true) ↔ ((x : Input) → Memᴰ x (inputs_here p t) → Memᴰ x (available_here p tokens t))
   unfolding vote
   vote-says = (
-    λ e. yes-finds (yes_of (vote p tokens t) e),
-    λ h. ap noted (all_of (available tokens) (inputs_here p t) (λ x m. ((available-here x).0 (h x m)).1)),
+    λ e. yes-finds (same_Some (vote p tokens t) true e),
+    λ h. ap Some (all_of (available tokens) (inputs_here p t) (λ x m. ((available-here x).0 (h x m)).1)),
   )
-    where
-      yes_of : (b : Bool) → noted b ≡ 2 → b ≡ true
-      yes_of true e = refl
-      yes_of false e = absurd (eqb_apart {m = 1} {n = 2} refl e)

@@ -39,7 +39,6 @@ use Rattle.model.specs.Shard.{Call, mint, register, deliver, is_undecided, if_un
 use Rattle.model.specs.Cluster.{ledger_at, at_shard, cluster_step}
 use Rattle.model.specs.Model.{play}
 use Rattle.model.specs.Demand.{outcome_at, heard_all_at, WasAvailable}
-use Rattle.model.proofs.Basics.{eqb_yes}
 use Rattle.model.proofs.Outcomes.{abort_stays}
 use Rattle.model.proofs.Refusals.{shard-below, part_in}
 use Rattle.model.proofs.Effects.{
@@ -57,7 +56,7 @@ use Rattle.model.proofs.Effects.{
 use Rattle.model.proofs.Steps.{play-inv}
 use Rattle.model.proofs.Decisions.{decided_exact, all_in-at}
 use Rattle.model.proofs.Votes.{own-no, own-yes}
-use Rattle.std.specs.Prelude.{Ok}
+use Rattle.std.specs.Prelude.{None, is_some, Ok}
 
 -- ---- What a registration is answered
 
@@ -112,7 +111,7 @@ abort_awaited me x k e = ap (λ (o : Outcome). is_undecided o && any (names x) (
 
 -- a later fresh vote is noted and answers HEARD ABORT; the tokens are those of an abort, and so as they were (Turned: `late_vote_in`)
 pub late-vote : (me : ℕ) (ledger : Ledger) (sender verdict : ℕ) (t : Transaction)
-    → heard_from sender (entry_of t ledger.known) ≡ 0 → outcome_of (entry_of t ledger.known) ≡ Abort
+    → heard_from sender (entry_of t ledger.known) ≡ None → outcome_of (entry_of t ledger.known) ≡ Abort
     → hear me ledger sender verdict t
     ≡ (
       holding ledger (ended ledger.turned Abort (entry_of t ledger.known).transaction.number ledger.tokens)
@@ -125,9 +124,8 @@ late-vote me ledger sender verdict t fresh e =
     let heard : Known = hearing sender verdict k in
     let known : List Known = set ledger.known (place_of t ledger.known) heard in
     let stays : outcome_of heard ≡ Abort = abort_stays k sender verdict fresh e in
-    λ i. cond (eqb_yes fresh i)
+    λ i. cond (is_some (fresh i)) (ledger, Ok (Again (outcome_of k)))
     (holding ledger (concluded ledger.turned (stays i) me k.transaction ledger.tokens) known, Ok (Heard (stays i)))
-    (ledger, Ok (Again (outcome_of k)))
 
 -- ---- The commit rule, sooner
 

@@ -15,6 +15,7 @@ use Rattle.transaction.specs.Checks.{shard_fits, index_fits, value_fits, counts_
 use Rattle.transaction.proofs.Causes.{counts}
 use Rattle.transaction.proofs.Tables.{first-behind}
 use Rattle.model.specs.declared.Known.{Known}
+use Rattle.model.specs.Said.{Said}
 use Rattle.model.specs.Steps.{Limits, Ledger, is_for, entry_of, heard_from, outputs_here, after_register}
 use Rattle.model.specs.Shard.{
   has_number,
@@ -33,7 +34,7 @@ use Rattle.model.specs.Shard.{
 }
 use Rattle.model.proofs.Basics.{eqb-eq, eqb_apart, both, not-no, not_is, passed, first-append, any_at, eqb_yes, first-none}
 use Rattle.model.proofs.Entries.{whole-known, new-number, registered-known, registered-unheard, known-number, registered-alone}
-use Rattle.std.specs.Prelude.{Ok}
+use Rattle.std.specs.Prelude.{None, Ok}
 
 -- ---- Parts of the field checks
 
@@ -237,14 +238,14 @@ module _ {limits : Limits} {me : ℕ} {ledger : Ledger} {receiver sender verdict
   pub brought-registers : RegisterPasses limits me ledger receiver t
   brought-registers = register-passes limits me ledger receiver t h.registers
 
-  pub brought-fresh : heard_from sender (entry_of t (after_register me ledger t).known) ≡ 0
+  pub brought-fresh : heard_from sender (entry_of t (after_register me ledger t).known) ≡ None
   brought-fresh = registered-unheard me ledger t brought-registers.unknown sender h.from-other
 
   pub brought-hears : DeliverPasses limits me (after_register me ledger t) receiver sender verdict t
   brought-hears = record {
     passes = h.passes;
     is_known = registered-known me ledger t brought-registers.unknown;
-    no-clash = ap (λ (heard : ℕ). other_verdict heard verdict) brought-fresh;
+    no-clash = ap (λ (heard : Said). other_verdict heard verdict) brought-fresh;
   }
 
   -- its number is known then

@@ -6,6 +6,7 @@ use mathlib.Core.Logic.{◌⊎◌, inl, inr, ⊎_elim}
 use mathlib.Core.Bool.{Bool, true, false, cond, ◌&&◌, ◌||◌, not}
 use mathlib.Core.Option.{Option, none, some}
 use mathlib.Core.List.{List, [], ◌∷◌, Memᴰ}
+use Rattle.std.specs.Prelude.{Some}
 use Rattle.transaction.specs.declared.TokenId.{TokenId}
 use Rattle.transaction.specs.declared.Input.{Input}
 use Rattle.transaction.specs.declared.Transaction.{Transaction}
@@ -134,7 +135,7 @@ module _ (limits : Limits) (model : Model) (w : Inv limits model) where
   -- ---- Committed transactions
 
   -- each shard of one voted yes, and knows it
-  voted-commit : (t : Transaction) → committed model t ≡ true → (q : ℕ) → Memᴰ q (shards_of t) → Voted model.log q t 2
+  voted-commit : (t : Transaction) → committed model t ≡ true → (q : ℕ) → Memᴰ q (shards_of t) → Voted model.log q t (Some true)
   voted-commit t c q m = let r = commit-at limits model w t c in commit-votes limits model w r.0 t r.1 q m
 
   -- a transaction that a shard knows
@@ -193,7 +194,7 @@ module _ (limits : Limits) (model : Model) (w : Inv limits model) where
 
   -- a committed transaction that no newer entry is of is registered in the rest
   in_rest : (newer rest : List Entry) → Split newer rest → (t : Transaction) → committed model t ≡ true → is_last newer t ≡ true
-      → (q : ℕ) → Memᴰ q (shards_of t) → Voted rest q t 2
+      → (q : ℕ) → Memᴰ q (shards_of t) → Voted rest q t (Some true)
   in_rest newer rest s t c u q m =
       let v = voted-commit t c q m in
       let d : Memᴰ v.entry rest = ⊎_elim (λ d. absurd (last_entry newer t u v.entry d v.of)) (λ d. d) (s.all v.entry v.logged) in

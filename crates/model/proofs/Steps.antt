@@ -1,5 +1,5 @@
 -- The invariant holds after every list of calls, and what a shard knows stays known.
-use Prim.Native.Nat.{ℕ, suc, ◌+◌, ◌<◌}
+use Prim.Native.Nat.{ℕ, suc, ◌<◌}
 use native.Mathlib.Omega.{arith}
 use mathlib.Core.Path.{◌≡◌, refl, ap, sym, ◌∙◌, subst}
 use mathlib.Core.Logic.{◌⊎◌, inl, inr, ⊎_elim}
@@ -9,6 +9,8 @@ use mathlib.Core.List.{List, [], ◌∷◌, ◌++◌, Memᴰ}
 use lib.Dec.{eqb}
 use lib.ListN.{length, get_or, set, replicate, length-set, length-replicate}
 use lib.Seq.{get_or-set_same, get_or-set_other, set-set}
+use Rattle.std.specs.Prelude.{Some, None}
+use Rattle.std.proofs.lemmas.Option.{none-some}
 use Rattle.transaction.specs.declared.Input.{Input}
 use Rattle.transaction.specs.declared.Transaction.{Transaction}
 use Rattle.transaction.specs.Lists.{any}
@@ -21,6 +23,7 @@ use Rattle.model.specs.declared.Outcome.TheVariants.{Wait, Commit, Abort}
 use Rattle.model.specs.Answers.{Answer}
 use Rattle.model.specs.declared.Done.TheVariants.{Registered, Heard}
 use Rattle.model.specs.Lists.{map_option}
+use Rattle.model.specs.Said.{Said, says}
 use Rattle.model.specs.Steps.{
   Limits,
   Ledger,
@@ -30,7 +33,6 @@ use Rattle.model.specs.Steps.{
   available_here,
   pledges,
   vote,
-  noted,
   findings,
   keeping,
   known_with,
@@ -81,6 +83,7 @@ use Rattle.model.proofs.Basics.{
 }
 use Rattle.model.proofs.Lookups.{lookup-append, alone-append}
 use Rattle.model.proofs.Entries.{same-eq, look, mem-look, put, look-put-same, look-put-other, append-put, set-put, number-unknown, entry-look}
+use Rattle.model.proofs.Said.{says-verdict}
 use Rattle.model.proofs.Outcomes.{outcome_yes, abort_stays}
 use Rattle.model.proofs.Holdings.{id_of, mem_tok, value_pledges, no_twice_pledges}
 use Rattle.model.proofs.Invariant.{
@@ -167,7 +170,7 @@ pub record Inv (limits : Limits) (model : Model) : Type 0 where
 -- what a shard knows stays known, with the votes heard
 unfoldable pub Grows : List Known → List Known → Type 0
 Grows l l' = (n : ℕ) (k : Known) → look l n ≡ some k
-    → (k' : Known) × (look l' n ≡ some k') × (k'.transaction ≡ k.transaction) × ((q : ℕ) → (heard_from q k ≡ 0 → ⊥) → heard_from q k' ≡ heard_from q k)
+    → (k' : Known) × (look l' n ≡ some k') × (k'.transaction ≡ k.transaction) × ((q : ℕ) → (heard_from q k ≡ None → ⊥) → heard_from q k' ≡ heard_from q k)
 
 -- where nothing changes
 grows-refl : (l : List Known) → Grows l l
@@ -240,8 +243,8 @@ made_source {log} {p} {tokens} {genesis} {known} c x e = go (case_o (genesis x.t
         last Wait w y = some≢none y refl
         last Abort w y = some≢none y refl
         last Commit w y = from-commit k z w y (λ q a.
-            let two : heard_from q k ≡ 2 = outcome_yes k w q a in
-            let v = c.votes m k z q (λ z. eqb_apart {m = 0} {n = 2} refl (sym z ∙ two)) in
+            let yes : heard_from q k ≡ Some true = outcome_yes k w q a in
+            let v = c.votes m k z q (λ z. none-some true (sym z ∙ yes)) in
             record { entry = v.entry; logged = v.logged; at = v.at; of = v.of })
 
     go : CaseO (genesis x.token.creator x.token.index) → Source p genesis known log x
@@ -250,15 +253,10 @@ made_source {log} {p} {tokens} {genesis} {known} c x e = go (case_o (genesis x.t
 
 -- ---- The verdict as it is noted
 
--- a verdict is noted as 1 or 2
-noted_cases : (b : Bool) → (noted b ≡ 1) ⊎ (noted b ≡ 2)
+-- a verdict is no or yes
+noted_cases : (b : Bool) → ◌≡◌ {A = Said} (Some b) (Some false) ⊎ ◌≡◌ {A = Said} (Some b) (Some true)
 noted_cases true = inr refl
 noted_cases false = inl refl
-
--- and never as 0
-noted-positive : (b : Bool) → noted b ≡ 0 → ⊥
-noted-positive true e = eqb_apart {m = 2} {n = 0} refl e
-noted-positive false e = eqb_apart {m = 1} {n = 0} refl e
 
 -- ---- A registration
 
@@ -293,10 +291,10 @@ module _ {limits : Limits} {log : List Entry} {p : ℕ} {genesis : ℕ → ℕ �
     still = λ j e y. some≢none e unknown;
     positive = positive;
     distinct = distinct;
-    eight = length-set (replicate 8 0) p (noted (vote p l.tokens t));
-    own = set-elim (λ q c. q ≡ p → c ≡ 0 → ⊥) (replicate 8 0) 0 p (noted (vote p l.tokens t)) below
-        (λ _ z. noted-positive (vote p l.tokens t) z) (λ q n e z. n e) p refl;
-    votes = set-elim (λ q c. (c ≡ 0 → ⊥) → Voted (r ∷ log) q t c) (replicate 8 0) 0 p (noted (vote p l.tokens t)) below
+    eight = length-set (replicate 8 None) p (Some (vote p l.tokens t));
+    own = set-elim (λ q c. q ≡ p → c ≡ None → ⊥) (replicate 8 None) None p (Some (vote p l.tokens t)) below
+        (λ _ z. none-some (vote p l.tokens t) (sym z)) (λ q n e z. n e) p refl;
+    votes = set-elim (λ q c. (c ≡ None → ⊥) → Voted (r ∷ log) q t c) (replicate 8 None) None p (Some (vote p l.tokens t)) below
         (λ h. record {
           entry = r;
           logged = mathlib.Core.List.Memᴰ.head refl;
@@ -306,7 +304,7 @@ module _ {limits : Limits} {log : List Entry} {p : ℕ} {genesis : ℕ → ℕ �
               noted_cases (vote p l.tokens t);
           says = vote-says p l.tokens t;
         })
-        (λ q n h. absurd (h (get_or-same 8 0 q)));
+        (λ q n h. absurd (h (get_or-same 8 None q)));
   }
 
   -- pledges change no value
@@ -414,7 +412,7 @@ module _ {limits : Limits} {log : List Entry} {p : ℕ} {genesis : ℕ → ℕ �
 
 module _ {limits : Limits} {log : List Entry} {p : ℕ} {genesis : ℕ → ℕ → Option Value} {l : Ledger} (o : Ok limits log p genesis l) (t : Transaction)
     (known : any (is_for t) l.known ≡ true) (q v : ℕ) (below : q < 8)
-    (unheard : heard_from q (entry_of t l.known) ≡ 0) (member : Memᴰ q (shards_of t)) (given-vote : Voted log q t (v + 1)) where
+    (unheard : heard_from q (entry_of t l.known) ≡ None) (member : Memᴰ q (shards_of t)) (given-vote : Voted log q t (Some (eqb v 1))) where
   -- the entry before the vote
   abbrev k₀ : Known
   k₀ = entry_of t l.known
@@ -444,18 +442,18 @@ module _ {limits : Limits} {log : List Entry} {p : ℕ} {genesis : ℕ → ℕ �
   enters₂ = record {
     undecided = λ j e y.
         let same-k : k₀ ≡ j = some_inj (sym is_known ∙ ap (look l.known) (sym num) ∙ e) in
-        eqb_apart {m = 0} {n = 2} refl
+        none-some true
         (sym unheard ∙ outcome_yes k₀ (ap outcome_of same-k ∙ y) q (subst (λ (a : Transaction). Memᴰ q (shards_of a)) (sym whole) member));
     still = λ j e y.
         let same-k : k₀ ≡ j = some_inj (sym is_known ∙ ap (look l.known) (sym num) ∙ e) in
         abort_stays k₀ q v unheard (ap outcome_of same-k ∙ y);
     positive = λ e. o.core.number t.number k₀ is_known (sym num ∙ e);
     distinct = o.core.distinct t.number k₀ is_known;
-    eight = length-set k₀.heard q (v + 1) ∙ o.core.eight t.number k₀ is_known;
-    own = set-elim (λ a c. a ≡ p → c ≡ 0 → ⊥) k₀.heard 0 q (v + 1) long (λ _ z. omega arith)
+    eight = length-set k₀.heard q (Some (eqb v 1)) ∙ o.core.eight t.number k₀ is_known;
+    own = set-elim (λ a c. a ≡ p → c ≡ None → ⊥) k₀.heard None q (Some (eqb v 1)) long (λ _ z. none-some (eqb v 1) (sym z))
         (λ a n e z. o.core.own t.number k₀ is_known (ap (λ (b : ℕ). heard_from b k₀) (sym e) ∙ z)) p refl;
-    votes = set-elim (λ a c. (c ≡ 0 → ⊥) → Voted log a k₀.transaction c) k₀.heard 0 q (v + 1) long
-        (λ h. subst (λ (a : Transaction). Voted log q a (v + 1)) (sym whole) given-vote)
+    votes = set-elim (λ a c. (c ≡ None → ⊥) → Voted log a k₀.transaction c) k₀.heard None q (Some (eqb v 1)) long
+        (λ h. subst (λ (a : Transaction). Voted log q a (Some (eqb v 1))) (sym whole) given-vote)
         (λ a n h. o.core.votes t.number k₀ is_known a h);
   }
 
@@ -511,14 +509,14 @@ module _ {limits : Limits} {log : List Entry} {p : ℕ} {genesis : ℕ → ℕ �
 
       go : Case (eqb k₀.transaction.number n)
           → (k'' : Known) × (look (set l.known (place_of t l.known) k') n ≡ some k'')
-          × (k''.transaction ≡ j.transaction) × ((a : ℕ) → (heard_from a j ≡ 0 → ⊥) → heard_from a k'' ≡ heard_from a j)
+          × (k''.transaction ≡ j.transaction) × ((a : ℕ) → (heard_from a j ≡ None → ⊥) → heard_from a k'' ≡ heard_from a j)
       go (yes-case y) =
           let en : k₀.transaction.number ≡ n = eqb-eq k₀.transaction.number n y in
           let same-k : k₀ ≡ j = some_inj (sym is_known ∙ ap (look l.known) (sym num ∙ en) ∙ e) in (
             k',
             moved ∙ look-put-same k' l.known en,
             ap (λ (c : Known). c.transaction) same-k,
-            set-elim (λ a c. (heard_from a j ≡ 0 → ⊥) → c ≡ heard_from a j) k₀.heard 0 q (v + 1) long
+            set-elim (λ a c. (heard_from a j ≡ None → ⊥) → c ≡ heard_from a j) k₀.heard None q (Some (eqb v 1)) long
                 (λ h. absurd (h (ap (heard_from q) (sym same-k) ∙ unheard)))
                 (λ a n h. ap (heard_from a) same-k),
           )
@@ -640,18 +638,18 @@ stay {limits} {model} w = record { inv = w; grows = λ p. grows-refl (ledger_at 
 
 -- what a sender has given is its vote in the log
 pub gave-vote : (limits : Limits) (model : Model) → Inv limits model → (q v : ℕ) (t : Transaction)
-    → gave (ledger_at limits model.shards q) q v t ≡ true → Voted model.log q t (v + 1)
+    → gave (ledger_at limits model.shards q) q v t ≡ true → Voted model.log q t (Some (eqb v 1))
 unfolding gave
 gave-vote limits model w q v t e =
     let l : Ledger = ledger_at limits model.shards q in
     let r = any_at (has_given q v t) l.known e in
     let k : Known = r.0 in
-    let y = both (is_for t k) (eqb (heard_from q k) (v + 1)) r.2 in
-    let c : heard_from q k ≡ v + 1 = eqb-eq (heard_from q k) (v + 1) y.1 in
+    let y = both (is_for t k) (says (heard_from q k) v) r.2 in
+    let c : heard_from q k ≡ Some (eqb v 1) = says-verdict (heard_from q k) v y.1 in
     let x = (w.at q).core.votes k.transaction.number k (mem-look l.known (w.at q).core.one_each r.1) q
-    (λ z. let n : v + 1 ≡ 0 = sym c ∙ z in omega arith) in
-    subst (λ (a : Transaction). Voted model.log q a (v + 1)) (same-eq k.transaction t y.0)
-    (subst (λ (a : ℕ). Voted model.log q k.transaction a) c x)
+    (λ z. none-some (eqb v 1) (sym z ∙ c)) in
+    subst (λ (a : Transaction). Voted model.log q a (Some (eqb v 1))) (same-eq k.transaction t y.0)
+    (subst (λ (a : Said). Voted model.log q k.transaction a) c x)
 
 -- not there
 is-none-of : {A : Type 0} (o : Option A) → is_some o ≡ false → o ≡ none
@@ -718,7 +716,7 @@ module _ (limits : Limits) (place : ℕ) (model : Model) (w : Inv limits model) 
       let known : any (is_for t) (at p).known ≡ true = h.is_known in
       let from : q < 8 = shard-below q h.passes.sender-fits in
       let member : Memᴰ q (shards_of t) = part_in q t h.passes.sender-part in
-      let given : Voted model.log q t (v + 1) = gave-vote limits model w q v t g in
+      let given : Voted model.log q t (Some (eqb v 1)) = gave-vote limits model w q v t g in
       replaced_next p (after_vote p (at p) q v t) model.log model.minted h.passes.form.receiver_fits
       (vote_ok (w.at p) t known q v from z member given) (λ a n. w.at a) w.logged (vote-grows (w.at p) t known q v from z member given)
 
@@ -757,7 +755,7 @@ module _ (limits : Limits) (place : ℕ) (model : Model) (w : Inv limits model) 
         let passes : DeliverPasses limits p (ledger_at limits between.shards p) p sender verdict t =
         subst (λ (l : Ledger). DeliverPasses limits p l p sender verdict t) (sym here) (brought-hears h) in
         let gives : gave (ledger_at limits between.shards sender) sender verdict t ≡ true = ap (λ (l : Ledger). gave l sender verdict t) others ∙ given in
-        let fresh : heard_from sender (entry_of t (ledger_at limits between.shards p).known) ≡ 0 =
+        let fresh : heard_from sender (entry_of t (ledger_at limits between.shards p).known) ≡ None =
         ap (λ (l : Ledger). heard_from sender (entry_of t l.known)) here ∙ brought-fresh h in
         let once : List Ledger = set between.shards p (after_vote p registered sender verdict t) in
         let done : Effect limits place between (deliver p sender verdict t) (heard registered once) =

@@ -1,5 +1,5 @@
 -- The tables of refusals: a call from what its table answers, the one table of a vote at a cluster, and 12 and 11, which a cluster never answers.
-use Prim.Native.Nat.{ℕ, suc, ◌+◌}
+use Prim.Native.Nat.{ℕ, suc}
 use native.Mathlib.Omega.{arith}
 use mathlib.Core.Path.{◌≡◌, refl, ap, sym, ◌∙◌, subst}
 use mathlib.Core.Logic.{◌≢◌}
@@ -14,6 +14,7 @@ use Rattle.transaction.specs.Checks.{shard_fits, index_fits, value_fits, mint_fi
 use Rattle.model.specs.declared.Known.{Known}
 use Rattle.model.specs.Answers.{Answer}
 use Rattle.model.specs.declared.Done.TheVariants.{Minted, Registered, Heard, Again, Turned}
+use Rattle.model.specs.Said.{Said, says}
 use Rattle.model.specs.Steps.{
   Limits,
   Ledger,
@@ -57,27 +58,14 @@ use Rattle.model.specs.Shard.{
 }
 use Rattle.model.specs.Cluster.{ledger_at, gave, not_given, at_shard, cluster_step, has_given}
 use Rattle.model.specs.Model.{Model, play, empty_model, step, answers, play_answers}
-use Rattle.model.proofs.Basics.{
-  eqb_same,
-  eqb_apart,
-  both,
-  not-no,
-  not_is,
-  clash,
-  is_row,
-  passed,
-  number_behind,
-  eqb-eq,
-  never_answers,
-  any_at,
-  any_of,
-}
+use Rattle.model.proofs.Basics.{eqb_same, both, not-no, not_is, clash, is_row, passed, number_behind, eqb-eq, never_answers, any_at, any_of}
+use Rattle.model.proofs.Said.{something-said, says-verdict}
 use Rattle.model.proofs.Entries.{whole-known, entry-look, known-number}
 use Rattle.model.proofs.Invariant.{Voted}
 use Rattle.model.proofs.Effects.{was-given, deliver-elim}
 use Rattle.model.proofs.Steps.{Inv, play-inv, gave-vote}
 use Rattle.model.proofs.Decisions.{voted-same}
-use Rattle.std.specs.Prelude.{Result, Ok, Err, is_ok}
+use Rattle.std.specs.Prelude.{Some, is_some, Result, Ok, Err, is_ok}
 use Rattle.transaction.specs.declared.refusal.Refusal.{Refusal}
 use Rattle.transaction.specs.declared.refusal.Refusal.TheVariants.{OutOfRange, NumberTaken, NumberUnknown, OtherVerdict, VoteNotGiven}
 
@@ -161,11 +149,13 @@ cluster_deliver limits shards p sender verdict t =
 
 -- ---- Refusal 12 is met at a lone shard only: in a cluster, a sender that has given a vote has given no other
 
--- the other verdict is neither none nor this one
-other-clash : (heard verdict : ℕ) → other_verdict heard verdict ≡ true → (heard ≡ 0 → ⊥) × (heard ≡ verdict + 1 → ⊥)
-other-clash heard verdict e =
-    let r = both (not (eqb heard 0)) (not (eqb heard (verdict + 1))) e in
-    (eqb_apart (not_is r.0), eqb_apart (not_is r.1))
+-- who has given a vote has it noted, yes or no
+gave-says : (ledger : Ledger) (sender verdict : ℕ) (t : Transaction) → gave ledger sender verdict t ≡ true → says (Some (eqb verdict 1)) verdict ≡ true
+unfolding gave
+gave-says ledger sender verdict t e =
+    let r = any_at (has_given sender verdict t) ledger.known e in
+    let y = both (is_for t r.0) (says (heard_from sender r.0) verdict) r.2 in
+    ap (λ (c : Said). says c verdict) (sym (says-verdict (heard_from sender r.0) verdict y.1)) ∙ y.1
 
 -- the votes that shards have heard and given are of one mind
 no-other_verdict : (limits : Limits) (model : Model) → Inv limits model → (p sender verdict : ℕ) (t : Transaction)
@@ -175,10 +165,12 @@ no-other_verdict : (limits : Limits) (model : Model) → Inv limits model → (p
 no-other_verdict limits model w p sender verdict t known given other =
     let l : List Known = (ledger_at limits model.shards p).known in
     let r = entry-look t l (w.at p).core.one_each known in
-    let h = other-clash (heard_from sender (entry_of t l)) verdict other in
-    let v = subst (λ (s : Transaction). Voted model.log sender s (heard_from sender (entry_of t l))) r.1
-    ((w.at p).core.votes t.number (entry_of t l) r.0 sender h.0) in
-    h.1 (voted-same limits model w sender t (heard_from sender (entry_of t l)) (verdict + 1) v (gave-vote limits model w sender verdict t given))
+    let c : Said = heard_from sender (entry_of t l) in
+    let h = both (is_some c) (not (says c verdict)) other in
+    let v = subst (λ (s : Transaction). Voted model.log sender s c) r.1
+    ((w.at p).core.votes t.number (entry_of t l) r.0 sender (something-said c h.0)) in
+    let same : c ≡ Some (eqb verdict 1) = voted-same limits model w sender t c (Some (eqb verdict 1)) v (gave-vote limits model w sender verdict t given) in
+    clash (ap (λ (c : Said). says c verdict) same ∙ gave-says (ledger_at limits model.shards sender) sender verdict t given) (not_is h.1)
 
 module _ (limits : Limits) (p : ℕ) (ledger : Ledger) (sender verdict : ℕ) (t : Transaction) where
   -- the two tables of what the ledger says
@@ -194,7 +186,7 @@ module _ (limits : Limits) (p : ℕ) (ledger : Ledger) (sender verdict : ℕ) (t
   unfolding shard_step hear bring
   deliver-number refusal e =
       unless-number (first_of (deliver_refusals limits p ledger p sender verdict t)) ledger (delivered p ledger sender verdict t) refusal
-      (carried (is_unknown t ledger.known) (eqb (heard_from sender (entry_of t ledger.known)) 0)) e
+      (carried (is_unknown t ledger.known) (is_some (heard_from sender (entry_of t ledger.known)))) e
     where
       fresh : Ledger × Answer
       fresh = (after_vote p ledger sender verdict t, Ok (Heard (outcome_of (hearing sender verdict (entry_of t ledger.known)))))
@@ -202,7 +194,7 @@ module _ (limits : Limits) (p : ℕ) (ledger : Ledger) (sender verdict : ℕ) (t
       again : Ledger × Answer
       again = (ledger, Ok (Again (outcome_of (entry_of t ledger.known))))
 
-      carried : (a b : Bool) → (cond a (bring p ledger sender verdict t) (cond b fresh again)).1 ≢ Err refusal
+      carried : (a b : Bool) → (cond a (bring p ledger sender verdict t) (cond b again fresh)).1 ≢ Err refusal
       carried true b e = let z : ◌≡◌ {A = ℕ} 0 1 = cc in omega arith
       carried false true e = let z : ◌≡◌ {A = ℕ} 0 1 = cc in omega arith
       carried false false e = let z : ◌≡◌ {A = ℕ} 0 1 = cc in omega arith
@@ -275,7 +267,7 @@ gave-known : (ledger : Ledger) (sender verdict : ℕ) (t : Transaction) → gave
 unfolding gave
 gave-known ledger sender verdict t e =
     let r = any_at (has_given sender verdict t) ledger.known e in
-    let y = both (is_for t r.0) (eqb (heard_from sender r.0) (verdict + 1)) r.2 in
+    let y = both (is_for t r.0) (says (heard_from sender r.0) verdict) r.2 in
     ap not (known-number t ledger.known (any_of (is_for t) r.1 y.0))
 
 -- no call of a cluster is answered with 11, whatever its shards hold

@@ -84,7 +84,7 @@ use Rattle.model.proofs.Steps.{Inv, Grows, at_one, step-next, Keeps, play-keeps,
 use Rattle.model.proofs.Capacity.{mem-set}
 use Rattle.model.proofs.Laws.{after-append}
 use Rattle.model.proofs.Turned.{when_back, freeing-back, settle-back, ended-back}
-use Rattle.std.specs.Prelude.{Ok}
+use Rattle.std.specs.Prelude.{Some, Ok}
 use Rattle.model.proofs.Reported.{refused_by, vote-findings, findings-length, few-inputs, kept_back, findings-states, report-number, report-told, told-known}
 
 -- ---- What a pledge names is known
@@ -408,7 +408,7 @@ module _ (limits : Limits) (calls : List Call) (p : ℕ) (k : Known) (known : Me
       ∙ kept_back found_before (let few = registration.taken.few in omega arith)
 
   -- the own vote that is heard is the one of the registration
-  own-heard : (heard_from p k ≡ 2) ↔ (vote p held k.transaction ≡ true)
+  own-heard : (heard_from p k ≡ Some true) ↔ (vote p held k.transaction ≡ true)
   unfolding vote
   own-heard =
       let t = k.transaction in
@@ -418,7 +418,7 @@ module _ (limits : Limits) (calls : List Call) (p : ℕ) (k : Known) (known : Me
       let own = core.votes t.number k here p (core.own t.number k here) in
       let logged = entry_for limits (suc (length registration.before)) (play limits registration.before).shards p t in
       let same : own.entry ≡ logged = w.logged.unique own.entry logged own.logged registration.taken.logged own.at own.of in
-      let says = subst (λ (e : Entry). (heard_from p k ≡ 2) ↔ ((x : Input) → Memᴰ x (inputs_here p t) → Memᴰ x e.available)) same own.says in (
+      let says = subst (λ (e : Entry). (heard_from p k ≡ Some true) ↔ ((x : Input) → Memᴰ x (inputs_here p t) → Memᴰ x e.available)) same own.says in (
         λ two. all_of (available held) (inputs_here p t) (λ x m. ((available-here p held t x).0 (says.0 two x m)).1),
         λ yes-here. says.1 (yes-finds p held t yes-here),
       )

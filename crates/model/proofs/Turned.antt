@@ -92,7 +92,7 @@ use Rattle.model.proofs.Refusals.{number-positive}
 use Rattle.model.proofs.Effects.{Effect, did_refuse, did_mint, did_register, did_hear, did_repeat, did_turn}
 use Rattle.model.proofs.Steps.{Inv, play-inv, at_one, play-keeps, play-longer}
 use Rattle.model.proofs.OneNo.{late-vote}
-use Rattle.std.specs.Prelude.{Ok as carried}
+use Rattle.std.specs.Prelude.{None, Ok as carried}
 
 -- ---- What turning leaves as it was
 
@@ -368,7 +368,7 @@ module _ (limits : Limits) where
   pub late_vote_in : (calls : List Call) (p sender verdict : ℕ) (t : Transaction)
       → let ledger = ledger_at limits (play limits calls).shards p in
       let k = entry_of t ledger.known in
-      any (is_for t) ledger.known ≡ true → heard_from sender k ≡ 0 → outcome_of k ≡ Abort
+      any (is_for t) ledger.known ≡ true → heard_from sender k ≡ None → outcome_of k ≡ Abort
       → hear p ledger sender verdict t
       ≡ (holding ledger ledger.tokens (set ledger.known (place_of t ledger.known) (hearing sender verdict k)), carried (Heard Abort))
   late_vote_in calls p sender verdict t known fresh e =

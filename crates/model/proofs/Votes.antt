@@ -9,21 +9,23 @@ use mathlib.Core.List.{List, [], ◌∷◌, Memᴰ}
 use lib.Dec.{eqb}
 use lib.ListN.{length, replicate, length-set}
 use lib.Seq.{get_or-set_same, get_or-set_other}
+use Rattle.std.specs.Prelude.{Some, None, is_some}
+use Rattle.std.proofs.lemmas.Option.{none-some}
 use Rattle.transaction.specs.declared.Transaction.{Transaction}
 use Rattle.transaction.specs.Tokens.{shards_of, takes_part}
 use Rattle.model.specs.declared.Token.{Token}
 use Rattle.model.specs.declared.Finding.{Finding}
 use Rattle.model.specs.declared.Known.{Known}
 use Rattle.model.specs.declared.Outcome.TheVariants.{Wait, Commit, Abort}
-use Rattle.model.specs.Steps.{findings, keeping, vote, noted, known_with, newly_known, heard_from, hearing, is_heard, is_yes, heard_all, outcome_of}
+use Rattle.model.specs.Said.{Said, is_said_yes}
+use Rattle.model.specs.Steps.{findings, keeping, vote, known_with, newly_known, heard_from, hearing, is_heard, is_yes, heard_all, outcome_of}
 use Rattle.model.proofs.Basics.{
   eqb-eq,
   eqb_same,
-  eqb_yes,
-  eqb_no,
   eqb_apart,
   not_yes,
   not_is,
+  not-no,
   both,
   Case,
   yes-case,
@@ -34,26 +36,22 @@ use Rattle.model.proofs.Basics.{
   set-elim,
   get_or-same,
 }
-use Rattle.model.proofs.Outcomes.{one≢two, outcome_yes, outcome_no, no_abort, outcome_commit, Marks, all_in-decides}
+use Rattle.model.proofs.Said.{no≢yes, nothing-said}
+use Rattle.model.proofs.Outcomes.{outcome_yes, outcome_no, no_abort, outcome_commit, all_in-decides}
 use Rattle.model.proofs.Refusals.{part_in}
 
 -- ---- The own vote
 
--- a noted verdict is heard
-noted-heard : (b : Bool) → not (eqb (noted b) 0) ≡ true
-noted-heard true = refl
-noted-heard false = refl
-
 -- the own vote is heard by the registration
-own-said : (p : ℕ) (found : List Finding) (verdict : Bool) (t : Transaction) → p < 8 → heard_from p (known_with p found verdict t) ≡ noted verdict
-own-said p found verdict t h = get_or-set_same (replicate 8 0) p (noted verdict) 0 h
+own-said : (p : ℕ) (found : List Finding) (verdict : Bool) (t : Transaction) → p < 8 → heard_from p (known_with p found verdict t) ≡ Some verdict
+own-said p found verdict t h = get_or-set_same (replicate 8 None) p (Some verdict) None h
 
 -- the own no suffices, however many shards there are
 pub own-no : (p : ℕ) (tokens : List Token) (t : Transaction) → p < 8 → Memᴰ p (shards_of t) → vote p tokens t ≡ false
     → outcome_of (newly_known p tokens t) ≡ Abort
 unfolding newly_known
 own-no p tokens t h member refused =
-    let said = own-said p (keeping (findings p tokens t)) (vote p tokens t) t h ∙ ap noted refused in
+    let said = own-said p (keeping (findings p tokens t)) (vote p tokens t) t h ∙ ap Some refused in
     no_abort (known_with p (keeping (findings p tokens t)) (vote p tokens t) t) (record { sender = p; is_part = member; said = said })
 
 -- and the own yes aborts nothing: no other vote is heard then
@@ -62,9 +60,9 @@ unfolding newly_known
 own-yes p tokens t h yes-here e =
     let own : Known = known_with p (keeping (findings p tokens t)) (vote p tokens t) t in
     let n = outcome_no own e in
-    let noted-yes : noted (vote p tokens t) ≡ 1 → ⊥ = λ z. one≢two (sym z ∙ ap noted yes-here) in
-    set-elim (λ q c. c ≡ 1 → ⊥) (replicate 8 0) 0 p (noted (vote p tokens t)) h noted-yes
-    (λ q d z. let s = get_or-same {A = ℕ} 8 0 q in omega arith) n.sender n.said
+    let own-yes-said : ◌≡◌ {A = Said} (Some (vote p tokens t)) (Some false) → ⊥ = λ z. no≢yes (sym z ∙ ap Some yes-here) in
+    set-elim (λ q c. c ≡ Some false → ⊥) (replicate 8 None) None p (Some (vote p tokens t)) h own-yes-said
+    (λ q d z. none-some false (sym (get_or-same {A = Said} 8 None q) ∙ z)) n.sender n.said
 
 -- a transaction of one shard is decided by its registration: by the own vote
 pub one-shard : (p : ℕ) (tokens : List Token) (t : Transaction) → p < 8 → Memᴰ p (shards_of t) → ((q : ℕ) → Memᴰ q (shards_of t) → q ≡ p)
@@ -77,7 +75,7 @@ one-shard p tokens t h member only = go (vote p tokens t) refl
 
     go : (b : Bool) → vote p tokens t ≡ b → outcome_of k ≡ cond b Commit Abort
     go true e = outcome_commit k (all_of (is_yes k.heard) (shards_of t) (λ q m.
-        eqb_yes (ap (λ (a : ℕ). heard_from a k) (only q m) ∙ own-said p (keeping (findings p tokens t)) (vote p tokens t) t h ∙ ap noted e)))
+        ap is_said_yes (ap (λ (a : ℕ). heard_from a k) (only q m) ∙ own-said p (keeping (findings p tokens t)) (vote p tokens t) t h ∙ ap Some e)))
     go false e = own-no p tokens t h member e
 
 -- ---- k shards
@@ -93,7 +91,7 @@ shard_count t = sum_below (λ q. cond (takes_part q t) 1 0) 8
 
 -- is this shard of the transaction not heard yet
 abbrev pub missing_at : Known → ℕ → ℕ
-missing_at k q = cond (takes_part q k.transaction && eqb (heard_from q k) 0) 1 0
+missing_at k q = cond (takes_part q k.transaction && not (is_heard k.heard q)) 1 0
 
 -- how many are not
 abbrev pub missing : Known → ℕ
@@ -127,8 +125,8 @@ pub missing-registered : (p : ℕ) (tokens : List Token) (t : Transaction) → p
 unfolding newly_known
 missing-registered p tokens t h part = let a = here in let b = count in let c = sums in omega arith
   where
-    own : ℕ
-    own = noted (vote p tokens t)
+    own : Said
+    own = Some (vote p tokens t)
 
     k : Known
     k = known_with p (keeping (findings p tokens t)) (vote p tokens t) t
@@ -139,15 +137,15 @@ missing-registered p tokens t h part = let a = here in let b = count in let c = 
 
     here : missing_at k p ≡ 0
     here =
-        ap (λ (n : ℕ). cond (takes_part p t && eqb n 0) 1 0) (get_or-set_same (replicate 8 0) p own 0 h)
-        ∙ (λ i. cond (part i && not_is {b = eqb own 0} (noted-heard (vote p tokens t)) i) 1 0)
+        ap (λ (c : Said). cond (takes_part p t && not (is_some c)) 1 0) (get_or-set_same (replicate 8 None) p own None h)
+        ∙ (λ i. cond (part i && false) 1 0)
 
     count : ◌≡◌ {A = ℕ} (cond (takes_part p t) 1 0) 1
     count = ap (λ (b : Bool). cond b 1 0) part
 
     other : (a : ℕ) → (a ≡ p → ⊥) → missing_at k a ≡ cond (takes_part a t) 1 0
     other a n =
-        ap (λ (c : ℕ). cond (takes_part a t && eqb c 0) 1 0) (get_or-set_other (replicate 8 0) p a own 0 n ∙ get_or-same 8 0 a)
+        ap (λ (c : Said). cond (takes_part a t && not (is_some c)) 1 0) (get_or-set_other (replicate 8 None) p a own None n ∙ get_or-same 8 None a)
         ∙ ap (λ (b : Bool). cond b 1 0) (and_yes (takes_part a t))
 
     sums : missing k + cond (takes_part p t) 1 0 ≡ shard_count t + missing_at k p
@@ -155,15 +153,15 @@ missing-registered p tokens t h part = let a = here in let b = count in let c = 
 
 -- a fresh vote leaves one vote fewer
 pub missing-fresh : (k : Known) (q v : ℕ) → q < 8 → length k.heard ≡ 8 → takes_part q k.transaction ≡ true
-    → heard_from q k ≡ 0 → missing (hearing q v k) + 1 ≡ missing k
+    → heard_from q k ≡ None → missing (hearing q v k) + 1 ≡ missing k
 missing-fresh k q v h long part fresh =
     let l : q < length k.heard = omega arith in
     let here : missing_at (hearing q v k) q ≡ 0 =
-    ap (λ (n : ℕ). cond (takes_part q k.transaction && eqb n 0) 1 0) (get_or-set_same k.heard q (v + 1) 0 l)
-    ∙ (λ i. cond (part i && eqb_no {m = v + 1} {n = 0} (λ z. omega arith) i) 1 0) in
-    let before : missing_at k q ≡ 1 = λ i. cond (part i && eqb_yes {m = heard_from q k} {n = 0} fresh i) 1 0 in
+    ap (λ (c : Said). cond (takes_part q k.transaction && not (is_some c)) 1 0) (get_or-set_same k.heard q (Some (eqb v 1)) None l)
+    ∙ (λ i. cond (part i && false) 1 0) in
+    let before : missing_at k q ≡ 1 = λ i. cond (part i && not (is_some (fresh i))) 1 0 in
     let other : (a : ℕ) → (a ≡ q → ⊥) → missing_at (hearing q v k) a ≡ missing_at k a =
-    λ a n. ap (λ (c : ℕ). cond (takes_part a k.transaction && eqb c 0) 1 0) (get_or-set_other k.heard q a (v + 1) 0 n) in
+    λ a n. ap (λ (c : Said). cond (takes_part a k.transaction && not (is_some c)) 1 0) (get_or-set_other k.heard q a (Some (eqb v 1)) None n) in
     let sums : missing (hearing q v k) + missing_at k q ≡ missing k + missing_at (hearing q v k) q =
     sum_change (missing_at (hearing q v k)) (missing_at k) q 8 h other in
     omega arith
@@ -173,20 +171,20 @@ pub commit_misses : (k : Known) → outcome_of k ≡ Commit → missing k ≡ 0
 commit_misses k e = below 8
   where
     -- a shard that takes part has said yes
-    heard-at : (n : ℕ) → takes_part n k.transaction && eqb (heard_from n k) 0 ≡ true → ⊥
+    heard-at : (n : ℕ) → takes_part n k.transaction && not (is_heard k.heard n) ≡ true → ⊥
     heard-at n y =
-        let r = both (takes_part n k.transaction) (eqb (heard_from n k) 0) y in
-        let silent : heard_from n k ≡ 0 = eqb-eq (heard_from n k) 0 r.1 in
-        eqb_apart {m = 0} {n = 2} refl (sym silent ∙ outcome_yes k e n (part_in n k.transaction r.0))
+        let r = both (takes_part n k.transaction) (not (is_heard k.heard n)) y in
+        let silent : heard_from n k ≡ None = nothing-said (heard_from n k) (not_is r.1) in
+        none-some true (sym silent ∙ outcome_yes k e n (part_in n k.transaction r.0))
 
     below : (n : ℕ) → sum_below (missing_at k) n ≡ 0
     below zero = refl
     below (suc n) = λ i. cond (not_yes (heard-at n) i) 1 0 + below n i
 
 -- decided where no vote is missing
-pub none-missing : (k : Known) → ((q : ℕ) → Memᴰ q (shards_of k.transaction) → q < 8) → Marks k → missing k ≡ 0 → outcome_of k ≢ Wait
+pub none-missing : (k : Known) → ((q : ℕ) → Memᴰ q (shards_of k.transaction) → q < 8) → missing k ≡ 0 → outcome_of k ≢ Wait
 unfolding takes_part
-none-missing k below marks e = all_in-decides k marks all-heard
+none-missing k below e = all_in-decides k all-heard
   where
     zero-at : (n : ℕ) (f : ℕ → ℕ) (q : ℕ) → q < n → sum_below f n ≡ 0 → f q ≡ 0
     zero-at zero f q l e = absurd (omega arith)
@@ -197,7 +195,7 @@ none-missing k below marks e = all_in-decides k marks all-heard
         go (no-case y) ih = let d : n ≡ q → ⊥ = eqb_apart y in ih (omega arith) (omega arith)
 
     heard-at : (q : ℕ) → Memᴰ q (shards_of k.transaction) → missing_at k q ≡ 0 → is_heard k.heard q ≡ true
-    heard-at q m e = ap not (not_yes (λ z.
+    heard-at q m e = not-no (is_heard k.heard q) (not_yes (λ z.
         let one : missing_at k q ≡ 1 = λ i. cond (any_of (eqb q) m (eqb_same q) i && z i) 1 0 in
         eqb_apart {m = 0} {n = 1} refl (sym e ∙ one)))
 
@@ -212,28 +210,24 @@ hear_each (v ∷ votes) k = hear_each votes (hearing v.0 v.1 k)
 -- each yes or no, from a shard of the transaction that was not heard before
 abbrev pub Fresh : List (ℕ × ℕ) → Known → Type 0
 Fresh [] k = Unit {0}
-Fresh (v ∷ votes) k = (takes_part v.0 k.transaction ≡ true) × (heard_from v.0 k ≡ 0) × (v.1 ≤ 1) × Fresh votes (hearing v.0 v.1 k)
+Fresh (v ∷ votes) k = (takes_part v.0 k.transaction ≡ true) × (heard_from v.0 k ≡ None) × (v.1 ≤ 1) × Fresh votes (hearing v.0 v.1 k)
 
 -- what fresh votes leave
 record Hears (votes : List (ℕ × ℕ)) (k : Known) : Type 0 where
   fewer : missing (hear_each votes k) + length votes ≡ missing k
   whole : (hear_each votes k).transaction ≡ k.transaction
-  marks : Marks (hear_each votes k)
 
 -- each of them leaves one vote fewer to hear
 hears-each : (votes : List (ℕ × ℕ)) (k : Known) → ((q : ℕ) → Memᴰ q (shards_of k.transaction) → q < 8) → length k.heard ≡ 8
-    → Marks k → Fresh votes k → Hears votes k
-hears-each [] k below long marks f = record { fewer = omega arith; whole = refl; marks = marks }
-hears-each (v ∷ votes) k below long marks f =
+    → Fresh votes k → Hears votes k
+hears-each [] k below long f = record { fewer = omega arith; whole = refl }
+hears-each (v ∷ votes) k below long f =
     let next : Known = hearing v.0 v.1 k in
     let h : v.0 < 8 = below v.0 (part_in v.0 k.transaction f.0) in
-    let l : v.0 < length k.heard = omega arith in
-    let small : v.1 ≤ 1 = f.2 in
-    let marked : Marks next = set-elim (λ q c. c ≤ 2) k.heard 0 v.0 (v.1 + 1) l (omega arith) (λ q n. marks q) in
-    let r = hears-each votes next below (length-set k.heard v.0 (v.1 + 1) ∙ long) marked f.3 in
+    let r = hears-each votes next below (length-set k.heard v.0 (Some (eqb v.1 1)) ∙ long) f.3 in
     let s : missing (hear_each votes next) + length votes ≡ missing next = r.fewer in
     let o : missing next + 1 ≡ missing k = missing-fresh k v.0 v.1 h long f.0 f.1 in
-    record { fewer = omega arith; whole = r.whole; marks = r.marks }
+    record { fewer = omega arith; whole = r.whole }
 
 -- how many fresh votes after the registration bring the decision on a transaction of k shards
 pub record Brings (start : Known) (votes : List (ℕ × ℕ)) (shards : ℕ) : Type 0 where
@@ -250,7 +244,7 @@ pub votes-bring : (p : ℕ) (tokens : List Token) (t : Transaction) → p < 8 �
 votes-bring p tokens t h part below votes fresh = record {
   at_most = let s = sum in omega arith;
   decides = λ z. none-missing after (subst (λ (s : Transaction). (q : ℕ) → Memᴰ q (shards_of s) → q < 8) (sym (each.whole ∙ same)) below)
-      each.marks (let s = sum in omega arith);
+      (let s = sum in omega arith);
   commits = λ c. let e : missing after ≡ 0 = commit_misses after c in let s = sum in omega arith;
 }
   where
@@ -264,20 +258,10 @@ votes-bring p tokens t h part below votes fresh = record {
     same = unfold newly_known in refl
 
     long : length start.heard ≡ 8
-    long = unfold newly_known in length-set (replicate 8 0) p (noted (vote p tokens t))
-
-    most : (b : Bool) → noted b ≤ 2
-    most true = omega arith
-    most false = omega arith
-
-    marks : Marks start
-    marks =
-        unfold newly_known in
-        set-elim (λ q c. c ≤ 2) (replicate 8 0) 0 p (noted (vote p tokens t)) h (most (vote p tokens t))
-        (λ q n. let z = get_or-same {A = ℕ} 8 0 q in omega arith)
+    long = unfold newly_known in length-set (replicate 8 None) p (Some (vote p tokens t))
 
     each : Hears votes start
-    each = hears-each votes start (unfold newly_known in below) long marks fresh
+    each = hears-each votes start (unfold newly_known in below) long fresh
 
     first : missing start + 1 ≡ shard_count t
     first = missing-registered p tokens t h part

@@ -1,10 +1,11 @@
 -- The cluster (round) of eight shards: what each call does to the ledgers. The contracts of the cluster's functions cite `cluster_step`.
-use Rattle.std.specs.Prelude.{ℕ, ◌+◌, Err, is_ok, Bool, cond, not, ◌&&◌, List, eqb, get_or, set, replicate}
+use Rattle.std.specs.Prelude.{ℕ, Err, is_ok, Bool, cond, not, ◌&&◌, List, get_or, set, replicate}
 use Rattle.transaction.specs.declared.Transaction.{Transaction}
 use Rattle.transaction.specs.Lists.{any, first_of}
 use Rattle.model.specs.declared.Known.{Known}
 use Rattle.transaction.specs.declared.refusal.Refusal.TheVariants.{VoteNotGiven}
 use Rattle.model.specs.Answers.{Answer}
+use Rattle.model.specs.Said.{says}
 use Rattle.model.specs.Steps.{Limits, Ledger, empty_ledger, is_for, heard_from}
 use Rattle.model.specs.Shard.{Call, mint, register, deliver, turn, deliver_form, shard_step}
 
@@ -16,9 +17,9 @@ empty_shards limits = replicate 8 (empty_ledger limits)
 abbrev pub ledger_at : Limits → List Ledger → ℕ → Ledger
 ledger_at limits shards shard = get_or shards shard (empty_ledger limits)
 
--- this is the transaction, and this is the verdict noted from the sender
+-- this is the transaction, and this is the verdict heard from the sender
 abbrev pub has_given : ℕ → ℕ → Transaction → Known → Bool
-has_given sender verdict t k = is_for t k && eqb (heard_from sender k) (verdict + 1)
+has_given sender verdict t k = is_for t k && says (heard_from sender k) verdict
 
 -- the sender has given this vote on this transaction, as its own ledger has it
 unfoldable pub gave : Ledger → ℕ → ℕ → Transaction → Bool

@@ -1,6 +1,6 @@
 -- Document 02, 2, 'Which token spoiled it': the call that reports what a shard found about the inputs of a known transaction, and what is claimed
 -- of it about every list of calls: each finding that is reported is the true state of its token at the registration.
-use Rattle.std.specs.Prelude.{ℕ, suc, ◌≡◌, ◌↔◌, ◌≢◌, Result, Ok, Err, Bool, true, not, eqb, length, get_or, take}
+use Rattle.std.specs.Prelude.{ℕ, suc, ◌≡◌, ◌↔◌, ◌≢◌, Result, Ok, Err, Bool, true, not, Some, eqb, length, get_or, take}
 use Rattle.std.proofs.Math.Option.{none, some}
 use mathlib.Core.List.{List, [], ◌∷◌, ◌++◌, Memᴰ}
 use Rattle.transaction.specs.declared.Input.{Input}
@@ -105,6 +105,6 @@ pub record TrueFindings (limits : Limits) (calls : List Call) (p number : ℕ) (
   -- each finding is the state of its token among those that the shard held right before that call
   pub states : States (ledger_at limits (play limits before).shards p).tokens (inputs_here p knows.entry.transaction) found
   -- the shard's own vote is yes exactly where all are 'available'
-  pub own-vote : (heard_from p knows.entry ≡ 2) ↔ (all is_available found ≡ true)
+  pub own-vote : (heard_from p knows.entry ≡ Some true) ↔ (all is_available found ≡ true)
   -- what 'pledged' names was known there before
   pub pledging : (pledge : ℕ) → Memᴰ (Pledged pledge) found → Knows (ledger_at limits (play limits before).shards p).known pledge

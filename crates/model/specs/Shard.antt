@@ -1,6 +1,6 @@
 -- Document 01, 'Causes of refusal', at one shard: for each kind of call one table of tests and refusals in the paper's order, and the whole call.
 -- Arguments are raw: any number, any count, any slots. A record addressed to another shard is part of check 3.
-use Rattle.std.specs.Prelude.{ℕ, ◌+◌, Result, Ok, Err, Bool, true, false, cond, not, ◌&&◌, List, [], ◌∷◌, ◌++◌, eqb, leb, ltb, length, get_or}
+use Rattle.std.specs.Prelude.{ℕ, ◌+◌, Result, Ok, Err, Bool, true, false, cond, not, ◌&&◌, is_some, List, [], ◌∷◌, ◌++◌, eqb, leb, ltb, length, get_or}
 use Rattle.transaction.specs.declared.Input.{Input}
 use Rattle.transaction.specs.declared.Transaction.{Transaction}
 use Rattle.transaction.specs.declared.refusal.Refusal.{Refusal}
@@ -26,6 +26,7 @@ use Rattle.model.specs.declared.Outcome.{Outcome}
 use Rattle.model.specs.declared.Outcome.TheVariants.{Wait, Commit, Abort}
 use Rattle.model.specs.declared.Done.TheVariants.{Minted, Registered, Heard, Again, Turned, Brought}
 use Rattle.model.specs.Answers.{Answer}
+use Rattle.model.specs.Said.{Said, says}
 use Rattle.model.specs.Steps.{
   Limits,
   Ledger,
@@ -89,8 +90,8 @@ unfoldable pub reserved : ℕ → List Known → ℕ
 reserved me known = total (reserved_by me) known
 
 -- a vote is heard from this sender, and it is the other one
-abbrev pub other_verdict : ℕ → ℕ → Bool
-other_verdict heard verdict = not (eqb heard 0) && not (eqb heard (verdict + 1))
+abbrev pub other_verdict : Said → ℕ → Bool
+other_verdict heard verdict = is_some heard && not (says heard verdict)
 
 -- Each table is in two parts: what the record says by itself (its form), then what the ledger says (the rest).
 
@@ -211,9 +212,9 @@ unless (Err refusal) before done = (before, Err refusal)
 unfoldable pub hear : ℕ → Ledger → ℕ → ℕ → Transaction → Ledger × Answer
 hear me ledger sender verdict t =
     let k = entry_of t ledger.known in
-    cond (eqb (heard_from sender k) 0)
-    (after_vote me ledger sender verdict t, Ok (Heard (outcome_of (hearing sender verdict k))))
+    cond (is_some (heard_from sender k))
     (ledger, Ok (Again (outcome_of k)))
+    (after_vote me ledger sender verdict t, Ok (Heard (outcome_of (hearing sender verdict k))))
 
 -- a vote that passes on an unknown number brings its transaction (document 02, 6): the registration, and then the vote
 unfoldable pub bring : ℕ → Ledger → ℕ → ℕ → Transaction → Ledger × Answer

@@ -1,6 +1,6 @@
 -- Document 01, 'The steps' (document 000, core Cerberus), at one shard (pantry): what a shard notes, and what each step does to it.
 -- `me` is the shard's own number. Registration goes in document 000's order, in four definitions.
-use Rattle.std.specs.Prelude.{ℕ, suc, ◌+◌, Bool, true, false, cond, not, ◌&&◌, List, [], ◌∷◌, ◌++◌, map, eqb, get_or, set, replicate}
+use Rattle.std.specs.Prelude.{ℕ, suc, Bool, true, false, cond, not, ◌&&◌, Some, None, is_some, List, [], ◌∷◌, ◌++◌, map, eqb, get_or, set, replicate}
 use Rattle.std.proofs.Math.Option.{Option, none, some}
 use Rattle.transaction.specs.declared.Input.{Input}
 use Rattle.transaction.specs.declared.Output.{Output}
@@ -14,6 +14,7 @@ use Rattle.model.specs.declared.Known.{Known}
 use Rattle.model.specs.declared.Outcome.{Outcome}
 use Rattle.model.specs.declared.Outcome.TheVariants.{Wait, Commit, Abort}
 use Rattle.model.specs.Lists.{keep, find, lookup}
+use Rattle.model.specs.Said.{Said, is_said_yes, is_said_no}
 
 -- How many tokens a shard holds, how many transactions it knows, and how many genesis indices (opening positions) it has.
 pub record Limits : Type 0 where
@@ -135,21 +136,17 @@ pledges number inputs tokens = map (pledge_if number inputs) tokens
 unfoldable pub vote : ℕ → List Token → Transaction → Bool
 vote me tokens t = all (available tokens) (inputs_here me t)
 
--- a verdict as it is noted
-abbrev pub noted : Bool → ℕ
-noted verdict = cond verdict 2 1
-
 -- a transaction of which no vote is heard, with what was found about its inputs here
 abbrev pub unheard : List Finding → Transaction → Known
-unheard found t = record { transaction = t; heard = replicate 8 0; findings = found }
+unheard found t = record { transaction = t; heard = replicate 8 None; findings = found }
 
--- the known transaction with that noted for a sender
-abbrev pub with_said : ℕ → ℕ → Known → Known
-with_said sender said k = record { transaction = k.transaction; heard = set k.heard sender said; findings = k.findings }
+-- the known transaction with that verdict noted for a sender
+abbrev pub with_said : ℕ → Bool → Known → Known
+with_said sender verdict k = record { transaction = k.transaction; heard = set k.heard sender (Some verdict); findings = k.findings }
 
 -- the transaction as it becomes known with these findings and this vote, which counts as heard from this shard
 abbrev pub known_with : ℕ → List Finding → Bool → Transaction → Known
-known_with me found verdict t = with_said me (noted verdict) (unheard found t)
+known_with me found verdict t = with_said me verdict (unheard found t)
 
 -- as it becomes known by its registration
 unfoldable pub newly_known : ℕ → List Token → Transaction → Known
@@ -157,43 +154,43 @@ newly_known me tokens t = known_with me (keeping (findings me tokens t)) (vote m
 
 -- ---- Vote: it is noted for its sender
 
--- the verdict heard from a sender, 0 for none
-abbrev pub heard_from : ℕ → Known → ℕ
-heard_from sender k = get_or k.heard sender 0
+-- the verdict heard from a sender, if there is one
+abbrev pub heard_from : ℕ → Known → Said
+heard_from sender k = get_or k.heard sender None
 
--- the known transaction with the sender's verdict (1 yes, 0 no) noted
+-- the known transaction with the sender's verdict (1 yes, 0 no) noted; one above 1 is refused (3) before it could be
 abbrev pub hearing : ℕ → ℕ → Known → Known
-hearing sender verdict k = with_said sender (verdict + 1) k
+hearing sender verdict k = with_said sender (eqb verdict 1) k
 
 -- ---- Decision (document 02, 5): abort as soon as one no is heard, the shard's own included; commit when votes of all the transaction's shards
 -- are heard and all are yes
 
 -- the shard's vote is heard
-abbrev pub is_heard : List ℕ → ℕ → Bool
-is_heard heard shard = not (eqb (get_or heard shard 0) 0)
+abbrev pub is_heard : List Said → ℕ → Bool
+is_heard heard shard = is_some (get_or heard shard None)
 
 -- and it is yes
-abbrev pub is_yes : List ℕ → ℕ → Bool
-is_yes heard shard = eqb (get_or heard shard 0) 2
+abbrev pub is_yes : List Said → ℕ → Bool
+is_yes heard shard = is_said_yes (get_or heard shard None)
 
 -- or it is no
-abbrev pub is_no : List ℕ → ℕ → Bool
-is_no heard shard = eqb (get_or heard shard 0) 1
+abbrev pub is_no : List Said → ℕ → Bool
+is_no heard shard = is_said_no (get_or heard shard None)
 
 -- votes of all the transaction's shards are heard: the commit rule asks it
-abbrev pub heard_all : Transaction → List ℕ → Bool
+abbrev pub heard_all : Transaction → List Said → Bool
 heard_all t heard = all (is_heard heard) (shards_of t)
 
 -- all are yes
-abbrev pub all_yes : Transaction → List ℕ → Bool
+abbrev pub all_yes : Transaction → List Said → Bool
 all_yes t heard = all (is_yes heard) (shards_of t)
 
 -- one is no
-abbrev pub some_no : Transaction → List ℕ → Bool
+abbrev pub some_no : Transaction → List Said → Bool
 some_no t heard = any (is_no heard) (shards_of t)
 
 -- the decision
-unfoldable pub decide : Transaction → List ℕ → Outcome
+unfoldable pub decide : Transaction → List Said → Outcome
 decide t heard = cond (some_no t heard) Abort (cond (all_yes t heard) Commit Wait)
 
 -- the outcome of a known transaction

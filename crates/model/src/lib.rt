@@ -28,12 +28,13 @@ pub enum Finding {
     Pledged(u32),
 }
 
-// A known transaction with the verdicts heard, by sender: 0 not heard, 1 no, 2 yes; and with what was found at its
-// registration about its inputs at this shard, in input order: as many findings as there are such inputs.
+// A known transaction with the verdicts heard, by sender: None where nothing is heard, else Some of yes (true) or no
+// (false); and with what was found at its registration about its inputs at this shard, in input order: as many findings
+// as there are such inputs.
 #[derive(Clone, Copy)]
 pub struct Known {
     pub transaction: Transaction,
-    pub heard: [u8; 8],
+    pub heard: [Option<bool>; 8],
     pub findings: [Finding; 4],
 }
 
