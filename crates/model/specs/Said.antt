@@ -21,3 +21,9 @@ abbrev pub says : Said → ℕ → Bool
 says None verdict = false
 says (Some true) verdict = eqb verdict 1
 says (Some false) verdict = eqb verdict 0
+
+-- its number, where words hold it
+abbrev pub said_number : Said → ℕ
+said_number None = 0
+said_number (Some false) = 1
+said_number (Some true) = 2
