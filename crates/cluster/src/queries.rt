@@ -9,8 +9,7 @@ ghost use Rattle.cluster.specs.View.{view, Sound};
 ghost use Rattle.model.specs.Totals.{held_in, total_held};
 
 use crate::Cluster;
-use model::{Known, Report};
-use shard::queries::{HeldToken, KnownOutcome};
+use model::{Known, Outcome, Report, Token};
 use shard::{queries, reporting};
 
 // How many tokens the shard of that number holds.
@@ -26,13 +25,13 @@ pub fn held_count(c: &Cluster, number: u8) -> usize
 }
 
 // The token at a place of those that it holds.
-pub fn token_at(c: &Cluster, number: u8, place: usize) -> HeldToken
+pub fn token_at(c: &Cluster, number: u8, place: usize) -> Option<Token>
     requires { Sound c.now }
     ensures { result ≡ token_at (ledger_at house (view c.now) number).tokens place }
 {
     let at = number as usize;
     if 8 <= at {
-        return HeldToken::NotHeld;
+        return None;
     }
     queries::token_at(&c[at], place)
 }
@@ -49,38 +48,38 @@ pub fn known_count(c: &Cluster, number: u8) -> usize
     queries::known_count(&c[at])
 }
 
-// The transaction at a place of those that it knows; a blank one behind the last.
-pub fn known_at(c: &Cluster, number: u8, place: usize) -> Known
+// The transaction at a place of those that it knows; none behind the last.
+pub fn known_at(c: &Cluster, number: u8, place: usize) -> Option<Known>
     requires { Sound c.now }
     ensures { result ≡ known_at (ledger_at house (view c.now) number).known place }
 {
     let at = number as usize;
     if 8 <= at {
-        return queries::blank_known();
+        return None;
     }
     queries::known_at(&c[at], place)
 }
 
 // The outcome there of the transaction at a place of those that it knows.
-pub fn outcome_at(c: &Cluster, number: u8, place: usize) -> KnownOutcome
+pub fn outcome_at(c: &Cluster, number: u8, place: usize) -> Option<Outcome>
     requires { Sound c.now }
     ensures { result ≡ outcome_at (ledger_at house (view c.now) number).known place }
 {
     let at = number as usize;
     if 8 <= at {
-        return KnownOutcome::Unknown;
+        return None;
     }
     queries::outcome_at(&c[at], place)
 }
 
 // The outcome there of the transaction of that number.
-pub fn outcome_of(c: &Cluster, number: u8, transaction: u32) -> KnownOutcome
+pub fn outcome_of(c: &Cluster, number: u8, transaction: u32) -> Option<Outcome>
     requires { Sound c.now }
     ensures { result ≡ outcome_of_number (ledger_at house (view c.now) number).known transaction }
 {
     let at = number as usize;
     if 8 <= at {
-        return KnownOutcome::Unknown;
+        return None;
     }
     queries::outcome_of(&c[at], transaction)
 }
