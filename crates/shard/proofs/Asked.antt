@@ -4,10 +4,8 @@ use mathlib.Core.Path.{◌≡◌, sym, ap, ◌∙◌}
 use mathlib.Core.List.{List}
 use native.Mathlib.Omega.{arith}
 use lib.ListN.{length, get_or}
-use Rattle.std.specs.Prelude.{Option, Some, None, slice_get}
+use Rattle.std.specs.Prelude.{Some, None, slice_get}
 use Rattle.std.proofs.lemmas.Option.{slice_get-get_or, slice_get_past}
-use Rattle.model.specs.declared.Token.{Token}
-use Rattle.model.specs.declared.Known.{Known}
 use Rattle.model.specs.Steps.{genesis_token, nothing_known}
 use Rattle.layout.specs.Layout.{held_place, word, tokens_of, shard_of, slot_token, slot_known}
 use Rattle.layout.proofs.Slots.{length-tokens}
