@@ -1,6 +1,6 @@
 -- What is asked of a cluster, from its shards.
 use Prim.Native.Nat.{ℕ, ◌+◌, ◌≤◌, ◌<◌}
-use mathlib.Core.Path.{◌≡◌, refl, sym, ap, ◌∙◌}
+use mathlib.Core.Path.{◌≡◌, refl, sym, ap, subst, ◌∙◌}
 use mathlib.Core.List.{List, [], ◌∷◌, map}
 use native.Mathlib.Omega.{arith}
 use borrow.Author.Tests.{lt-leb}
@@ -14,7 +14,7 @@ use Rattle.model.specs.Cluster.{ledger_at}
 use Rattle.model.specs.Findings.{refusing, report, report_at}
 use Rattle.model.proofs.Findings.{report-above}
 use Rattle.shard.specs.View as shard
-use Rattle.cluster.specs.View.{view, shard_at, Sound}
+use Rattle.cluster.specs.View.{view, shard_at, Sound, IsShard, NoShard}
 use Rattle.cluster.proofs.Shards.{ledger-of}
 
 total-map : {A B : Type 0} (f : B → ℕ) (g : A → B) (x : List A) → total f (map g x) ≡ total (λ (a : A). f (g a)) x
@@ -36,6 +36,17 @@ module _ {c : List (List ℕ)} (sound : Sound c) where
   unfolding view
   ledger-none number h =
       get_or-eq_default (map shard.view c) (empty_ledger house) {n = number} (rw (length-map c shard.view, sound.eight) h)
+
+  -- a shard that was looked up
+  pub is-shard : {p : ℕ} {ws : List ℕ} → p < 8 → ws ≡ shard_at c p → IsShard c p ws
+  is-shard {p} below e = record {
+    numbered = ap shard.number e ∙ (sound.each p below).numbered;
+    sound = subst shard.Sound (sym e) (sound.each p below).sound;
+    ledger = ledger-of sound p below ∙ ap shard.view (sym e);
+  }
+
+  pub no-shard-at : {p : ℕ} → 8 ≤ p → NoShard c p
+  no-shard-at {p} above = record { above = above; ledger = ledger-none p above }
 
   -- what is reported: by the shard that is asked, and where there is none
   module _ (p number : ℕ) where

@@ -1,11 +1,10 @@
 // Eight shards (document 01: a round of eight pantries), in place: each call is lent the cluster's words and lends one shard's on.
 #![tactic(auto)]
 
-ghost use Rattle.std.specs.Prelude.{◌≡◌, ◌<◌};
 ghost use Rattle.model.specs.Shard.{mint, register, deliver, turn};
 ghost use Rattle.cluster.specs.View.{Sound, Fresh, Steps};
 
-use layout::{SHARD_WORDS, Words};
+use layout::Words;
 use model::Answer;
 use shard::refusals::deliver_form;
 use transaction::Transaction;
@@ -15,23 +14,12 @@ pub mod queries; // what can be asked of a cluster
 // A cluster's words.
 pub type Cluster = [Words; 8];
 
-fn narrow(p: usize) -> u8
-    requires { p < 8 }
-    ensures { result ≡ p }
-{
-    p as u8
-}
-
 // Eight empty shards, whatever the words were.
 pub fn new(c: &mut Cluster)
     ensures { Fresh c.new }
 {
-    *c = [[0; SHARD_WORDS]; 8];
-    let mut p = 0;
-    while p < 8 {
-        let me = narrow(p);
-        shard::new(&mut c[p], me);
-        p += 1;
+    for number in 0..8u8 {
+        shard::new(&mut c[usize::from(number)], number);
     }
 }
 
@@ -74,12 +62,10 @@ pub fn deliver_vote(
     if cause != 0 {
         return Answer::Refused(cause);
     }
-    let from = sender as usize;
-    if !shard::has_given_vote(&c[from], sender, verdict, t) {
+    if !shard::has_given_vote(&c[usize::from(sender)], sender, verdict, t) {
         return Answer::Refused(16);
     }
-    let at = receiver as usize;
-    shard::hear_formed(&mut c[at], sender, verdict, t)
+    shard::hear_formed(&mut c[usize::from(receiver)], sender, verdict, t)
 }
 
 // A turn of the receiving shard.

@@ -27,11 +27,8 @@ pub(crate) fn knows_any(s: &Words) -> bool
 pub(crate) fn was_given(s: &Words, index: u8) -> bool
     ensures { result ≡ get_or (view s.now).given index false }
 {
-    let at = index as usize;
-    if at < GENESIS_SLOTS {
-        return is_given(s, at);
-    }
-    false
+    let at = usize::from(index);
+    at < GENESIS_SLOTS && is_given(s, at)
 }
 
 // The number is not known here: 18 where its findings are asked for; 11 for the shard's own vote, and another shard's
@@ -48,10 +45,7 @@ pub(crate) fn is_other(s: &Words, place: usize, t: Transaction) -> bool
     requires { Sound s.now × (place ≡ find (is_numbered t.number) (view s.now).known) }
     ensures { result ≡ any (is_other t) (view s.now).known }
 {
-    if known_count(s) <= place {
-        return false;
-    }
-    !same_at(s, place, t)
+    place < known_count(s) && !same_at(s, place, t)
 }
 
 // 9: as many transactions are known as a shard can know.
@@ -90,8 +84,8 @@ pub(crate) fn is_held_off(s: &Words, t: Transaction) -> bool
 fn is_other_verdict(heard: u8, verdict: u8) -> bool
     ensures { result ≡ other_verdict heard verdict }
 {
-    let noted = (verdict as u16) + 1;
-    (heard != 0) & ((heard as u16) != noted)
+    let noted = u16::from(verdict) + 1;
+    heard != 0 && u16::from(heard) != noted
 }
 
 // 12: the other verdict is heard from this sender. Asked where the number is known and 7 does not fit, so that the transaction stands at the place.

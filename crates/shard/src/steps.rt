@@ -26,7 +26,7 @@ pub(crate) fn after_mint(s: &mut Words, index: u8, owner: u32, amount: u32)
     ensures { Minted s.old index owner amount s.new }
 {
     let n = held(s);
-    let at = index as usize;
+    let at = usize::from(index);
     let token = Token {
         creator: 0,
         index: index,
@@ -51,7 +51,7 @@ fn newly_known(me: u8, own: Own, t: Transaction) -> Known
     requires { me < 8 }
     ensures { result ≡ known_with me own.findings own.verdict t }
 {
-    let at = me as usize;
+    let at = usize::from(me);
     let mut heard = [0u8; 8];
     heard[at] = note(own.verdict);
     let findings = own.findings;
@@ -111,7 +111,7 @@ fn fresh_vote(s: &mut Words, place: usize, sender: u8, verdict: u8) -> Outcome
     requires { FreshVote place sender verdict s.old }
     ensures { FreshDone place sender verdict s.old result s.new }
 {
-    let at = sender as usize;
+    let at = usize::from(sender);
     put_heard(s, place, at, verdict + 1);
     decide_at(s, place)
 }

@@ -14,24 +14,24 @@ bounds-c-from c =
 pub has_given_vote-requires : goal.has_given_vote-requires
 has_given_vote-requires c =
     let vote = formed c.deliver_form-cause.ensures c.if-cause-ne0.false in
-    lent c.requires c.args.sender vote.from
+    lent c.requires c.from.result (omega (arith, vote.from))
 
 pub returns-then-not-has_given_vote : goal.returns-then-not-has_given_vote
 returns-then-not-has_given_vote c =
     let vote = formed c.deliver_form-cause.ensures c.if-cause-ne0.false in
-    not-given c.requires vote c.has_given_vote.ensures (ap not c.if-not-has_given_vote.true)
+    not-given c.requires vote (rw c.from.ensures at c.has_given_vote.ensures) (ap not c.if-not-has_given_vote.true)
 
-pub bounds-c-at : goal.bounds-c-at
-bounds-c-at c =
+pub bounds-c-from-2 : goal.bounds-c-from-2
+bounds-c-from-2 c =
     let vote = formed c.deliver_form-cause.ensures c.if-cause-ne0.false in
     omega (arith, vote.to)
 
 pub hear_formed-requires : goal.hear_formed-requires
 hear_formed-requires c =
     let vote = formed c.deliver_form-cause.ensures c.if-cause-ne0.false in
-    (lent c.requires c.args.receiver vote.to, own-form c.requires vote)
+    rw c.from-2.ensures (lent c.requires c.args.receiver vote.to, own-form c.requires vote)
 
 pub returns : goal.returns
 returns c =
     let vote = formed c.deliver_form-cause.ensures c.if-cause-ne0.false in
-    heard c.requires vote c.has_given_vote.ensures (ap not c.if-not-has_given_vote.false) c.hear_formed.ensures
+    rw c.from-2.ensures (heard c.requires vote (rw c.from.ensures at c.has_given_vote.ensures) (ap not c.if-not-has_given_vote.false) (rw c.from-2.ensures at c.hear_formed.ensures))
