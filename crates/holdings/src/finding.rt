@@ -1,10 +1,9 @@
 // What is found about each input here (document 02, 2), before anything is pledged: it belongs to the second part of the
 // local step.
-ghost use Rattle.std.specs.Prelude.{◌≡◌, cond, [], ℕ, ◌≤◌};
+ghost use Rattle.std.specs.Prelude.{◌≡◌, cond, [], ℕ, ◌≤◌, ◌<◌, position, IfSome};
 ghost use Rattle.std.proofs.Math.Option.{some};
 ghost use Rattle.transaction.specs.declared.Transaction.{Transaction};
 ghost use Rattle.model.specs.declared.Finding.TheVariants.{Available};
-ghost use Rattle.model.specs.Lists.{find};
 ghost use Rattle.model.specs.Answers.{is_available};
 ghost use Rattle.model.specs.Steps.{inputs_here, obstacle, finding, findings, keeping};
 ghost use Rattle.model.specs.Demand.{has_spot};
@@ -19,20 +18,18 @@ use layout::tokens::{is_token, token_at};
 use model::{Finding, Found, Token};
 use transaction::Input;
 
-// The place of the token of that creator and index; the count where it is not held.
-pub fn place_of_token(s: &Words, creator: u32, index: u8) -> usize
+// The place of the token of that creator and index, where it is held.
+pub fn place_of_token(s: &Words, creator: u32, index: u8) -> Option<usize>
     requires { (shard_of s.now).held ≤ token_slots }
-    ensures { result ≡ find (has_spot creator index) (ledger_of s.now).tokens }
+    ensures found { result ≡ position (has_spot creator index) (ledger_of s.now).tokens }
+    ensures within { IfSome result (λ place. place < (shard_of s.now).held) }
 {
-    let n = held(s);
-    let mut i = 0;
-    while i < n {
+    for i in 0..held(s) {
         if is_token(s, i, creator, index) {
-            return i;
+            return Some(i);
         }
-        i += 1;
     }
-    i
+    None
 }
 
 // What stands in the way, by the token of its name.
@@ -56,11 +53,10 @@ fn finding_of(s: &Words, x: Input) -> Finding
         return Finding::Available;
     }
     let id = x.token;
-    let place = place_of_token(s, id.creator, id.index);
-    if place < held(s) {
-        return obstacle_of(x, token_at(s, place));
+    match place_of_token(s, id.creator, id.index) {
+        Some(place) => obstacle_of(x, token_at(s, place)),
+        None => Finding::NotHeld,
     }
-    Finding::NotHeld
 }
 
 // The finding as it is kept; nobody asks for that of a slot that is not used.

@@ -1,3 +1,4 @@
 pub mod Loops
 pub mod Fours
 pub mod Places
+pub mod Positions
