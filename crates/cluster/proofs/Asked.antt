@@ -12,7 +12,7 @@ use Rattle.model.specs.Steps.{house, empty_ledger}
 use Rattle.model.specs.declared.Report.{Report}
 use Rattle.model.specs.Cluster.{ledger_at}
 use Rattle.model.specs.Findings.{refusing, report, report_at}
-use Rattle.model.proofs.Findings.{report-above}
+use Rattle.model.proofs.Reported.{report-above}
 use Rattle.shard.specs.View as shard
 use Rattle.cluster.specs.View.{view, shard_at, Sound, IsShard, NoShard}
 use Rattle.cluster.proofs.Shards.{ledger-of}

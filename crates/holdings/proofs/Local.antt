@@ -15,12 +15,11 @@ use Rattle.transaction.specs.Tokens.{zero_input}
 use Rattle.model.specs.declared.Token.{Token}
 use Rattle.model.specs.declared.Finding.{Finding}
 use Rattle.model.specs.declared.Finding.TheVariants.{Available}
-use Rattle.model.specs.declared.Found.{Found}
 use Rattle.model.specs.Lists.{keep}
 use Rattle.model.specs.Answers.{is_available}
 use Rattle.model.specs.Steps.{inputs_here, available, available_here, finding, findings, found_at, keeping, vote}
 use Rattle.model.proofs.Local.{vote-counts}
-use Rattle.model.proofs.Findings.{finding-available}
+use Rattle.model.proofs.Reported.{finding-available}
 use Rattle.loops.specs.Lists.{one_if}
 use Rattle.loops.proofs.Fours.{keep-by}
 use Rattle.layout.specs.Layout.{no_finding}
@@ -62,13 +61,13 @@ module _ (here : Inputs) (long : length here.list ≡ 4) (me : ℕ) (tokens : Li
       ∙ used-at (finding tokens) here.list here.count i zero_input Available (omega (arith, long))
 
   -- as it is kept
-  kept_at : (i : ℕ) → i < 4 → {q : Found} → q.finding ≡ cond (used i) (finding tokens (slot i)) Available → q ≡ found_at (findings me tokens t) i
-  kept_at i l e = ap (λ (f : Finding). record { finding = f }) (e ∙ sym (finding-at i l))
+  kept_at : (i : ℕ) → i < 4 → {q : Finding} → q ≡ cond (used i) (finding tokens (slot i)) Available → q ≡ found_at (findings me tokens t) i
+  kept_at i l e = e ∙ sym (finding-at i l)
 
   -- the findings, slot by slot
-  pub findings-by : {a b c e : Found}
-      → a.finding ≡ cond (used 0) (finding tokens (slot 0)) Available → b.finding ≡ cond (used 1) (finding tokens (slot 1)) Available
-      → c.finding ≡ cond (used 2) (finding tokens (slot 2)) Available → e.finding ≡ cond (used 3) (finding tokens (slot 3)) Available
+  pub findings-by : {a b c e : Finding}
+      → a ≡ cond (used 0) (finding tokens (slot 0)) Available → b ≡ cond (used 1) (finding tokens (slot 1)) Available
+      → c ≡ cond (used 2) (finding tokens (slot 2)) Available → e ≡ cond (used 3) (finding tokens (slot 3)) Available
       → a ∷ b ∷ c ∷ e ∷ [] ≡ keeping (findings me tokens t)
   unfolding keeping
   findings-by ea eb ec ee =
@@ -82,18 +81,18 @@ module _ (here : Inputs) (long : length here.list ≡ 4) (me : ℕ) (tokens : Li
       go true = finding-available tokens (slot i)
       go false = refl
 
-  module _ (found : List Found) (is : found ≡ keeping (findings me tokens t)) where
+  module _ (found : List Finding) (is : found ≡ keeping (findings me tokens t)) where
     -- an input was found available, and its slot is used
     abbrev wanted : ℕ → Bool
-    wanted i = used i && is_available (get_or found i no_finding).finding
+    wanted i = used i && is_available (get_or found i no_finding)
 
     -- so the available ones are added
-    adds : (i : ℕ) → i < 4 → (get_or (keeping (findings me tokens t)) i no_finding).finding ≡ get_or (findings me tokens t) i Available
+    adds : (i : ℕ) → i < 4 → get_or (keeping (findings me tokens t)) i no_finding ≡ get_or (findings me tokens t) i Available
         → (inputs : List Input) {more : List Input} → more ≡ inputs ++ one_if (wanted i) (slot i)
         → more ≡ inputs ++ one_if (used i && available tokens (slot i)) (slot i)
     adds i l e inputs z =
         z ∙ ap (λ (b : Bool). inputs ++ one_if b (slot i))
-        (ap (λ (k : List Found). used i && is_available (get_or k i no_finding).finding) is
+        (ap (λ (k : List Finding). used i && is_available (get_or k i no_finding)) is
         ∙ ap (λ (f : Finding). used i && is_available f) e ∙ slot_tells i l)
 
     -- the available ones, slot by slot

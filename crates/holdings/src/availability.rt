@@ -14,7 +14,7 @@ use crate::finding::was_available;
 use layout::Words;
 use layout::counts::held;
 use layout::tokens::token_at;
-use model::{Found, Token};
+use model::{Finding, Token};
 use transaction::{Input, TokenId, Transaction};
 
 // The input names this token of its shard.
@@ -104,15 +104,15 @@ pub fn inputs_here(me: u8, t: Transaction) -> Inputs
     push_if(three, (3 < n) & (d.token.shard == me), d)
 }
 
-fn push_found(so_far: Inputs, used: bool, found: Found, x: Input) -> Inputs
+fn push_found(so_far: Inputs, used: bool, found: Finding, x: Input) -> Inputs
     requires { so_far.count < 4 }
-    ensures { (inputs_of result ≡ inputs_of so_far ++ one_if (used && is_available found.finding) x) × (result.count ≤ so_far.count + 1) }
+    ensures { (inputs_of result ≡ inputs_of so_far ++ one_if (used && is_available found) x) × (result.count ≤ so_far.count + 1) }
 {
     push_if(so_far, used & was_available(found), x)
 }
 
 // Second, D(S, τ) ⊆ I(S, τ): those of the inputs here that were found available, of whichever shard, tokens and transaction.
-pub fn available_here(here: Inputs, found: [Found; 4]) -> Inputs
+pub fn available_here(here: Inputs, found: [Finding; 4]) -> Inputs
     ensures { (me : ℕ) (tokens : List Token) (t : Transaction) → Lists here (inputs_here me t)
         → found ≡ keeping (findings me tokens t) → Lists result (available_here me tokens t) }
 {

@@ -15,7 +15,7 @@ use crate::availability::is_available;
 use layout::Words;
 use layout::counts::held;
 use layout::tokens::{is_token, token_at};
-use model::{Finding, Found, Token};
+use model::{Finding, Token};
 use transaction::Input;
 
 // The place of the token of that creator and index, where it is held.
@@ -60,31 +60,26 @@ fn finding_of(s: &Words, x: Input) -> Finding
 }
 
 // The finding as it is kept; nobody asks for that of a slot that is not used.
-fn found_if(s: &Words, used: bool, x: Input) -> Found
+fn found_if(s: &Words, used: bool, x: Input) -> Finding
     requires { (shard_of s.now).held ≤ token_slots }
-    ensures { result.finding ≡ cond used (finding (ledger_of s.now).tokens x) Available }
+    ensures { result ≡ cond used (finding (ledger_of s.now).tokens x) Available }
 {
     if used {
-        let finding = finding_of(s, x);
-        return Found { finding: finding };
-    }
-    Found {
-        finding: Finding::Available,
+        finding_of(s, x)
+    } else {
+        Finding::Available
     }
 }
 
 // None, in four places.
-pub fn nothing_found() -> [Found; 4]
+pub fn nothing_found() -> [Finding; 4]
     ensures { result ≡ keeping [] }
 {
-    let nothing = Found {
-        finding: Finding::Available,
-    };
-    [nothing; 4]
+    [Finding::Available; 4]
 }
 
 // The findings about the inputs here, of whichever shard and transaction those are.
-pub fn findings_here(s: &Words, here: Inputs) -> [Found; 4]
+pub fn findings_here(s: &Words, here: Inputs) -> [Finding; 4]
     requires { (shard_of s.now).held ≤ token_slots }
     ensures { (me : ℕ) (t : Transaction) → Lists here (inputs_here me t)
         → result ≡ keeping (findings me (ledger_of s.now).tokens t) }
@@ -100,15 +95,8 @@ pub fn findings_here(s: &Words, here: Inputs) -> [Found; 4]
 }
 
 // The input was available.
-pub(crate) fn was_available(found: Found) -> bool
-    ensures { result ≡ is_available found.finding }
+pub(crate) fn was_available(found: Finding) -> bool
+    ensures { result ≡ is_available found }
 {
-    let finding = found.finding;
-    match finding {
-        Finding::Available => true,
-        Finding::NotHeld => false,
-        Finding::OtherOwner => false,
-        Finding::OtherAmount => false,
-        Finding::Pledged(number) => false,
-    }
+    matches!(found, Finding::Available)
 }

@@ -13,7 +13,7 @@ use Rattle.model.specs.Steps.{inputs_here, nothing_known}
 use Rattle.model.specs.Shard.{is_numbered}
 use Rattle.model.specs.Findings.{report_refusals, told, refusing, report}
 use Rattle.model.proofs.Capacity.{find-below}
-use Rattle.model.proofs.Findings.{number-known, report-told, report-refused}
+use Rattle.model.proofs.Reported.{number-known, report-told, report-refused}
 use Rattle.layout.specs.Layout.{known_slots, shard_of, slot_known}
 use Rattle.layout.proofs.Ledgers.{known-length, known-entry}
 use Rattle.shard.specs.View.{view, Sound}

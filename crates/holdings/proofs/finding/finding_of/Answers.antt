@@ -2,7 +2,7 @@ use Rattle.std.proofs.Common.{ℕ, ◌≡◌, false, List, get_or, sym, ap, ◌�
 use Rattle.std.proofs.Math.Option.{some}
 use Rattle.model.specs.declared.Token.{Token}
 use Rattle.model.specs.Steps.{names, available, obstacle}
-use Rattle.model.proofs.Findings.{finding-free, finding-named, finding-none}
+use Rattle.model.proofs.Reported.{finding-free, finding-named, finding-none}
 use Rattle.loops.proofs.Positions.{stands, nowhere}
 use Rattle.layout.specs.Layout.{ledger_of, no_token}
 use Rattle.layout.proofs.Ledgers.{held-entry}
