@@ -1,6 +1,6 @@
 -- A cluster (document 01: a round of eight pantries) as the reference model sees it, and what every call on it promises. A cluster is its eight shards' words.
 use Rattle.std.specs.Prelude.{ℕ, ◌<◌, ◌≤◌, ◌≡◌, List, [], map, length, get_or}
-use Rattle.model.specs.declared.Answer.{Answer}
+use Rattle.model.specs.Answers.{Answer}
 use Rattle.model.specs.Steps.{Ledger, house, empty_ledger}
 use Rattle.model.specs.Shard.{Call}
 use Rattle.model.specs.Cluster.{empty_shards, ledger_at, cluster_step}

@@ -1,13 +1,16 @@
 // Eight shards (document 01: a round of eight pantries), in place: each call is lent the cluster's words and lends one shard's on.
 #![tactic(auto)]
 
+ghost use Rattle.std.specs.Prelude.{◌≡◌, ◌<◌, ◌≤◌, IfOk, IfErr};
 ghost use Rattle.model.specs.Shard.{mint, register, deliver, turn};
 ghost use Rattle.cluster.specs.View.{Sound, Fresh, Steps};
 
 use layout::Words;
 use model::Answer;
+use shard::Vote;
 use shard::refusals::deliver_form;
 use transaction::Transaction;
+use transaction::refusal::Refusal;
 
 pub mod queries; // what can be asked of a cluster
 
@@ -23,15 +26,24 @@ pub fn new(c: &mut Cluster)
     }
 }
 
+// The place of the shard of that number: there are eight.
+fn place_of(number: u8) -> Result<usize, Refusal>
+    ensures within { IfOk result (λ place. (place ≡ number) × (place < 8)) }
+    ensures above { IfErr result (λ refusal. (refusal ≡ Refusal.OutOfRange) × (8 ≤ number)) }
+{
+    if number < 8 {
+        Ok(usize::from(number))
+    } else {
+        Err(Refusal::OutOfRange)
+    }
+}
+
 // An opening at the receiving shard.
 pub fn mint_token(c: &mut Cluster, receiver: u8, index: u8, owner: u32, amount: u32) -> Answer
     requires { Sound c.old }
     ensures { Steps c.old (mint receiver index owner amount) result c.new }
 {
-    let at = receiver as usize;
-    if 8 <= at {
-        return Answer::Refused(3);
-    }
+    let at = place_of(receiver)?;
     shard::mint_token(&mut c[at], receiver, index, owner, amount)
 }
 
@@ -40,10 +52,7 @@ pub fn register_transaction(c: &mut Cluster, receiver: u8, t: Transaction) -> An
     requires { Sound c.old }
     ensures { Steps c.old (register receiver t) result c.new }
 {
-    let at = receiver as usize;
-    if 8 <= at {
-        return Answer::Refused(3);
-    }
+    let at = place_of(receiver)?;
     shard::register_transaction(&mut c[at], receiver, t)
 }
 
@@ -58,14 +67,16 @@ pub fn deliver_vote(
     requires { Sound c.old }
     ensures { Steps c.old (deliver receiver sender verdict t) result c.new }
 {
-    let cause = deliver_form(receiver, receiver, sender, verdict, t);
-    if cause != 0 {
-        return Answer::Refused(cause);
-    }
+    deliver_form(receiver, receiver, sender, verdict, t)?;
     if !shard::has_given_vote(&c[usize::from(sender)], sender, verdict, t) {
-        return Answer::Refused(16);
+        return Err(Refusal::VoteNotGiven);
     }
-    shard::hear_formed(&mut c[usize::from(receiver)], sender, verdict, t)
+    let vote = Vote {
+        sender,
+        verdict,
+        transaction: t,
+    };
+    shard::hear_formed(&mut c[usize::from(receiver)], vote)
 }
 
 // A turn of the receiving shard.
@@ -73,9 +84,6 @@ pub fn turn_shard(c: &mut Cluster, receiver: u8) -> Answer
     requires { Sound c.old }
     ensures { Steps c.old (turn receiver) result c.new }
 {
-    let at = receiver as usize;
-    if 8 <= at {
-        return Answer::Refused(3);
-    }
+    let at = place_of(receiver)?;
     shard::turn_shard(&mut c[at], receiver)
 }

@@ -12,6 +12,7 @@ use crate::Cluster;
 use layout::Words;
 use model::{Known, Outcome, Report, Token};
 use shard::{queries, reporting};
+use transaction::refusal::Refusal;
 
 // The shard of that number, if there is one.
 fn shard_at(c: &Cluster, number: u8) -> Option<&Words>
@@ -79,9 +80,7 @@ pub fn findings_of(c: &Cluster, number: u8, transaction: u32) -> Report
     requires { Sound c.now }
     ensures { result ≡ report_at house (view c.now) number transaction }
 {
-    let Some(s) = shard_at(c, number) else {
-        return reporting::refused(3);
-    };
+    let s = shard_at(c, number).ok_or(Refusal::OutOfRange)?;
     reporting::findings_of(s, number, transaction)
 }
 

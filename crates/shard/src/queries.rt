@@ -42,8 +42,8 @@ pub fn find_token(s: &Words, creator: u32, index: u8) -> Option<Token>
     requires { Sound s.now }
     ensures { result ≡ token_of_id (view s.now).tokens creator index }
 {
-    let place = place_of_token(s, creator, index);
-    token_at(s, place)
+    let place = place_of_token(s, creator, index)?;
+    Some(tokens::token_at(s, place))
 }
 
 // The known transaction at a place; none behind the last.
@@ -73,8 +73,8 @@ pub fn outcome_of(s: &Words, number: u32) -> Option<Outcome>
     requires { Sound s.now }
     ensures { result ≡ outcome_of_number (view s.now).known number }
 {
-    let place = place_of_number(s, number);
-    outcome_at(s, place)
+    let place = place_of_number(s, number)?;
+    Some(deciding::outcome_at(s, place))
 }
 
 // The genesis index was given.
