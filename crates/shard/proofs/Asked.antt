@@ -1,12 +1,15 @@
 -- What is asked of a shard: a slot within a count is an element of the ledger's list, and behind the count there is none.
 use Prim.Native.Nat.{ℕ, ◌≤◌, ◌<◌}
 use mathlib.Core.Path.{◌≡◌, sym, ap, ◌∙◌}
+use mathlib.Core.Bool.{Bool}
 use mathlib.Core.List.{List}
 use native.Mathlib.Omega.{arith}
 use lib.ListN.{length, get_or}
 use Rattle.std.specs.Prelude.{Some, None, slice_get}
 use Rattle.std.proofs.lemmas.Option.{slice_get-get_or, slice_get_past}
 use Rattle.model.specs.Steps.{genesis_token, nothing_known}
+use Rattle.model.specs.Lists.{find}
+use Rattle.loops.proofs.Positions.{Stands, Nowhere}
 use Rattle.layout.specs.Layout.{held_place, word, tokens_of, shard_of, slot_token, slot_known}
 use Rattle.layout.proofs.Slots.{length-tokens}
 use Rattle.layout.proofs.Ledgers.{held-length, known-length, held-entry, known-entry}
@@ -19,6 +22,14 @@ held-slots {ws} sound = omega (arith, sound.held, length-tokens ws)
 -- an element of a list, by what stands at its place
 stands : {A : Type 0} (l : List A) (place : ℕ) (d : A) {a : A} → place < length l → a ≡ get_or l place d → Some a ≡ slice_get l place
 stands l place d h e = ap Some e ∙ sym (slice_get-get_or l place d h)
+
+-- an element that was searched for, by the place that the search has come to
+module _ {A : Type 0} {f : A → Bool} (l : List A) where
+  pub found-at : {place : ℕ} → Stands f l place → slice_get l place ≡ slice_get l (find f l)
+  found-at at = ap (slice_get l) (sym at.first)
+
+  pub found-nowhere : Nowhere f l → None ≡ slice_get l (find f l)
+  found-nowhere none = sym (slice_get_past l (find f l) (omega (arith, none.past)))
 
 module _ {ws : List ℕ} (sound : Sound ws) (place : ℕ) where
   -- the tokens held

@@ -9,7 +9,7 @@ use lib.ListN.{length, get_or, take, set, replicate, length-append}
 use lib.Seq.{get_or-set_same, take-set-lt}
 use Rattle.transaction.specs.declared.Transaction.{Transaction}
 use Rattle.model.specs.declared.Token.{Token}
-use Rattle.model.specs.declared.Found.{Found}
+use Rattle.model.specs.declared.Finding.{Finding}
 use Rattle.model.specs.declared.Known.{Known}
 use Rattle.model.specs.declared.Outcome.{Outcome}
 use Rattle.model.specs.Steps.{
@@ -287,7 +287,7 @@ module _ {ws : List ℕ} {me : ℕ} (c : Cleared me ws) where
 
 -- ---- The local step, from what each of its four parts yields
 
-pub stepped-here : (ws : List ℕ) (t : Transaction) {me : ℕ} {here found : Inputs} {kept : List Found} → me ≡ number ws → Lists here (inputs_here me t)
+pub stepped-here : (ws : List ℕ) (t : Transaction) {me : ℕ} {here found : Inputs} {kept : List Finding} → me ≡ number ws → Lists here (inputs_here me t)
     → ((me : ℕ) (t : Transaction) → Lists here (inputs_here me t) → kept ≡ keeping (findings me (view ws).tokens t))
     → ((me : ℕ) (tokens : List Token) (t : Transaction) → Lists here (inputs_here me t) → kept ≡ keeping (findings me tokens t)
     → Lists found (available_here me tokens t))
