@@ -97,6 +97,6 @@ mint_fits genesis receiver index owner amount = shard_fits receiver && index_fit
 abbrev pub mint_checks : ℕ → ℕ → ℕ → ℕ → ℕ → List (Bool × Refusal)
 mint_checks genesis receiver index owner amount = (not (mint_fits genesis receiver index owner amount), OutOfRange) ∷ []
 
--- a turn (document 02, TokenTwice): its one field is the shard that receives it
+-- a turn (document 02, 4): its one field is the shard that receives it
 abbrev pub turn_checks : ℕ → List (Bool × Refusal)
 turn_checks receiver = (not (shard_fits receiver), OutOfRange) ∷ []
