@@ -12,7 +12,7 @@ use Rattle.std.proofs.Common.{Some, None, is_none, Result, Ok, Err, is_ok}
 use Rattle.transaction.specs.declared.Transaction.{Transaction}
 use Rattle.transaction.specs.declared.refusal.Refusal.{Refusal}
 use Rattle.transaction.specs.declared.refusal.Refusal.TheVariants.{UnknownKind, TooShort, OutOfRange}
-use Rattle.transaction.specs.Refusals.{number_of}
+use Rattle.transaction.specs.Refusals.{number_of, answer_of}
 use Rattle.transaction.specs.Lists.{first_of}
 use Rattle.transaction.proofs.Tables.{first-stands, first-behind}
 use Rattle.transaction.specs.Tokens.{blank_transaction}
@@ -31,7 +31,6 @@ use Rattle.reader.specs.Reading.{
   record_at,
   transaction_in,
   taken_of,
-  answer_of,
   reading_of,
   refusal,
   Reads,

@@ -1,29 +1,9 @@
 -- What the reader answers: rows 1 to 5 of document 01's table of refusals, and the fields of each kind of record.
-use Rattle.std.specs.Prelude.{
-  ℕ,
-  ◌+◌,
-  ◌≡◌,
-  Bool,
-  cond,
-  Result,
-  Ok,
-  Err,
-  is_ok,
-  is_none,
-  unwrap_or,
-  List,
-  [],
-  ◌∷◌,
-  ◌++◌,
-  eqb,
-  leb,
-  length,
-  drop,
-}
+use Rattle.std.specs.Prelude.{ℕ, ◌+◌, ◌≡◌, Bool, cond, Result, Err, is_ok, is_none, unwrap_or, List, [], ◌∷◌, ◌++◌, eqb, leb, length, drop}
 use Rattle.transaction.specs.declared.Transaction.{Transaction}
 use Rattle.transaction.specs.declared.refusal.Refusal.{Refusal}
 use Rattle.transaction.specs.declared.refusal.Refusal.TheVariants.{UnknownKind, TooShort}
-use Rattle.transaction.specs.Refusals.{number_of}
+use Rattle.transaction.specs.Refusals.{number_of, answer_of}
 use Rattle.transaction.specs.Lists.{first_of}
 use Rattle.transaction.specs.Tokens.{blank_transaction}
 use Rattle.transaction.specs.Checks.{house_genesis, register_checks, vote_checks, mint_checks, turn_checks}
@@ -83,11 +63,6 @@ transaction_in l = by_kind (kind_of l) (transaction_at l 2) (transaction_at l 4)
 -- Where no whole record stands there (1 and 2), all of the bytes: nothing is behind it.
 unfoldable pub taken_of : List ℕ → ℕ
 taken_of l = cond (is_ok (head_cause l)) (body_of l + 1) (length l)
-
--- the answer by the checks: the fields where all pass, and the refusal where one fails
-abbrev pub answer_of : Result Unit Refusal → Record → Result Record Refusal
-answer_of (Ok pass) fields = Ok fields
-answer_of (Err refusal) fields = Err refusal
 
 -- the reading: the answer, the bytes taken, and the transaction; beside a refusal that is blank
 unfoldable pub reading_of : List ℕ → Reading

@@ -1,8 +1,9 @@
 // What `read` is made of where the whole record is there.
 ghost use Rattle.std.specs.Prelude.{◌≡◌, cond, ◌&&◌, ◌⊎◌, ◌<◌, eqb, leb};
+ghost use Rattle.transaction.specs.Refusals.{answer_of};
 ghost use Rattle.transaction.specs.Checks.{house_genesis, shard_fits, cause_of};
 ghost use Rattle.reader.specs.Layout.{byte_at};
-ghost use Rattle.reader.specs.Reading.{kind_of, head_cause, read_cause, record_at, taken_of, reading_of, refusal, answer_of};
+ghost use Rattle.reader.specs.Reading.{kind_of, head_cause, read_cause, record_at, taken_of, reading_of, refusal};
 
 use crate::layout::word_at;
 use crate::{Reading, Record};

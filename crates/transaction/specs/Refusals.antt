@@ -48,3 +48,8 @@ refusal_number TurnedAlready = 19
 abbrev pub number_of : {A : Type 0} → Result A Refusal → ℕ
 number_of (Ok done) = 0
 number_of (Err refusal) = refusal_number refusal
+
+-- the answer by the checks: what is to be answered where all pass, and the refusal where one fails
+abbrev pub answer_of : {A : Type 0} → Result Unit Refusal → A → Result A Refusal
+answer_of (Ok pass) done = Ok done
+answer_of (Err refusal) done = Err refusal

@@ -1,7 +1,19 @@
 use Rattle.std.proofs.Common.{ℕ, ◌≡◌, ◌-◌, arith, ap, ◌∙◌}
 use Rattle.reader.specs.Layout.{transaction_at}
 use Rattle.reader.specs.Reading.{transaction_in}
-use Rattle.reader.proofs.Cases.{whole, first_kinds, size-within, transaction-last, taken-within, front_fails, front-passes, reading_none, reading_good, reading_bad, reads}
+use Rattle.reader.proofs.Cases.{
+  whole,
+  first_kinds,
+  size-within,
+  transaction-last,
+  taken-within,
+  front_fails,
+  front-passes,
+  reading_none,
+  reading_good,
+  reading_bad,
+  reads,
+}
 use Rattle.reader.proofs.read.Goals as goal
 
 -- no whole record stands at the front

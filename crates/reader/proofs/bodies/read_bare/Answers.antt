@@ -1,5 +1,6 @@
 use Rattle.std.proofs.Common.{◌≡◌}
-use Rattle.reader.specs.Reading.{read_cause, record_at, answer_of}
+use Rattle.transaction.specs.Refusals.{answer_of}
+use Rattle.reader.specs.Reading.{read_cause, record_at}
 use Rattle.reader.proofs.Cases.{last-kind, bare-transaction, reading_bare}
 use Rattle.reader.proofs.bodies.read_bare.Goals as goal
 use Rattle.reader.proofs.bodies.read_bare.Goals.{then-bytes-eq3, else-bytes-eq3}
