@@ -6,12 +6,14 @@ use native.Mathlib.Omega.{arith}
 use borrow.Author.Tests.{lt-leb}
 use lib.ListN.{take, get_or-eq_default, length-map}
 use lib.Seq.{take_all}
+use Rattle.std.specs.Prelude.{Err}
+use Rattle.transaction.specs.declared.refusal.Refusal.TheVariants.{OutOfRange}
 use Rattle.model.specs.Totals.{held_in, total_held}
 use Rattle.transaction.specs.Lists.{total}
 use Rattle.model.specs.Steps.{house, empty_ledger}
-use Rattle.model.specs.declared.Report.{Report}
+use Rattle.model.specs.Answers.{Report}
 use Rattle.model.specs.Cluster.{ledger_at}
-use Rattle.model.specs.Findings.{refusing, report, report_at}
+use Rattle.model.specs.Findings.{report, report_at}
 use Rattle.model.proofs.Reported.{report-above}
 use Rattle.shard.specs.View as shard
 use Rattle.cluster.specs.View.{view, shard_at, Sound, IsShard, NoShard}
@@ -50,9 +52,9 @@ module _ {c : List (List ℕ)} (sound : Sound c) where
 
   -- what is reported: by the shard that is asked, and where there is none
   module _ (p number : ℕ) where
-    pub report-of : {r : Report} → p < 8 → r ≡ report (shard.number (shard_at c p)) (shard.view (shard_at c p)) p number
+    pub report-of : {ws : List ℕ} {r : Report} → IsShard c p ws → r ≡ report (shard.number ws) (shard.view ws) p number
         → r ≡ report_at house (view c) p number
-    report-of h e = e ∙ (λ i. report ((sound.each p h).numbered i) (sym (ledger-of sound p h) i) p number)
+    report-of is e = e ∙ (λ i. report (is.numbered i) (sym is.ledger i) p number)
 
-    pub report-none : {r : Report} → 8 ≤ p → r ≡ refusing 3 → r ≡ report_at house (view c) p number
-    report-none h e = e ∙ sym (report-above (ledger_at house (view c) p) p number (lt-leb p 7 (omega arith)))
+    pub report-none : 8 ≤ p → Err OutOfRange ≡ report_at house (view c) p number
+    report-none h = sym (report-above (ledger_at house (view c) p) p number (lt-leb p 7 (omega arith)))

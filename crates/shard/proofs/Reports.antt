@@ -29,10 +29,10 @@ told-slot ws place em ec ef =
     let many = ec ∙ (λ i. length (inputs_here (em i) (slot_known ws place).transaction)) in
     λ i. record { count = many i; list = ef i }
 
--- the refusal of a place that was not found
-pub no-place : (o : Option ℕ) {refusal other : Refusal} → Err refusal ≡ ok_or o other → refusal ≡ other
-no-place None e = cc
-no-place (Some place) e = absurd cc
+-- the refusal of what was not found
+pub refusal-of : {A : Type 0} (o : Option A) {refusal other : Refusal} → Err refusal ≡ ok_or o other → refusal ≡ other
+refusal-of None e = cc
+refusal-of (Some place) e = absurd cc
 
 module _ {ws : List ℕ} (sound : Sound ws) (at number : ℕ) where
   abbrev form : List (Bool × Refusal)

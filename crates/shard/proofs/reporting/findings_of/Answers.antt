@@ -3,7 +3,7 @@ use Rattle.model.specs.Shard.{is_numbered}
 use Rattle.loops.proofs.Positions.{stands, nowhere}
 use Rattle.layout.proofs.Ledgers.{known-length}
 use Rattle.shard.specs.View.{view}
-use Rattle.shard.proofs.Reports.{no-place, report-formed, report-unknown, report-there}
+use Rattle.shard.proofs.Reports.{refusal-of, report-formed, report-unknown, report-there}
 use Rattle.shard.proofs.Tables.{passed_on}
 use Rattle.shard.proofs.reporting.findings_of.Goals as goal
 
@@ -20,7 +20,7 @@ returns-in_err-place c =
     let none = c.in_err-place.ensures.ok_part in
     let nowhere = nowhere (is_numbered c.args.number) (view c.args.s.now).known (sym c.place_of_number.ensures.found ∙ none) in
     passed_on c.from_residual-in_err-place.result c.from_residual-in_err-place.ensures.1
-    ∙ ap Err (no-place c.place_of_number.result c.in_err-place.ensures.value)
+    ∙ ap Err (refusal-of c.place_of_number.result c.in_err-place.ensures.value)
     ∙ report-unknown c.requires c.args.shard c.args.number formed nowhere
 
 -- It stands in one of the slots, and what is told of that is reported.
