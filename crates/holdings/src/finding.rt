@@ -1,17 +1,15 @@
 // What is found about each input here (document 02, 2), before anything is pledged: it belongs to the second part of the
 // local step.
-ghost use Rattle.std.specs.Prelude.{◌≡◌, cond, [], ℕ, ◌≤◌, ◌<◌, position, IfSome};
+ghost use Rattle.std.specs.Prelude.{◌≡◌, [], ℕ, ◌≤◌, ◌<◌, position, IfSome};
 ghost use Rattle.std.proofs.Math.Option.{some};
 ghost use Rattle.transaction.specs.declared.Transaction.{Transaction};
-ghost use Rattle.model.specs.declared.Finding.TheVariants.{Available};
 ghost use Rattle.model.specs.Answers.{is_available};
 ghost use Rattle.model.specs.Steps.{inputs_here, obstacle, finding, findings, keeping};
 ghost use Rattle.model.specs.Demand.{has_spot};
 ghost use Rattle.layout.specs.Layout.{token_slots, shard_of, ledger_of};
-ghost use Rattle.holdings.specs.Held.{Lists};
 
-use crate::Inputs;
 use crate::availability::is_available;
+use crate::inputs::Inputs;
 use layout::Words;
 use layout::counts::held;
 use layout::tokens::{is_token, token_at};
@@ -59,18 +57,6 @@ fn finding_of(s: &Words, x: Input) -> Finding
     }
 }
 
-// The finding as it is kept; nobody asks for that of a slot that is not used.
-fn found_if(s: &Words, used: bool, x: Input) -> Finding
-    requires { (shard_of s.now).held ≤ token_slots }
-    ensures { result ≡ cond used (finding (ledger_of s.now).tokens x) Available }
-{
-    if used {
-        finding_of(s, x)
-    } else {
-        Finding::Available
-    }
-}
-
 // None, in four places.
 pub fn nothing_found() -> [Finding; 4]
     ensures { result ≡ keeping [] }
@@ -79,19 +65,16 @@ pub fn nothing_found() -> [Finding; 4]
 }
 
 // The findings about the inputs here, of whichever shard and transaction those are.
-pub fn findings_here(s: &Words, here: Inputs) -> [Finding; 4]
+pub fn findings_here(s: &Words, here: &Inputs) -> [Finding; 4]
     requires { (shard_of s.now).held ≤ token_slots }
-    ensures { (me : ℕ) (t : Transaction) → Lists here (inputs_here me t)
+    ensures { (me : ℕ) (t : Transaction) → here.now ≡ inputs_here me t
         → result ≡ keeping (findings me (ledger_of s.now).tokens t) }
 {
-    let n = here.count;
-    let x = here.list;
-    [
-        found_if(s, 0 < n, x[0]),
-        found_if(s, 1 < n, x[1]),
-        found_if(s, 2 < n, x[2]),
-        found_if(s, 3 < n, x[3]),
-    ]
+    let mut found = nothing_found();
+    for (i, x) in here.as_slice().iter().enumerate() {
+        found[i] = finding_of(s, *x);
+    }
+    found
 }
 
 // The input was available.

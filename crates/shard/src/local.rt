@@ -26,9 +26,9 @@ pub(crate) fn local_step(s: &mut Words, t: Transaction) -> Own
 {
     let me = own_number(s); // S
     let here = inputs_here(me, t); // I(S, τ) = {o ∈ Inputs(τ) | S = shard(o)}
-    let findings = findings_here(s, here); // what S finds about each of them now
-    let found = available_here(here, findings); // D(S, τ) ⊆ I(S, τ), those available
-    pledge_all(s, t.number, found); // S pledges D(S, τ) to τ
-    let verdict = own_vote(here, found); // m(S, τ): yes if I(S, τ) = D(S, τ)
+    let findings = findings_here(s, &here); // what S finds about each of them now
+    let found = available_here(&here, findings); // D(S, τ) ⊆ I(S, τ), those available
+    pledge_all(s, t.number, &found); // S pledges D(S, τ) to τ
+    let verdict = own_vote(&here, &found); // m(S, τ): yes if I(S, τ) = D(S, τ)
     Own { verdict, findings }
 }
