@@ -1,20 +1,22 @@
 -- What is asked of a cluster, from its shards.
 use Prim.Native.Nat.{ℕ, ◌+◌, ◌≤◌, ◌<◌}
-use mathlib.Core.Path.{◌≡◌, refl, sym, ap, ◌∙◌}
+use mathlib.Core.Path.{◌≡◌, refl, sym, ap, subst, ◌∙◌}
 use mathlib.Core.List.{List, [], ◌∷◌, map}
 use native.Mathlib.Omega.{arith}
 use borrow.Author.Tests.{lt-leb}
 use lib.ListN.{take, get_or-eq_default, length-map}
 use lib.Seq.{take_all}
+use Rattle.std.specs.Prelude.{Err}
+use Rattle.transaction.specs.declared.refusal.Refusal.TheVariants.{OutOfRange}
 use Rattle.model.specs.Totals.{held_in, total_held}
 use Rattle.transaction.specs.Lists.{total}
 use Rattle.model.specs.Steps.{house, empty_ledger}
-use Rattle.model.specs.declared.Report.{Report}
+use Rattle.model.specs.Answers.{Report}
 use Rattle.model.specs.Cluster.{ledger_at}
-use Rattle.model.specs.Findings.{refusing, report, report_at}
-use Rattle.model.proofs.Findings.{report-above}
+use Rattle.model.specs.Findings.{report, report_at}
+use Rattle.model.proofs.Reported.{report-above}
 use Rattle.shard.specs.View as shard
-use Rattle.cluster.specs.View.{view, shard_at, Sound}
+use Rattle.cluster.specs.View.{view, shard_at, Sound, IsShard, NoShard}
 use Rattle.cluster.proofs.Shards.{ledger-of}
 
 total-map : {A B : Type 0} (f : B → ℕ) (g : A → B) (x : List A) → total f (map g x) ≡ total (λ (a : A). f (g a)) x
@@ -37,11 +39,22 @@ module _ {c : List (List ℕ)} (sound : Sound c) where
   ledger-none number h =
       get_or-eq_default (map shard.view c) (empty_ledger house) {n = number} (rw (length-map c shard.view, sound.eight) h)
 
+  -- a shard that was looked up
+  pub is-shard : {p : ℕ} {ws : List ℕ} → p < 8 → ws ≡ shard_at c p → IsShard c p ws
+  is-shard {p} below e = record {
+    numbered = ap shard.number e ∙ (sound.each p below).numbered;
+    sound = subst shard.Sound (sym e) (sound.each p below).sound;
+    ledger = ledger-of sound p below ∙ ap shard.view (sym e);
+  }
+
+  pub no-shard-at : {p : ℕ} → 8 ≤ p → NoShard c p
+  no-shard-at {p} above = record { above = above; ledger = ledger-none p above }
+
   -- what is reported: by the shard that is asked, and where there is none
   module _ (p number : ℕ) where
-    pub report-of : {r : Report} → p < 8 → r ≡ report (shard.number (shard_at c p)) (shard.view (shard_at c p)) p number
+    pub report-of : {ws : List ℕ} {r : Report} → IsShard c p ws → r ≡ report (shard.number ws) (shard.view ws) p number
         → r ≡ report_at house (view c) p number
-    report-of h e = e ∙ (λ i. report ((sound.each p h).numbered i) (sym (ledger-of sound p h) i) p number)
+    report-of is e = e ∙ (λ i. report (is.numbered i) (sym is.ledger i) p number)
 
-    pub report-none : {r : Report} → 8 ≤ p → r ≡ refusing 3 → r ≡ report_at house (view c) p number
-    report-none h e = e ∙ sym (report-above (ledger_at house (view c) p) p number (lt-leb p 7 (omega arith)))
+    pub report-none : 8 ≤ p → Err OutOfRange ≡ report_at house (view c) p number
+    report-none h = sym (report-above (ledger_at house (view c) p) p number (lt-leb p 7 (omega arith)))

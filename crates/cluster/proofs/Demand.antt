@@ -10,10 +10,10 @@ use Prim.Native.Nat.{ℕ}
 use mathlib.Core.Path.{◌≡◌, ap, sym, subst, ◌∙◌}
 use mathlib.Core.List.{List, Memᴰ}
 use contract.Lifetimes.{Lfts}
-use Rattle.model.specs.declared.Report.{Report}
-use Rattle.model.specs.declared.Told.TheVariants.{Findings}
-use Rattle.model.specs.declared.Answer.{Answer}
-use Rattle.model.specs.declared.Answer.TheVariants.{Refused}
+use Rattle.std.specs.Prelude.{Ok, Err}
+use Rattle.transaction.specs.declared.refusal.Refusal.TheVariants.{NumberUnknown}
+use Rattle.model.specs.declared.Findings.{Findings}
+use Rattle.model.specs.Answers.{Answer, Report}
 use Rattle.model.specs.Steps.{house}
 use Rattle.model.specs.Shard.{Call, mint, register, deliver, turn}
 use Rattle.model.specs.Findings.{reported, TrueFindings}
@@ -98,7 +98,7 @@ demand_3 c₀ starts run = run_demand_3 (code c₀ starts) run
 
 -- THEOREM: in every such run 11 is never answered (document 02, 6)
 pub never_eleven : (c₀ : Cluster) (starts : Starts c₀) {c : Cluster} {calls : List Call} {replies : List Answer}
-    → Run (code c₀ starts) c₀ calls replies c → Memᴰ (Refused 11) replies → ⊥
+    → Run (code c₀ starts) c₀ calls replies c → Memᴰ (Err NumberUnknown) replies → ⊥
 never_eleven c₀ starts run = run_never_eleven (code c₀ starts) run
 
 -- `findings_of`, lent this cluster and handed a shard and a number, may have returned this report
@@ -109,9 +109,9 @@ pub record Reports (c : Cluster) (p number : ℕ) (r : Report) : Type 0 where
 
 -- THEOREM: each finding that it reports, after every such run, is the true state of that token at that registration (document 02, 2)
 pub true_findings : (c₀ : Cluster) (starts : Starts c₀) {c : Cluster} {calls : List Call} {replies : List Answer}
-    → Run (code c₀ starts) c₀ calls replies c → {p number count : ℕ} {r : Report} → Reports c p number r
-    → r.answer ≡ Findings count → TrueFindings house calls p number (reported r)
-true_findings c₀ starts {c} {calls} run {p} {number} {count} {r} x e =
+    → Run (code c₀ starts) c₀ calls replies c → {p number : ℕ} {found : Findings} {r : Report} → Reports c p number r
+    → r ≡ Ok found → TrueFindings house calls p number (reported r)
+true_findings c₀ starts {c} {calls} run {p} {number} {found} {r} x e =
     let is = x.kept (run_sound (code c₀ starts) (started starts).sound run) in
     subst (λ (y : Report). TrueFindings house calls p number (reported y)) (sym is)
-    (run_true_findings (code c₀ starts) run p number count (sym (ap (λ (y : Report). y.answer) is) ∙ e))
+    (run_true_findings (code c₀ starts) run p number found (sym is ∙ e))

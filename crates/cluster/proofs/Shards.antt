@@ -6,14 +6,16 @@ use mathlib.Core.List.{List, [], ◌∷◌, map}
 use native.Mathlib.Omega.{arith}
 use borrow.Author.Tests.{eqb-true, eqb-false, ne_eqb, not-false, lt-leb}
 use lib.Dec.{eqb}
+use Rattle.std.specs.Prelude.{Ok, Err}
 use lib.ListN.{length, get_or, set, replicate, length-set}
 use lib.Seq.{get_or-set_same, get_or-set_other, set-get_or}
 use Rattle.transaction.specs.declared.Transaction.{Transaction}
+use Rattle.transaction.specs.declared.refusal.Refusal.{Refusal}
+use Rattle.transaction.specs.declared.refusal.Refusal.TheVariants.{OutOfRange, VoteNotGiven}
 use Rattle.transaction.specs.Lists.{first_of}
 use Rattle.transaction.specs.Checks.{shard_fits}
 use Rattle.transaction.proofs.Tables.{first-stands}
-use Rattle.model.specs.declared.Answer.{Answer}
-use Rattle.model.specs.declared.Answer.TheVariants.{Refused}
+use Rattle.model.specs.Answers.{Answer}
 use Rattle.model.specs.Steps.{Ledger, house, empty_ledger}
 use Rattle.model.specs.Shard.{Call, mint, register, deliver, deliver_form, deliver_rest, deliver_refusals, shard_step, turn, delivered}
 use Rattle.model.specs.Cluster.{ledger_at, gave, not_given, at_shard, cluster_step}
@@ -42,8 +44,8 @@ module _ {c : List (List ℕ)} (sound : Sound c) where
   ledger-of p h = map_at shard.view c p [] (empty_ledger house) (omega (arith, sound.eight))
 
   -- a call that changes nothing
-  refused : {call : Call} {number : ℕ} → cluster_step house (view c) call ≡ (view c, Refused number)
-      → Steps c call (Refused number) c
+  refused : {call : Call} {refusal : Refusal} → cluster_step house (view c) call ≡ (view c, Err refusal)
+      → Steps c call (Err refusal) c
   refused e = record {
     answered = sym (ap (λ (y : List Ledger × Answer). y.1) e);
     ledgers = sym (ap (λ (y : List Ledger × Answer). y.0) e);
@@ -51,7 +53,7 @@ module _ {c : List (List ℕ)} (sound : Sound c) where
   }
 
   -- a call to a shard that does not exist
-  pub no-shard : {call : Call} → 8 ≤ receiver_of call → Steps c call (Refused 3) c
+  pub no-shard : {call : Call} → 8 ≤ receiver_of call → Steps c call (Err OutOfRange) c
   no-shard {call} h = refused (no_such_shard house (view c) call (lt-leb (receiver_of call) 7 (omega arith)))
 
   -- a shard lent on, and its words come back
@@ -116,54 +118,54 @@ module _ {c : List (List ℕ)} (sound : Sound c) where
 
 -- ---- A vote: 3 to 6, then 16
 
+abbrev answered : Refusal → Answer
+answered refusal = Err refusal
+
 -- it has passed 3 to 6, so that its sender and its receiver are shards
 pub record Formed (receiver sender verdict : ℕ) (t : Transaction) : Type 0 where
-  pub passes : first_of (deliver_form house receiver receiver sender verdict t) ≡ 0
+  pub passes : first_of (deliver_form house receiver receiver sender verdict t) ≡ Ok tt
   pub from : sender < 8
   pub to : receiver < 8
 
 module _ (receiver sender verdict : ℕ) (t : Transaction) where
-  abbrev form : List (Bool × ℕ)
+  abbrev form : List (Bool × Refusal)
   form = deliver_form house receiver receiver sender verdict t
 
   -- the model's step where the form refuses it
-  module _ (shards : List Ledger) {cause : ℕ} (e : cause ≡ first_of form) (n : cause ≡ 0 → ⊥) where
+  module _ (shards : List Ledger) {refusal : Refusal} (e : Err refusal ≡ first_of form) where
     abbrev ledger : Ledger
     ledger = ledger_at house shards receiver
 
-    whole : first_of (deliver_refusals house receiver ledger receiver sender verdict t) ≡ cause
+    whole : first_of (deliver_refusals house receiver ledger receiver sender verdict t) ≡ Err refusal
     unfolding deliver_refusals
-    whole = first-stands form (deliver_rest house receiver ledger sender verdict t) (λ z. n (e ∙ z)) ∙ sym e
+    whole = first-stands form (deliver_rest house receiver ledger sender verdict t) (sym e)
 
-    form-step : cluster_step house shards (deliver receiver sender verdict t) ≡ (shards, Refused cause)
+    form-step : cluster_step house shards (deliver receiver sender verdict t) ≡ (shards, Err refusal)
     unfolding cluster_step not_given at_shard shard_step
     form-step =
-        let r = unless-refused cause ledger (delivered receiver ledger sender verdict t) n in
         let same = set-get_or shards receiver (empty_ledger house) in
-        rw (← e, ne_eqb cause 0 n, whole, r) (ap (λ (l : List Ledger). (l, Refused cause)) same)
+        rw (← e, whole) (ap (λ (l : List Ledger). (l, answered refusal)) same)
 
 module _ {receiver sender verdict : ℕ} {t : Transaction} where
-  pub formed : {cause : ℕ} → cause ≡ first_of (form receiver sender verdict t) → cause ≡ 0
-      → Formed receiver sender verdict t
+  pub formed : Ok tt ≡ first_of (form receiver sender verdict t) → Formed receiver sender verdict t
   unfolding deliver_form
-  formed e z =
-      let passes = sym e ∙ z in
-      let checked = (passed (form receiver sender verdict t) refl passes).1 in
+  formed e =
+      let checked = (passed (form receiver sender verdict t) (sym e)).1 in
       record {
-        passes = passes;
+        passes = sym e;
         from = shard-below sender (not-false (shard_fits sender) checked.1.0);
         to = shard-below receiver (not-false (shard_fits receiver) checked.0);
       }
 
   module _ {c : List (List ℕ)} (sound : Sound c) where
     -- refused by its form
-    pub form-refused : {cause : ℕ} → cause ≡ first_of (form receiver sender verdict t) → (cause ≡ 0 → ⊥)
-        → Steps c (deliver receiver sender verdict t) (Refused cause) c
-    form-refused e n = refused sound (form-step receiver sender verdict t (view c) e n)
+    pub form-refused : {refusal : Refusal} → Err refusal ≡ first_of (form receiver sender verdict t)
+        → Steps c (deliver receiver sender verdict t) (Err refusal) c
+    form-refused e = refused sound (form-step receiver sender verdict t (view c) e)
 
     module _ (vote : Formed receiver sender verdict t) where
       -- to its receiver it has passed them too
-      pub own-form : let me = shard.number (shard_at c receiver) in first_of (deliver_form house me me sender verdict t) ≡ 0
+      pub own-form : let me = shard.number (shard_at c receiver) in first_of (deliver_form house me me sender verdict t) ≡ Ok tt
       own-form = rw (numbered sound receiver vote.to) vote.passes
 
       module _ {given : Bool} (eg : given ≡ gave (shard.view (shard_at c sender)) sender verdict t) where
@@ -172,7 +174,7 @@ module _ {receiver sender verdict : ℕ} {t : Transaction} where
         not-given-is = rw (vote.passes, ledger-of sound sender vote.from, ← eg) refl
 
         -- 16
-        pub not-given : not given ≡ true → Steps c (deliver receiver sender verdict t) (Refused 16) c
+        pub not-given : not given ≡ true → Steps c (deliver receiver sender verdict t) (Err VoteNotGiven) c
         unfolding cluster_step
         not-given n = refused sound (rw (not-given-is ∙ n) refl)
 

@@ -1,37 +1,40 @@
 // Eight shards (document 01: a round of eight pantries), in place: each call is lent the cluster's words and lends one shard's on.
 #![tactic(auto)]
 
-ghost use Rattle.std.specs.Prelude.{◌≡◌, ◌<◌};
+ghost use Rattle.std.specs.Prelude.{◌≡◌, ◌<◌, ◌≤◌, IfOk, IfErr};
 ghost use Rattle.model.specs.Shard.{mint, register, deliver, turn};
 ghost use Rattle.cluster.specs.View.{Sound, Fresh, Steps};
 
-use layout::{SHARD_WORDS, Words};
+use layout::Words;
 use model::Answer;
+use shard::Vote;
 use shard::refusals::deliver_form;
 use transaction::Transaction;
+use transaction::refusal::Refusal;
 
 pub mod queries; // what can be asked of a cluster
 
 // A cluster's words.
 pub type Cluster = [Words; 8];
 
-fn narrow(p: usize) -> u8
-    requires { p < 8 }
-    ensures { result ≡ p }
-{
-    p as u8
-}
-
 // Eight empty shards, whatever the words were.
 pub fn new(c: &mut Cluster)
     ensures { Fresh c.new }
 {
-    *c = [[0; SHARD_WORDS]; 8];
-    let mut p = 0;
-    while p < 8 {
-        let me = narrow(p);
-        shard::new(&mut c[p], me);
-        p += 1;
+    for number in 0..8u8 {
+        shard::new(&mut c[usize::from(number)], number);
+    }
+}
+
+// The place of the shard of that number: there are eight.
+fn place_of(number: u8) -> Result<usize, Refusal>
+    ensures within { IfOk result (λ place. (place ≡ number) × (place < 8)) }
+    ensures above { IfErr result (λ refusal. (refusal ≡ Refusal.OutOfRange) × (8 ≤ number)) }
+{
+    if number < 8 {
+        Ok(usize::from(number))
+    } else {
+        Err(Refusal::OutOfRange)
     }
 }
 
@@ -40,10 +43,7 @@ pub fn mint_token(c: &mut Cluster, receiver: u8, index: u8, owner: u32, amount: 
     requires { Sound c.old }
     ensures { Steps c.old (mint receiver index owner amount) result c.new }
 {
-    let at = receiver as usize;
-    if 8 <= at {
-        return Answer::Refused(3);
-    }
+    let at = place_of(receiver)?;
     shard::mint_token(&mut c[at], receiver, index, owner, amount)
 }
 
@@ -52,10 +52,7 @@ pub fn register_transaction(c: &mut Cluster, receiver: u8, t: Transaction) -> An
     requires { Sound c.old }
     ensures { Steps c.old (register receiver t) result c.new }
 {
-    let at = receiver as usize;
-    if 8 <= at {
-        return Answer::Refused(3);
-    }
+    let at = place_of(receiver)?;
     shard::register_transaction(&mut c[at], receiver, t)
 }
 
@@ -70,16 +67,16 @@ pub fn deliver_vote(
     requires { Sound c.old }
     ensures { Steps c.old (deliver receiver sender verdict t) result c.new }
 {
-    let cause = deliver_form(receiver, receiver, sender, verdict, t);
-    if cause != 0 {
-        return Answer::Refused(cause);
+    deliver_form(receiver, receiver, sender, verdict, t)?;
+    if !shard::has_given_vote(&c[usize::from(sender)], sender, verdict, t) {
+        return Err(Refusal::VoteNotGiven);
     }
-    let from = sender as usize;
-    if !shard::has_given_vote(&c[from], sender, verdict, t) {
-        return Answer::Refused(16);
-    }
-    let at = receiver as usize;
-    shard::hear_formed(&mut c[at], sender, verdict, t)
+    let vote = Vote {
+        sender,
+        verdict,
+        transaction: t,
+    };
+    shard::hear_formed(&mut c[usize::from(receiver)], vote)
 }
 
 // A turn of the receiving shard.
@@ -87,9 +84,6 @@ pub fn turn_shard(c: &mut Cluster, receiver: u8) -> Answer
     requires { Sound c.old }
     ensures { Steps c.old (turn receiver) result c.new }
 {
-    let at = receiver as usize;
-    if 8 <= at {
-        return Answer::Refused(3);
-    }
+    let at = place_of(receiver)?;
     shard::turn_shard(&mut c[at], receiver)
 }

@@ -1,40 +1,42 @@
 // What can be asked of a cluster; nothing of it is changed. A shard above 7 is an empty one; where findings are asked for, it
 // is refused.
-ghost use Rattle.std.specs.Prelude.{◌≡◌, length};
+ghost use Rattle.std.specs.Prelude.{◌≡◌, length, MatchOption};
 ghost use Rattle.model.specs.Steps.{house};
 ghost use Rattle.model.specs.Cluster.{ledger_at};
 ghost use Rattle.model.specs.Findings.{report_at};
 ghost use Rattle.shard.specs.Queries.{token_at, known_at, outcome_at, outcome_of_number};
-ghost use Rattle.cluster.specs.View.{view, Sound};
+ghost use Rattle.cluster.specs.View.{view, Sound, NoShard, IsShard};
 ghost use Rattle.model.specs.Totals.{held_in, total_held};
 
 use crate::Cluster;
-use model::{Known, Report};
-use shard::queries::{HeldToken, KnownOutcome};
+use layout::Words;
+use model::{Known, Outcome, Report, Token};
 use shard::{queries, reporting};
+use transaction::refusal::Refusal;
+
+// The shard of that number, if there is one.
+fn shard_at(c: &Cluster, number: u8) -> Option<&Words>
+    requires { Sound c.now }
+    ensures { MatchOption result (NoShard c.now number) (λ s. IsShard c.now number s.now) }
+{
+    c.get(usize::from(number))
+}
 
 // How many tokens the shard of that number holds.
 pub fn held_count(c: &Cluster, number: u8) -> usize
     requires { Sound c.now }
     ensures { result ≡ length (ledger_at house (view c.now) number).tokens }
 {
-    let at = number as usize;
-    if 8 <= at {
-        return 0;
-    }
-    queries::held_count(&c[at])
+    shard_at(c, number).map_or(0, queries::held_count)
 }
 
 // The token at a place of those that it holds.
-pub fn token_at(c: &Cluster, number: u8, place: usize) -> HeldToken
+pub fn token_at(c: &Cluster, number: u8, place: usize) -> Option<Token>
     requires { Sound c.now }
     ensures { result ≡ token_at (ledger_at house (view c.now) number).tokens place }
 {
-    let at = number as usize;
-    if 8 <= at {
-        return HeldToken::NotHeld;
-    }
-    queries::token_at(&c[at], place)
+    let s = shard_at(c, number)?;
+    queries::token_at(s, place)
 }
 
 // How many transactions it knows.
@@ -42,47 +44,34 @@ pub fn known_count(c: &Cluster, number: u8) -> usize
     requires { Sound c.now }
     ensures { result ≡ length (ledger_at house (view c.now) number).known }
 {
-    let at = number as usize;
-    if 8 <= at {
-        return 0;
-    }
-    queries::known_count(&c[at])
+    shard_at(c, number).map_or(0, queries::known_count)
 }
 
-// The transaction at a place of those that it knows; a blank one behind the last.
-pub fn known_at(c: &Cluster, number: u8, place: usize) -> Known
+// The transaction at a place of those that it knows; none behind the last.
+pub fn known_at(c: &Cluster, number: u8, place: usize) -> Option<Known>
     requires { Sound c.now }
     ensures { result ≡ known_at (ledger_at house (view c.now) number).known place }
 {
-    let at = number as usize;
-    if 8 <= at {
-        return queries::blank_known();
-    }
-    queries::known_at(&c[at], place)
+    let s = shard_at(c, number)?;
+    queries::known_at(s, place)
 }
 
 // The outcome there of the transaction at a place of those that it knows.
-pub fn outcome_at(c: &Cluster, number: u8, place: usize) -> KnownOutcome
+pub fn outcome_at(c: &Cluster, number: u8, place: usize) -> Option<Outcome>
     requires { Sound c.now }
     ensures { result ≡ outcome_at (ledger_at house (view c.now) number).known place }
 {
-    let at = number as usize;
-    if 8 <= at {
-        return KnownOutcome::Unknown;
-    }
-    queries::outcome_at(&c[at], place)
+    let s = shard_at(c, number)?;
+    queries::outcome_at(s, place)
 }
 
 // The outcome there of the transaction of that number.
-pub fn outcome_of(c: &Cluster, number: u8, transaction: u32) -> KnownOutcome
+pub fn outcome_of(c: &Cluster, number: u8, transaction: u32) -> Option<Outcome>
     requires { Sound c.now }
     ensures { result ≡ outcome_of_number (ledger_at house (view c.now) number).known transaction }
 {
-    let at = number as usize;
-    if 8 <= at {
-        return KnownOutcome::Unknown;
-    }
-    queries::outcome_of(&c[at], transaction)
+    let s = shard_at(c, number)?;
+    queries::outcome_of(s, transaction)
 }
 
 // What it found about its inputs of the transaction of that number (document 02, 2): 3 for a shard above 7 and for the
@@ -91,11 +80,8 @@ pub fn findings_of(c: &Cluster, number: u8, transaction: u32) -> Report
     requires { Sound c.now }
     ensures { result ≡ report_at house (view c.now) number transaction }
 {
-    let at = number as usize;
-    if 8 <= at {
-        return reporting::refused(3);
-    }
-    reporting::findings_of(&c[at], number, transaction)
+    let s = shard_at(c, number).ok_or(Refusal::OutOfRange)?;
+    reporting::findings_of(s, number, transaction)
 }
 
 // It has turned (document 02, 4).
@@ -103,11 +89,7 @@ pub fn is_turned(c: &Cluster, number: u8) -> bool
     requires { Sound c.now }
     ensures { result ≡ (ledger_at house (view c.now) number).turned }
 {
-    let at = number as usize;
-    if 8 <= at {
-        return false;
-    }
-    queries::is_turned(&c[at])
+    shard_at(c, number).is_some_and(queries::is_turned)
 }
 
 // The sum of the amounts that it holds (document 01: the portions held in a pantry).
@@ -115,11 +97,7 @@ pub fn amount_at(c: &Cluster, number: u8) -> u64
     requires { Sound c.now }
     ensures { result ≡ held_in (ledger_at house (view c.now) number) }
 {
-    let at = number as usize;
-    if 8 <= at {
-        return 0;
-    }
-    queries::total_amount(&c[at])
+    shard_at(c, number).map_or(0, queries::total_amount)
 }
 
 // The sum of the amounts held in all shards (document 01: the portions held in all pantries).
@@ -127,12 +105,9 @@ pub fn total_amount(c: &Cluster) -> u64
     requires { Sound c.now }
     ensures { result ≡ total_held (view c.now) }
 {
-    let mut sum: u64 = 0;
-    let mut i = 0;
-    while i < 8 {
-        let n = queries::total_amount(&c[i]);
-        sum += n;
-        i += 1;
+    let mut sum = 0;
+    for s in c {
+        sum += queries::total_amount(s);
     }
     sum
 }

@@ -38,7 +38,7 @@ use Rattle.model.specs.Demand.{outcome_in}
 use Rattle.model.proofs.Basics.{number_behind, never_answers}
 use Rattle.model.specs.Findings.{report_refusals, report_at, reported, TrueFindings}
 use Rattle.model.proofs.Tables.{never_eleven}
-use Rattle.model.proofs.Findings.{report-number, report-small}
+use Rattle.model.proofs.Reported.{report-number, report-small}
 use Rattle.model.proofs.TrueFindings.{true_findings, reported-count}
 use Rattle.model.proofs.Bridge as bridge
 use Rattle.model.proofs.Bridge.{reference, RunDemand, run_demand_3}

@@ -1,4 +1,3 @@
-pub mod Long
 pub mod Local
 pub mod Made
 pub mod Tokens

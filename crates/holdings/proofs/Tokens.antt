@@ -2,15 +2,15 @@
 use Prim.Native.Nat.{ℕ, ◌+◌, ◌≤◌, ◌<◌}
 use mathlib.Core.Path.{◌≡◌, refl, ap, sym, subst, ◌∙◌}
 use mathlib.Core.Bool.{Bool, true, false, cond, not, ◌||◌, or-false}
-use mathlib.Core.List.{List, [], ◌∷◌, ◌++◌, map, append-nil}
+use mathlib.Core.List.{List, [], ◌∷◌, ◌++◌, map, append_assoc, append-nil}
 use native.Mathlib.Omega.{arith}
-use lib.Dec.{ltb}
 use lib.ListN.{length, take, set, get_or, length-append, length-map}
 use lib.Seq.{length-take-le}
+use Rattle.std.proofs.lemmas.List.{take_more, take_all}
 use Rattle.transaction.specs.declared.Input.{Input}
+use Rattle.transaction.specs.declared.Output.{Output}
 use Rattle.transaction.specs.declared.Transaction.{Transaction}
 use Rattle.transaction.specs.Lists.{any}
-use Rattle.transaction.specs.Tokens.{zero_input}
 use Rattle.transaction.proofs.Slots.{any_append}
 use Rattle.model.specs.declared.Token.{Token}
 use Rattle.model.specs.declared.Outcome.TheVariants.{Commit, Abort}
@@ -25,6 +25,7 @@ use Rattle.model.specs.Steps.{
   stays,
   inputs_here,
   made_here,
+  tokens_from,
   commit,
   pledge_when,
   is_pledged_to,
@@ -33,7 +34,6 @@ use Rattle.model.specs.Steps.{
 }
 use Rattle.loops.specs.Lists.{one_if}
 use Rattle.loops.proofs.Loops.{append-one}
-use Rattle.loops.proofs.Fours.{used-slots}
 use Rattle.loops.proofs.Places.{Placing, place-put, Packing, pack_in}
 use Rattle.layout.specs.Layout.{
   token_slots,
@@ -52,8 +52,8 @@ use Rattle.layout.specs.Layout.{
 }
 use Rattle.layout.proofs.Slots.{length-tokens}
 use Rattle.layout.proofs.Ledgers.{held-length}
-use Rattle.holdings.specs.Held.{adding, destroying, Room, Holds, Changes, Settling, Settles}
-use Rattle.holdings.proofs.Made.{slot, made_by}
+use Rattle.holdings.specs.Held.{made_from, adding, destroying, Room, Left, Holds, Changes, Settling, Settles}
+use Rattle.holdings.proofs.Made.{made-next, made-room}
 
 -- the tokens of a shard that words become
 tokens-of : {s : Shard} {ws : List ℕ} → Becomes s ws → tokens_of ws ≡ s.tokens
@@ -227,25 +227,24 @@ module _ {f : List Input → List Token → List Token} (turn : InTurn f) where
   turn-room a b {o} r p =
       holds-room b p (omega (arith, turn.short o (ledger_of a).tokens, held-length a r.held, r.held))
 
-  -- a slot that is not used
-  pub turn-none : (a : List ℕ) (used : Bool) (x : Input) → used ≡ false → Room a → Changes (f (one_if used x)) a a
-  turn-none a used x e r = rw (e, turn.none (ledger_of a).tokens) (holds_same a r)
-
   turn-then : (a b c : List ℕ) (o u : List Input) → Changes (f o) a b → Changes (f u) b c → Changes (f (o ++ u)) a c
   turn-then a b c o u p q = holds_then b p c (rw (turn.more o u (ledger_of a).tokens, ← holds-tokens b p) q)
 
-  -- four slots, one after the other
-  pub four-turns : (x : List Input) (n : ℕ) → length x ≡ 4 → (a b c d e : List ℕ)
-      → Changes (f (one_if (ltb 0 n) (get_or x 0 zero_input))) a b
-      → Changes (f (one_if (ltb 1 n) (get_or x 1 zero_input))) b c
-      → Changes (f (one_if (ltb 2 n) (get_or x 2 zero_input))) c d
-      → Changes (f (one_if (ltb 3 n) (get_or x 3 zero_input))) d e
-      → Changes (f (take n x)) a e
-  four-turns x n long a b c d e p q r s =
-      let slot : ℕ → List Input = λ k. one_if (ltb k n) (get_or x k zero_input) in
-      rw (used-slots zero_input x long n)
-      (turn-then a d e (slot 0 ++ slot 1 ++ slot 2) (slot 3)
-      (turn-then a c d (slot 0 ++ slot 1) (slot 2) (turn-then a b c (slot 0) (slot 1) p q) r) s)
+  -- before the first input's turn
+  pub turn-start : (a : List ℕ) → Room a → Changes (f []) a a
+  turn-start a r = rw (turn.none (ledger_of a).tokens) (holds_same a r)
+
+  -- and one more
+  pub turn-next : (x : List Input) (i : ℕ) (d : Input) → i < length x → (a b c : List ℕ)
+      → Changes (f (take i x)) a b
+      → Changes (f (get_or x i d ∷ [])) b c
+      → Changes (f (take (i + 1) x)) a c
+  turn-next x i d h a b c p q = rw (take_more x i d h) (turn-then a b c (take i x) (get_or x i d ∷ []) p q)
+
+  -- all have had theirs
+  pub turn_end : (x inputs : List Input) (i : ℕ) → length x ≤ i → x ≡ inputs → (a b : List ℕ)
+      → Changes (f (take i x)) a b → Changes (f inputs) a b
+  turn_end x inputs i h e a b p = subst (λ (l : List Input). Changes (f l) a b) (take_all i x h ∙ e) p
 
 -- ---- One token more behind those held, where it is wanted
 
@@ -268,34 +267,34 @@ module _ (ws : List ℕ) (wanted : Bool) (x : Token) where
   pub none_made : wanted ≡ false → Room ws → Changes (adding (one_if wanted x)) ws ws
   none_made e r = rw (e, append-nil) (holds_same ws r)
 
--- there is room for n tokens more
-abbrev pub Left : List ℕ → ℕ → Type 0
-Left ws n = Room ws × ((shard_of ws).held + n ≤ token_slots)
+-- the tokens that a commit makes, output by output
+module _ (me number : ℕ) (l : List Output) (ws : List ℕ) where
+  abbrev made : ℕ → List Token
+  made i = tokens_from me number 0 (take i l)
 
--- some of them
-pub some_left : (ws : List ℕ) (m n : ℕ) → Left ws (m + n) → Left ws m
-some_left ws m n r = (r.0, omega (arith, r.1))
+  pub make-start : Room ws → Changes (adding (made 0)) ws ws
+  make-start r = rw append-nil (holds_same ws r)
 
--- those that are left behind tokens made
-pub still-left : (ws vs : List ℕ) (m : List Token) (n : ℕ) → Left ws (length m + n) → Changes (adding m) ws vs
-    → Left vs n
-still-left ws vs m n r p =
-    let more : (shard_of vs).held ≡ (shard_of ws).held + length m =
-    holds-held vs p ∙ length-append (ledger_of ws).tokens m ∙ rw (held-length ws r.0.held) refl in
-    (record { long = p.long; held = omega (arith, r.1, more) }, omega (arith, r.1, more))
+  module _ (vs : List ℕ) (i : ℕ) (d : Output) (h : i < length l) (p : Changes (adding (made i)) ws vs) where
+    -- there is room for the next one's
+    pub make-room : Left ws (length (tokens_from me number 0 l)) → Left vs (length (made_from me number i (get_or l i d)))
+    make-room r =
+        let more : (shard_of vs).held ≡ (shard_of ws).held + length (made i) =
+        holds-held vs p ∙ length-append (ledger_of ws).tokens (made i) ∙ rw (held-length ws r.0.held) refl in
+        let fits = made-room me number l i d h in
+        (record { long = p.long; held = omega (arith, r.1, more, fits) }, omega (arith, r.1, more, fits))
 
--- the tokens that a commit makes, slot by slot
-module _ (me : ℕ) (t : Transaction) (long : length t.outputs ≡ 4) where
-  pub four-made : (a b c d e : List ℕ)
-      → Changes (adding (slot me t 0)) a b
-      → Changes (adding (slot me t 1)) b c
-      → Changes (adding (slot me t 2)) c d
-      → Changes (adding (slot me t 3)) d e
-      → Changes (adding (made_here me t)) a e
-  four-made a b c d e p q r s =
-      subst (λ (l : List Token). Holds (shard_of a) l e)
-      (made_by me t long (ledger_of a).tokens (holds-tokens b p) (holds-tokens c q) (holds-tokens d r) refl)
-      (holds_then b p e (holds_then c q e (holds_then d r e s)))
+    pub make-next : (us : List ℕ) → Changes (adding (made_from me number i (get_or l i d))) vs us
+        → Changes (adding (made (i + 1))) ws us
+    make-next us q =
+        let both : (ledger_of ws).tokens ++ made (i + 1) ≡ (ledger_of vs).tokens ++ made_from me number i (get_or l i d) =
+        rw (made-next me number l i d h, holds-tokens vs p) (sym (append_assoc (ledger_of ws).tokens (made i) (made_from me number i (get_or l i d)))) in
+        subst (λ (m : List Token). Holds (shard_of ws) m us) (sym both) (holds_then vs p us q)
+
+  pub make_end : (vs : List ℕ) (i : ℕ) (all : List Token) → length l ≤ i → tokens_from me number 0 l ≡ all
+      → Changes (adding (made i)) ws vs → Changes (adding all) ws vs
+  make_end vs i all h e p =
+      subst (λ (m : List Token). Changes (adding m) ws vs) (ap (tokens_from me number 0) (take_all i l h) ∙ e) p
 
 -- a commit: destroyed, then made
 module _ (me : ℕ) (t : Transaction) (inputs : List Input) (is : inputs ≡ inputs_here me t)

@@ -1,5 +1,5 @@
--- The tokens held: lists in arrays with a count, and a change of the tokens held in a shard's words.
-use Rattle.std.specs.Prelude.{ℕ, ◌≤◌, ◌<◌, ◌≡◌, Bool, ◌&&◌, List, ◌++◌, length, take}
+-- A change of the tokens held in a shard's words.
+use Rattle.std.specs.Prelude.{ℕ, ◌+◌, ◌≤◌, ◌<◌, ◌≡◌, List, ◌++◌, length, take}
 use Rattle.transaction.specs.declared.Input.{Input}
 use Rattle.transaction.specs.declared.Output.{Output}
 use Rattle.model.specs.declared.Token.{Token}
@@ -19,20 +19,10 @@ use Rattle.layout.specs.Layout.{
   with_held,
   with_tokens,
 }
-use Rattle.holdings.specs.declared.Inputs.{Inputs}
 
--- the first `count` inputs are the list
-abbrev pub inputs_of : Inputs → List Input
-inputs_of x = take x.count x.list
-
--- these are the inputs of the list, all of them and in its order
-pub record Lists (x : Inputs) (inputs : List Input) : Type 0 where
-  pub few : x.count ≤ 4
-  pub are : inputs_of x ≡ inputs
-
--- the token of an output slot, where the slot is used and the output is at this shard
-abbrev pub made_from : ℕ → ℕ → Bool → ℕ → Output → List Token
-made_from me number used index y = one_if (used && output_here me y) (token_of number index y)
+-- the token of an output, where the output is at this shard
+abbrev pub made_from : ℕ → ℕ → ℕ → Output → List Token
+made_from me number index y = one_if (output_here me y) (token_of number index y)
 
 -- tokens behind those that are held
 abbrev pub adding : List Token → List Token → List Token
@@ -46,6 +36,10 @@ destroying inputs tokens = keep (stays inputs) tokens
 pub record Room (ws : List ℕ) : Type 0 where
   pub long : length ws ≡ shard_words
   pub held : (shard_of ws).held ≤ token_slots
+
+-- and so many more would be
+abbrev pub Left : List ℕ → ℕ → Type 0
+Left ws n = Room ws × ((shard_of ws).held + n ≤ token_slots)
 
 -- the words stand for the shard s, but that these are the tokens held
 pub record Holds (s : Shard) (l : List Token) (ws : List ℕ) : Type 0 where

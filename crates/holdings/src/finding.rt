@@ -1,38 +1,33 @@
 // What is found about each input here (document 02, 2), before anything is pledged: it belongs to the second part of the
 // local step.
-ghost use Rattle.std.specs.Prelude.{◌≡◌, cond, [], ℕ, ◌≤◌};
+ghost use Rattle.std.specs.Prelude.{◌≡◌, [], ℕ, ◌≤◌, ◌<◌, position, IfSome};
 ghost use Rattle.std.proofs.Math.Option.{some};
 ghost use Rattle.transaction.specs.declared.Transaction.{Transaction};
-ghost use Rattle.model.specs.declared.Finding.TheVariants.{Available};
-ghost use Rattle.model.specs.Lists.{find};
 ghost use Rattle.model.specs.Answers.{is_available};
 ghost use Rattle.model.specs.Steps.{inputs_here, obstacle, finding, findings, keeping};
 ghost use Rattle.model.specs.Demand.{has_spot};
 ghost use Rattle.layout.specs.Layout.{token_slots, shard_of, ledger_of};
-ghost use Rattle.holdings.specs.Held.{Lists};
 
-use crate::Inputs;
 use crate::availability::is_available;
+use crate::inputs::Inputs;
 use layout::Words;
 use layout::counts::held;
 use layout::tokens::{is_token, token_at};
-use model::{Finding, Found, Token};
+use model::{Finding, Token};
 use transaction::Input;
 
-// The place of the token of that creator and index; the count where it is not held.
-pub fn place_of_token(s: &Words, creator: u32, index: u8) -> usize
+// The place of the token of that creator and index, where it is held.
+pub fn place_of_token(s: &Words, creator: u32, index: u8) -> Option<usize>
     requires { (shard_of s.now).held ≤ token_slots }
-    ensures { result ≡ find (has_spot creator index) (ledger_of s.now).tokens }
+    ensures found { result ≡ position (has_spot creator index) (ledger_of s.now).tokens }
+    ensures within { IfSome result (λ place. place < (shard_of s.now).held) }
 {
-    let n = held(s);
-    let mut i = 0;
-    while i < n {
+    for i in 0..held(s) {
         if is_token(s, i, creator, index) {
-            return i;
+            return Some(i);
         }
-        i += 1;
     }
-    i
+    None
 }
 
 // What stands in the way, by the token of its name.
@@ -56,63 +51,35 @@ fn finding_of(s: &Words, x: Input) -> Finding
         return Finding::Available;
     }
     let id = x.token;
-    let place = place_of_token(s, id.creator, id.index);
-    if place < held(s) {
-        return obstacle_of(x, token_at(s, place));
-    }
-    Finding::NotHeld
-}
-
-// The finding as it is kept; nobody asks for that of a slot that is not used.
-fn found_if(s: &Words, used: bool, x: Input) -> Found
-    requires { (shard_of s.now).held ≤ token_slots }
-    ensures { result.finding ≡ cond used (finding (ledger_of s.now).tokens x) Available }
-{
-    if used {
-        let finding = finding_of(s, x);
-        return Found { finding: finding };
-    }
-    Found {
-        finding: Finding::Available,
+    match place_of_token(s, id.creator, id.index) {
+        Some(place) => obstacle_of(x, token_at(s, place)),
+        None => Finding::NotHeld,
     }
 }
 
 // None, in four places.
-pub fn nothing_found() -> [Found; 4]
+pub fn nothing_found() -> [Finding; 4]
     ensures { result ≡ keeping [] }
 {
-    let nothing = Found {
-        finding: Finding::Available,
-    };
-    [nothing; 4]
+    [Finding::Available; 4]
 }
 
 // The findings about the inputs here, of whichever shard and transaction those are.
-pub fn findings_here(s: &Words, here: Inputs) -> [Found; 4]
+pub fn findings_here(s: &Words, here: &Inputs) -> [Finding; 4]
     requires { (shard_of s.now).held ≤ token_slots }
-    ensures { (me : ℕ) (t : Transaction) → Lists here (inputs_here me t)
+    ensures { (me : ℕ) (t : Transaction) → here.now ≡ inputs_here me t
         → result ≡ keeping (findings me (ledger_of s.now).tokens t) }
 {
-    let n = here.count;
-    let x = here.list;
-    [
-        found_if(s, 0 < n, x[0]),
-        found_if(s, 1 < n, x[1]),
-        found_if(s, 2 < n, x[2]),
-        found_if(s, 3 < n, x[3]),
-    ]
+    let mut found = nothing_found();
+    for (i, x) in here.as_slice().iter().enumerate() {
+        found[i] = finding_of(s, *x);
+    }
+    found
 }
 
 // The input was available.
-pub(crate) fn was_available(found: Found) -> bool
-    ensures { result ≡ is_available found.finding }
+pub(crate) fn was_available(found: Finding) -> bool
+    ensures { result ≡ is_available found }
 {
-    let finding = found.finding;
-    match finding {
-        Finding::Available => true,
-        Finding::NotHeld => false,
-        Finding::OtherOwner => false,
-        Finding::OtherAmount => false,
-        Finding::Pledged(number) => false,
-    }
+    matches!(found, Finding::Available)
 }

@@ -14,14 +14,10 @@ pub fn free_pledged_to(s: &mut Words, number: u32)
     requires { Room s.old }
     ensures { Changes (freeing (is_pledged_to number)) s.old s.new }
 {
-    let n = held(s);
-    let mut k = 0;
-    while k < n {
-        let at = k;
-        let pledge = pledge_at(s, at);
-        k += 1;
+    for k in 0..held(s) {
+        let pledge = pledge_at(s, k);
         if pledge == number {
-            put_pledge(s, at, 0);
+            put_pledge(s, k, 0);
         }
     }
 }

@@ -2,18 +2,10 @@
 // Internal: the crate `shard` calls it.
 #![tactic(auto)]
 
-use transaction::Input;
-
+pub mod inputs; // up to four inputs
 pub mod availability; // the inputs at a shard, and the available ones among them
 pub mod finding; // what is found about each input here
 pub mod pledging; // the pledges
 pub mod voting; // the message
 pub mod committing; // tokens destroyed and made
 pub mod freeing; // tokens that come free
-
-// Up to four inputs, in order.
-#[derive(Clone, Copy)]
-pub struct Inputs {
-    pub count: usize,
-    pub list: [Input; 4],
-}

@@ -9,7 +9,7 @@ use Rattle.transaction.specs.declared.Input.{Input}
 use Rattle.transaction.specs.declared.Output.{Output}
 use Rattle.transaction.specs.declared.Transaction.{Transaction}
 use Rattle.transaction.specs.Tokens.{zero_input, zero_output}
-use Rattle.model.specs.declared.Found.{Found}
+use Rattle.model.specs.declared.Finding.{Finding}
 use Rattle.layout.specs.Layout.{
   token_slots,
   known_slots,
@@ -117,7 +117,7 @@ pub heard-above : (ws : List ℕ) (k sender : ℕ) → k < known_slots → 8 ≤
 heard-above ws k sender h l = rw (known_get ws k h) (heard-none ws (entry_place k + heard_offset) sender l)
 
 -- from its three parts
-pub known-parts : (ws : List ℕ) (k : ℕ) → k < known_slots → {t : Transaction} {heard : List ℕ} {findings : List Found}
+pub known-parts : (ws : List ℕ) (k : ℕ) → k < known_slots → {t : Transaction} {heard : List ℕ} {findings : List Finding}
     → t ≡ (slot_known ws k).transaction → heard ≡ heard_in ws (entry_place k + heard_offset) → findings ≡ (slot_known ws k).findings
     → record { transaction = t; heard = heard; findings = findings } ≡ slot_known ws k
 known-parts ws k h et eh ef = rw (et, eh, ef, known_get ws k h) refl

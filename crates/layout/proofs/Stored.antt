@@ -16,7 +16,6 @@ use Rattle.transaction.proofs.Slots.{four}
 use Rattle.model.specs.declared.Token.{Token}
 use Rattle.model.specs.declared.Finding.{Finding}
 use Rattle.model.specs.declared.Finding.TheVariants.{Available, NotHeld, OtherOwner, OtherAmount, Pledged}
-use Rattle.model.specs.declared.Found.{Found}
 use Rattle.model.specs.declared.Known.{Known}
 use Rattle.model.specs.Answers.{finding_number, pledging_number}
 use Rattle.model.specs.Steps.{pledged_to, with_said}
@@ -452,15 +451,15 @@ head-put ws b number inputs outputs h p q =
     )
 
 -- a finding's two words
-pub found-put : (ws : List ℕ) (b : ℕ) (x : Found) {number pledging : ℕ} → b + 2 ≤ length ws
-    → number ≡ finding_number x.finding → pledging ≡ pledging_number x.finding
+pub found-put : (ws : List ℕ) (b : ℕ) (x : Finding) {number pledging : ℕ} → b + 2 ≤ length ws
+    → number ≡ finding_number x → pledging ≡ pledging_number x
     → let vs = set (set ws b number) (b + 1) pledging in
     Within b (b + 2) ws vs × (found_in vs b ≡ x)
 unfolding found_in
 found-put ws b x {number} {pledging} h en ep =
     let xs = number ∷ pledging ∷ [] in
     let r = run_more b xs ws 1 (set ws b number) pledging (run-first b xs ws number (omega arith) refl) (omega arith) refl in
-    (r.within, rw (run_at b xs ws r (omega arith), r.so 1 (omega arith), en, ep, finding-back x.finding) refl)
+    (r.within, rw (run_at b xs ws r (omega arith), r.so 1 (omega arith), en, ep, finding-back x) refl)
 
 -- ---- Four slots stored one behind the other
 
@@ -528,7 +527,7 @@ module _ (b : ℕ) (v w x y z : List ℕ) where
       let f = four-put output_in output_size output_local b v w x y z _ _ _ _ p q r s in
       (f.within, rw (f.first, f.second, f.third, f.fourth) (four zero_output l long))
 
-  pub findings-put : (l : List Found) → length l ≡ 4 → Puts found_in found_size b (get_or l 0 no_finding) v w
+  pub findings-put : (l : List Finding) → length l ≡ 4 → Puts found_in found_size b (get_or l 0 no_finding) v w
       → Puts found_in found_size (b + found_size) (get_or l 1 no_finding) w x
       → Puts found_in found_size (b + 2 * found_size) (get_or l 2 no_finding) x y
       → Puts found_in found_size (b + 3 * found_size) (get_or l 3 no_finding) y z

@@ -7,7 +7,6 @@ use Rattle.transaction.specs.declared.Transaction.{Transaction}
 use Rattle.model.specs.declared.Token.{Token}
 use Rattle.model.specs.declared.Finding.{Finding}
 use Rattle.model.specs.declared.Finding.TheVariants.{Available, NotHeld, OtherOwner, OtherAmount, Pledged}
-use Rattle.model.specs.declared.Found.{Found}
 use Rattle.model.specs.declared.Known.{Known}
 use Rattle.model.specs.Steps.{Ledger}
 
@@ -158,11 +157,11 @@ finding_from number pledging =
     (cond (eqb number 4) OtherAmount
     (cond (eqb number 5) (Pledged pledging) Available)))
 
-unfoldable pub found_in : List ℕ → ℕ → Found
-found_in ws b = record { finding = finding_from (word ws b) (word ws (b + 1)) }
+unfoldable pub found_in : List ℕ → ℕ → Finding
+found_in ws b = finding_from (word ws b) (word ws (b + 1))
 
 -- the findings
-unfoldable pub findings_in : List ℕ → ℕ → List Found
+unfoldable pub findings_in : List ℕ → ℕ → List Finding
 findings_in ws b =
     found_in ws b ∷ found_in ws (b + found_size) ∷ found_in ws (b + 2 * found_size) ∷ found_in ws (b + 3 * found_size) ∷ []
 
@@ -279,8 +278,8 @@ no_token = token_in [] 0
 abbrev pub no_known : Known
 no_known = known_in [] 0
 
-abbrev pub no_finding : Found
-no_finding = record { finding = Available }
+abbrev pub no_finding : Finding
+no_finding = Available
 
 -- the token and the known transaction in a slot
 abbrev pub slot_token : List ℕ → ℕ → Token

@@ -9,7 +9,7 @@ use crate::{
     FINDINGS_OFFSET, HEARD_OFFSET, INPUT_SIZE, INPUTS_OFFSET, KNOWN_SIZE, OUTPUT_SIZE,
     OUTPUTS_OFFSET, TRANSACTIONS_PLACE, Words,
 };
-use model::{Found, Known};
+use model::{Finding, Known};
 use transaction::{Input, Output, TokenId, Transaction};
 
 fn input_in(s: &Words, b: usize) -> Input
@@ -95,7 +95,7 @@ pub fn transaction_at(s: &Words, k: usize) -> Transaction
 }
 
 // What was found about its inputs at its registration.
-pub fn findings_at(s: &Words, k: usize) -> [Found; 4]
+pub fn findings_at(s: &Words, k: usize) -> [Finding; 4]
     requires { k < known_slots }
     ensures { result ≡ (slot_known s.now k).findings }
 {

@@ -4,7 +4,7 @@ ghost use Rattle.model.specs.Answers.{finding_number, pledging_number};
 ghost use Rattle.layout.specs.Layout.{shard_words, finding_from, found_in, findings_in, Within};
 
 use crate::{FOUND_SIZE, Words};
-use model::{Finding, Found};
+use model::Finding;
 
 pub fn finding_number(found: Finding) -> u32
     ensures { result ≡ finding_number found }
@@ -43,15 +43,14 @@ fn finding_from(number: u32, pledging: u32) -> Finding
     }
 }
 
-fn found_in(s: &Words, b: usize) -> Found
+fn found_in(s: &Words, b: usize) -> Finding
     requires { b + 2 ≤ shard_words }
     ensures { result ≡ found_in s.now b }
 {
-    let finding = finding_from(s[b], s[b + 1]);
-    Found { finding: finding }
+    finding_from(s[b], s[b + 1])
 }
 
-pub(crate) fn findings_in(s: &Words, b: usize) -> [Found; 4]
+pub(crate) fn findings_in(s: &Words, b: usize) -> [Finding; 4]
     requires { b + 8 ≤ shard_words }
     ensures { result ≡ findings_in s.now b }
 {
@@ -63,16 +62,15 @@ pub(crate) fn findings_in(s: &Words, b: usize) -> [Found; 4]
     ]
 }
 
-fn put_found(s: &mut Words, b: usize, x: Found)
+fn put_found(s: &mut Words, b: usize, x: Finding)
     requires { (b + 2 ≤ shard_words) × (length s.old ≡ shard_words) }
     ensures { Within b (b + 2) s.old s.new × (found_in s.new b ≡ x) }
 {
-    let finding = x.finding;
-    s[b] = finding_number(finding);
-    s[b + 1] = pledging_number(finding);
+    s[b] = finding_number(x);
+    s[b + 1] = pledging_number(x);
 }
 
-pub(crate) fn put_findings(s: &mut Words, b: usize, x: [Found; 4])
+pub(crate) fn put_findings(s: &mut Words, b: usize, x: [Finding; 4])
     requires { (b + 8 ≤ shard_words) × (length s.old ≡ shard_words) }
     ensures { Within b (b + 8) s.old s.new × (findings_in s.new b ≡ x) }
 {

@@ -1,3 +1,5 @@
 pub mod Loops
 pub mod Fours
 pub mod Places
+pub mod Positions
+pub mod Prefixes

@@ -1,7 +1,7 @@
 -- Loops over the first n elements of an array: one law for each shape, over the element type. At index i, `slice i n l` is what is left of the list.
 -- Each shape has its invariant, a record, with laws for the start, for a turn, for a turn that ends the search, and for the end.
 use Prim.Native.Nat.{ℕ, suc, ◌+◌, ◌≤◌, ◌<◌}
-use mathlib.Core.Path.{◌≡◌, refl, sym, ◌∙◌}
+use mathlib.Core.Path.{◌≡◌, refl, ◌∙◌}
 use mathlib.Core.List.{List, [], ◌∷◌, ◌++◌}
 use mathlib.Core.Bool.{Bool, true, false}
 use native.Mathlib.Numerals.{add-one}

@@ -16,16 +16,16 @@ use Rattle.transaction.specs.Tokens.{used_inputs, used_outputs, zero_input, zero
 use Rattle.transaction.proofs.Slots.{and_right, any-by}
 use Rattle.model.specs.declared.Token.{Token}
 use Rattle.model.specs.declared.Known.{Known}
-use Rattle.model.specs.Lists.{find}
 use Rattle.model.specs.Steps.{input_here, inputs_here, names, output_here, token_of, tokens_from, made_here, outcome_of, nothing_known}
 use Rattle.model.specs.Shard.{is_numbered, is_undecided, awaits, held_off}
 use Rattle.model.proofs.Basics.{any-keep}
 use Rattle.model.proofs.Holdings.{made-named}
+use Rattle.loops.proofs.Positions.{Stands, Nowhere}
 use Rattle.layout.specs.Layout.{known_slots, shard_of, ledger_of, slot_known}
 use Rattle.layout.proofs.Ledgers.{known-length, known-entry}
 use Rattle.registry.specs.Numbers.{OneEach}
 use Rattle.registry.specs.Made.{makes_here}
-use Rattle.registry.proofs.Finds.{AsksNumber, none_passes, passes-there, is-numbered}
+use Rattle.registry.proofs.Finds.{AsksNumber, none_passes, passes-there}
 
 -- ---- Made tokens by number and index
 
@@ -96,36 +96,38 @@ asks-awaits me x k e =
     eq-eqb k.transaction.number x.token.creator (made-named me x k.transaction (and_right (is_undecided (outcome_of k)) made e))
 
 -- does the input await a known transaction
-module _ (ws : List ℕ) (most : (shard_of ws).known ≤ known_slots) (one : OneEach (ledger_of ws).known) (me : ℕ) (x : Input)
-    {place : ℕ} (found : place ≡ find (is_numbered x.token.creator) (ledger_of ws).known) where
+module _ (ws : List ℕ) (most : (shard_of ws).known ≤ known_slots) (one : OneEach (ledger_of ws).known) (me : ℕ) (x : Input) where
   -- where its number is not known, it does not
-  pub awaits-none : (shard_of ws).known ≤ place → false ≡ any (awaits me x) (ledger_of ws).known
-  awaits-none h =
-      sym (none_passes (ledger_of ws).known one x.token.creator found (omega (arith, known-length ws most)) (awaits me x) (asks-awaits me x))
+  pub awaits-none : Nowhere (is_numbered x.token.creator) (ledger_of ws).known → false ≡ any (awaits me x) (ledger_of ws).known
+  awaits-none nowhere = sym (none_passes (ledger_of ws).known one x.token.creator nowhere (awaits me x) (asks-awaits me x))
 
-  -- the known transaction there
-  abbrev there : Known
-  there = slot_known ws place
+  module _ {place : ℕ} (at : Stands (is_numbered x.token.creator) (ledger_of ws).known place) where
+    -- the known transaction there
+    abbrev there : Known
+    there = slot_known ws place
 
-  module _ (below : place < (shard_of ws).known) {makes : Bool} (em : makes ≡ makes_here me there.transaction x.token.index) where
+    entry : there ≡ get_or (ledger_of ws).known place nothing_known
+    entry = known-entry ws place (rw (known-length ws most) at at.below) most nothing_known
+
     there-is : any (awaits me x) (ledger_of ws).known ≡ awaits me x there
     there-is =
-        passes-there (ledger_of ws).known one x.token.creator found (omega (arith, known-length ws most)) (awaits me x) (asks-awaits me x)
-        ∙ ap (awaits me x) (sym (known-entry ws place below most nothing_known))
+        passes-there (ledger_of ws).known one x.token.creator at (awaits me x) (asks-awaits me x) ∙ ap (awaits me x) (sym entry)
 
-    named : any (names x) (made_here me there.transaction) ≡ makes
-    named =
-        names-made me x there.transaction
-        ∙ rw (ap (is_numbered x.token.creator) (known-entry ws place below most nothing_known)
-        ∙ is-numbered (ledger_of ws).known one x.token.creator found (omega (arith, known-length ws most))) (sym em)
+    there-makes : {makes : Bool} → makes ≡ makes_here me there.transaction x.token.index
+        → is_undecided (outcome_of there) && makes ≡ any (awaits me x) (ledger_of ws).known
+    there-makes {makes} em =
+        let numbered = ap (is_numbered x.token.creator) entry ∙ at.passes nothing_known in
+        rw (there-is, names-made me x there.transaction, numbered, ← em) refl
 
-    -- where that one makes nothing of the index here, it does not
-    pub awaits-other : makes ≡ false → false ≡ any (awaits me x) (ledger_of ws).known
-    awaits-other none_made = rw (there-is, named, none_made) (sym (and-false (is_undecided (outcome_of there))))
+    module _ {makes : Bool} (em : makes ≡ makes_here me there.transaction x.token.index) where
+      -- where that one makes nothing of the index here, it does not
+      pub awaits-other : makes ≡ false → makes ≡ any (awaits me x) (ledger_of ws).known
+      awaits-other none = none ∙ sym (rw none (and-false (is_undecided (outcome_of there)))) ∙ there-makes em
 
-    -- else it does while that one is undecided
-    pub awaits_if : makes ≡ true → {undecided : Bool} → undecided ≡ is_undecided (outcome_of there) → undecided ≡ any (awaits me x) (ledger_of ws).known
-    awaits_if is_made {undecided} eu = rw (there-is, named, is_made, ← eu) (sym (and-true undecided))
+      -- else it does while that one is undecided
+      pub awaits_if : makes ≡ true → {undecided : Bool} → undecided ≡ is_undecided (outcome_of there)
+          → undecided ≡ any (awaits me x) (ledger_of ws).known
+      awaits_if is_made eu = eu ∙ sym (rw is_made (and-true (is_undecided (outcome_of there)))) ∙ there-makes em
 
 -- some used input of four is here and does
 module _ (me : ℕ) (known : List Known) (t : Transaction) (long : length t.inputs ≡ 4) where

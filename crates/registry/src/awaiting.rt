@@ -34,13 +34,10 @@ fn awaits_any(s: &Words, me: u8, x: Input) -> bool
     ensures { result ≡ any (awaits me x) (ledger_of s.now).known }
 {
     let token = x.token;
-    let place = place_of_number(s, token.creator);
-    if place < known_count(s) {
-        if makes_here(s, place, me, token.index) {
-            return is_undecided(s, place);
-        }
-    }
-    false
+    let Some(place) = place_of_number(s, token.creator) else {
+        return false;
+    };
+    makes_here(s, place, me, token.index) && is_undecided(s, place)
 }
 
 // It is used, it is at this shard, and it awaits a known transaction.

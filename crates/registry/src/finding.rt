@@ -1,7 +1,6 @@
 // Known transactions: by number first, and by every field. A number is known for one transaction only, so that one
 // search answers every question.
-ghost use Rattle.std.specs.Prelude.{◌≡◌, ◌≤◌, ◌<◌};
-ghost use Rattle.model.specs.Lists.{find};
+ghost use Rattle.std.specs.Prelude.{◌≡◌, ◌≤◌, ◌<◌, position, IfSome};
 ghost use Rattle.model.specs.Shard.{is_numbered};
 ghost use Rattle.model.specs.Steps.{is_for};
 ghost use Rattle.model.specs.Cluster.{gave};
@@ -14,22 +13,19 @@ use layout::entries::{heard_at, number_at, transaction_at};
 use transaction::Transaction;
 use transaction::equality::same_transaction;
 
-// The place of the known transaction of that number; the count where it is not known. The number alone is handed over:
-// a whole transaction would be copied in every turn.
-pub fn place_of_number(s: &Words, number: u32) -> usize
+// The place of the known transaction of that number, where it is known. The number alone is handed over: a whole
+// transaction would be copied in every turn.
+pub fn place_of_number(s: &Words, number: u32) -> Option<usize>
     requires { (shard_of s.now).known ≤ known_slots }
-    ensures { (result ≡ find (is_numbered number) (ledger_of s.now).known)
-        × (result ≤ (shard_of s.now).known) }
+    ensures found { result ≡ position (is_numbered number) (ledger_of s.now).known }
+    ensures within { IfSome result (λ place. place < (shard_of s.now).known) }
 {
-    let n = known_count(s);
-    let mut i = 0;
-    while i < n {
+    for i in 0..known_count(s) {
         if number_at(s, i) == number {
-            return i;
+            return Some(i);
         }
-        i += 1;
     }
-    i
+    None
 }
 
 // Every field of it agrees.
@@ -46,13 +42,10 @@ pub fn has_given(s: &Words, sender: u8, verdict: u8, t: Transaction) -> bool
     requires { ((shard_of s.now).known ≤ known_slots) × OneEach (ledger_of s.now).known }
     ensures { result ≡ gave (ledger_of s.now) sender verdict t }
 {
-    let place = place_of_number(s, t.number);
-    if place < known_count(s) {
-        let said = heard_at(s, place, sender);
-        let noted = (verdict as u16) + 1;
-        if (said as u16) == noted {
-            return same_at(s, place, t);
-        }
-    }
-    false
+    let Some(place) = place_of_number(s, t.number) else {
+        return false;
+    };
+    let said = heard_at(s, place, sender);
+    let noted = u16::from(verdict) + 1;
+    u16::from(said) == noted && same_at(s, place, t)
 }

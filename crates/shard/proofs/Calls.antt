@@ -1,20 +1,23 @@
 -- Calls: what the model's step is where a call is refused and where it passes, and the promise of the whole call.
 use Prim.Native.Nat.{ℕ, ◌≤◌, ◌<◌}
 use mathlib.Core.Path.{◌≡◌, refl, sym, ap, ◌∙◌, subst}
-use mathlib.Core.Bool.{Bool, true, false, cond}
+use mathlib.Core.Bool.{Bool, true, false, cond, not}
 use mathlib.Core.List.{List, [], ◌∷◌}
 use native.Mathlib.Omega.{arith}
 use borrow.Author.Tests.{ne_eqb}
 use lib.Dec.{eqb}
+use Rattle.std.specs.Prelude.{Ok, Err}
 use lib.ListN.{length, get_or, length-append}
 use Rattle.transaction.specs.declared.Transaction.{Transaction}
-use Rattle.transaction.specs.Lists.{first_of}
+use Rattle.transaction.specs.declared.refusal.Refusal.{Refusal}
+use Rattle.transaction.specs.Lists.{any, first_of}
 use Rattle.transaction.proofs.Tables.{first-stands, first-behind}
 use Rattle.model.specs.declared.Token.{Token}
 use Rattle.model.specs.declared.Known.{Known}
 use Rattle.model.specs.declared.Outcome.{Outcome}
-use Rattle.model.specs.declared.Answer.{Answer}
-use Rattle.model.specs.declared.Answer.TheVariants.{Refused, Minted, Registered, Heard, Again, Turned, Brought}
+use Rattle.model.specs.declared.Done.{Done}
+use Rattle.model.specs.declared.Done.TheVariants.{Minted, Registered, Heard, Again, Turned, Brought}
+use Rattle.model.specs.Answers.{Answer}
 use Rattle.model.specs.Lists.{find}
 use Rattle.model.specs.Steps.{
   house,
@@ -76,6 +79,8 @@ use Rattle.model.proofs.Refusals.{
   brought-known,
   brought-passes,
 }
+use Rattle.model.proofs.Capacity.{find-below}
+use Rattle.loops.proofs.Positions.{Stands, stands, position_hit}
 use Rattle.layout.specs.Layout.{token_slots, known_slots, genesis_slots, shard_of, slot_known}
 use Rattle.layout.proofs.Ledgers.{held-length, known-length}
 use Rattle.holdings.proofs.Tokens.{turn-room, pledges_in_turn}
@@ -84,7 +89,11 @@ use Rattle.shard.specs.declared.local.Own.{Own}
 use Rattle.shard.specs.Parts.{Leaves, Pledges, entry_for, entered_ledger, Entering, Entered, heard_ledger, FreshVote, FreshDone, TurnedOver}
 use Rattle.shard.proofs.Ledgers.{leaves-then, holds-leaves}
 use Rattle.shard.proofs.Once.{once-step}
-use Rattle.shard.proofs.Tables.{stands, stands_at, stands-there, verdict_there, Table}
+use Rattle.shard.proofs.Tables.{place-below, place-slot, place_is, entry-there, verdict_there, Table, Verdict}
+
+-- what a call that is carried out answers
+abbrev answered : Done → Answer
+answered done = Ok done
 
 -- what a call leaves
 abbrev stepped : List ℕ → Call → Ledger × Answer
@@ -129,60 +138,57 @@ module _ {ws : List ℕ} (sound : Sound ws) (call : Call) {answer : Answer} wher
 
 -- ---- Refused
 
-module _ {ws : List ℕ} (sound : Sound ws) {cause : ℕ} where
+module _ {ws : List ℕ} (sound : Sound ws) {refusal : Refusal} where
   pub mint-refused : {receiver index owner amount : ℕ}
-      → cause ≡ first_of (mint_refusals house (number ws) (view ws) receiver index owner amount) → (cause ≡ 0 → ⊥)
-      → Steps ws (mint receiver index owner amount) (Refused cause) ws
+      → Err refusal ≡ first_of (mint_refusals house (number ws) (view ws) receiver index owner amount)
+      → Steps ws (mint receiver index owner amount) (Err refusal) ws
   unfolding shard_step
-  mint-refused {receiver} {index} {owner} {amount} e n =
-      stays_put sound (mint receiver index owner amount)
-      (rw (← e) (unless-refused cause (view ws) (after_mint (view ws) index owner amount, Minted) n))
+  mint-refused {receiver} {index} {owner} {amount} e =
+      stays_put sound (mint receiver index owner amount) (unless-refused _ (view ws) (after_mint (view ws) index owner amount, Ok Minted) (sym e))
 
   pub register-refused : {receiver : ℕ} {t : Transaction}
-      → cause ≡ first_of (register_refusals house (number ws) (view ws) receiver t) → (cause ≡ 0 → ⊥)
-      → Steps ws (register receiver t) (Refused cause) ws
+      → Err refusal ≡ first_of (register_refusals house (number ws) (view ws) receiver t)
+      → Steps ws (register receiver t) (Err refusal) ws
   unfolding shard_step
-  register-refused {receiver} {t} e n =
+  register-refused {receiver} {t} e =
       let me = number ws in
       let tokens = (view ws).tokens in
-      let answer = Registered (vote me tokens t) (outcome_of (newly_known me tokens t)) in
-      stays_put sound (register receiver t)
-      (rw (← e) (unless-refused cause (view ws) (after_register me (view ws) t, answer) n))
+      let done = Registered (vote me tokens t) (outcome_of (newly_known me tokens t)) in
+      stays_put sound (register receiver t) (unless-refused _ (view ws) (after_register me (view ws) t, Ok done) (sym e))
 
   deliver-refused : {receiver sender verdict : ℕ} {t : Transaction}
-      → cause ≡ first_of (deliver_refusals house (number ws) (view ws) receiver sender verdict t) → (cause ≡ 0 → ⊥)
-      → Steps ws (deliver receiver sender verdict t) (Refused cause) ws
+      → Err refusal ≡ first_of (deliver_refusals house (number ws) (view ws) receiver sender verdict t)
+      → Steps ws (deliver receiver sender verdict t) (Err refusal) ws
   unfolding shard_step
-  deliver-refused {receiver} {sender} {verdict} {t} e n =
+  deliver-refused {receiver} {sender} {verdict} {t} e =
       stays_put sound (deliver receiver sender verdict t)
-      (rw (← e) (unless-refused cause (view ws) (delivered (number ws) (view ws) sender verdict t) n))
+      (unless-refused _ (view ws) (delivered (number ws) (view ws) sender verdict t) (sym e))
 
-  pub turn-refused : {receiver : ℕ} → cause ≡ first_of (turn_refusals (number ws) (view ws) receiver) → (cause ≡ 0 → ⊥)
-      → Steps ws (turn receiver) (Refused cause) ws
+  pub turn-refused : {receiver : ℕ} → Err refusal ≡ first_of (turn_refusals (number ws) (view ws) receiver)
+      → Steps ws (turn receiver) (Err refusal) ws
   unfolding shard_step
-  turn-refused {receiver} e n =
-      stays_put sound (turn receiver) (rw (← e) (unless-refused cause (view ws) (after_turn (view ws), Turned) n))
+  turn-refused {receiver} e =
+      stays_put sound (turn receiver) (unless-refused _ (view ws) (after_turn (view ws), Ok Turned) (sym e))
 
 -- ---- A turn that passes
 
-module _ {ws : List ℕ} (sound : Sound ws) (receiver : ℕ) {cause : ℕ} (e : cause ≡ first_of (turn_refusals (number ws) (view ws) receiver))
-    (z : cause ≡ 0) where
-  turn_step : stepped ws (turn receiver) ≡ (after_turn (view ws), Turned)
+module _ {ws : List ℕ} (sound : Sound ws) (receiver : ℕ) (pass : Ok tt ≡ first_of (turn_refusals (number ws) (view ws) receiver)) where
+  turn_step : stepped ws (turn receiver) ≡ (after_turn (view ws), Ok Turned)
   unfolding shard_step
-  turn_step = unless-done (first_of (turn_refusals (number ws) (view ws) receiver)) (view ws) (after_turn (view ws), Turned) (sym e ∙ z)
+  turn_step = unless-done (first_of (turn_refusals (number ws) (view ws) receiver)) (view ws) (after_turn (view ws), Ok Turned) (sym pass)
 
-  pub turn-carried : {vs : List ℕ} → TurnedOver ws vs → Steps ws (turn receiver) Turned vs
+  pub turn-carried : {vs : List ℕ} → TurnedOver ws vs → Steps ws (turn receiver) (Ok Turned) vs
   turn-carried l = carries_on sound (turn receiver) turn_step sound.known l
 
 -- ---- A genesis token that passes
 
-module _ {ws : List ℕ} (sound : Sound ws) (receiver index owner amount : ℕ) {cause : ℕ}
-    (e : cause ≡ first_of (mint_refusals house (number ws) (view ws) receiver index owner amount)) (z : cause ≡ 0) where
-  mint-step : stepped ws (mint receiver index owner amount) ≡ (after_mint (view ws) index owner amount, Minted)
+module _ {ws : List ℕ} (sound : Sound ws) (receiver index owner amount : ℕ)
+    (pass : Ok tt ≡ first_of (mint_refusals house (number ws) (view ws) receiver index owner amount)) where
+  mint-step : stepped ws (mint receiver index owner amount) ≡ (after_mint (view ws) index owner amount, Ok Minted)
   unfolding shard_step
   mint-step =
       unless-done (first_of (mint_refusals house (number ws) (view ws) receiver index owner amount)) (view ws)
-      (after_mint (view ws) index owner amount, Minted) (sym e ∙ z)
+      (after_mint (view ws) index owner amount, Ok Minted) (sym pass)
 
   pub mint-room : (shard_of ws).held < token_slots
   unfolding after_mint
@@ -191,16 +197,16 @@ module _ {ws : List ℕ} (sound : Sound ws) (receiver index owner amount : ℕ) 
       omega (arith, room-left sound (mint receiver index owner amount) mint-step, more, held-length ws sound.held)
 
   pub mint-index : index < genesis_slots
-  mint-index = (mint-passes house (number ws) (view ws) receiver index owner amount (sym e ∙ z)).index-fits
+  mint-index = (mint-passes house (number ws) (view ws) receiver index owner amount (sym pass)).index-fits
 
   pub mint-carried : {vs : List ℕ} → Leaves ws (after_mint (view ws) index owner amount) (shard_of ws).known vs
-      → Steps ws (mint receiver index owner amount) Minted vs
+      → Steps ws (mint receiver index owner amount) (Ok Minted) vs
   mint-carried l = carries_on sound (mint receiver index owner amount) mint-step sound.known l
 
 -- ---- A registration that passes
 
 module _ {ws : List ℕ} (sound : Sound ws) (t : Transaction)
-    (pass : first_of (register_refusals house (number ws) (view ws) (number ws) t) ≡ 0) where
+    (pass : first_of (register_refusals house (number ws) (view ws) (number ws) t) ≡ Ok tt) where
   abbrev me : ℕ
   me = number ws
 
@@ -208,11 +214,11 @@ module _ {ws : List ℕ} (sound : Sound ws) (t : Transaction)
   tokens = (view ws).tokens
 
   register-step : shard_step house me (view ws) (register me t)
-      ≡ (after_register me (view ws) t, Registered (vote me tokens t) (outcome_of (newly_known me tokens t)))
+      ≡ (after_register me (view ws) t, Ok (Registered (vote me tokens t) (outcome_of (newly_known me tokens t))))
   unfolding shard_step
   register-step =
       unless-done (first_of (register_refusals house me (view ws) me t)) (view ws)
-      (after_register me (view ws) t, Registered (vote me tokens t) (outcome_of (newly_known me tokens t))) pass
+      (after_register me (view ws) t, Ok (Registered (vote me tokens t) (outcome_of (newly_known me tokens t)))) pass
 
   passes : RegisterPasses house me (view ws) me t
   passes = register-passes house me (view ws) me t pass
@@ -248,35 +254,32 @@ module _ {ws : List ℕ} (sound : Sound ws) (t : Transaction)
     entry-is = rw (same.numbered, step.votes, step.finds) refl
 
     pub register-carried : {us : List ℕ} {decided : Outcome} → Entered own t vs decided us
-        → Steps ws (register me t) (Registered own.verdict decided) us
+        → Steps ws (register me t) (Ok (Registered own.verdict decided)) us
     register-carried {us} {decided} e =
         let d : decided ≡ outcome_of (newly_known me tokens t) = e.decides ∙ ap outcome_of entry-is in
-        let done : stepped ws (register me t) ≡ (after_register me (view ws) t, Registered own.verdict decided) =
+        let done : stepped ws (register me t) ≡ (after_register me (view ws) t, Ok (Registered own.verdict decided)) =
         register-step ∙ rw (step.votes, d) refl in
         carries_on sound (register me t) done (omega (arith, same.knows, known-free)) (leaves-then same e.leaves entered-is)
 
 -- ---- A vote that passes, on the known transaction whose number stands at a place
 
-module _ {ws : List ℕ} (sound : Sound ws) (sender verdict : ℕ) (t : Transaction) (known : is_unknown t (view ws).known ≡ false)
-    (pass : first_of (deliver_refusals house (number ws) (view ws) (number ws) sender verdict t) ≡ 0)
-    {place : ℕ} (found : place ≡ find (is_numbered t.number) (view ws).known) where
+module _ {ws : List ℕ} (sound : Sound ws) (sender verdict : ℕ) (t : Transaction) {place : ℕ}
+    (at : Stands (is_numbered t.number) (view ws).known place)
+    (pass : first_of (deliver_refusals house (number ws) (view ws) (number ws) sender verdict t) ≡ Ok tt) where
   abbrev here : ℕ
   here = number ws
+
+  known : is_unknown t (view ws).known ≡ false
+  known = ap not at.some
 
   vote-passes : DeliverPasses house here (view ws) here sender verdict t
   vote-passes = deliver-passes house here (view ws) here sender verdict t pass known
 
-  vote-below : place < (shard_of ws).known
-  vote-below = stands sound t found vote-passes.is_known
-
-  pub vote-slot : place < known_slots
-  vote-slot = omega (arith, vote-below, sound.known)
-
-  place_is : place_of t (view ws).known ≡ place
-  place_is = stands_at sound t found vote-passes.is_known
+  stands_at : place_of t (view ws).known ≡ place
+  stands_at = place_is sound t at vote-passes.is_known
 
   entry_at : slot_known ws place ≡ entry_of t (view ws).known
-  entry_at = stands-there sound t found vote-passes.is_known
+  entry_at = entry-there sound t at vote-passes.is_known
 
   hear-step : shard_step house here (view ws) (deliver here sender verdict t) ≡ hear here (view ws) sender verdict t
   unfolding shard_step
@@ -287,18 +290,18 @@ module _ {ws : List ℕ} (sound : Sound ws) (sender verdict : ℕ) (t : Transact
 
   module _ {heard : ℕ} (eh : heard ≡ get_or (slot_known ws place).heard sender 0) where
     pub heard-is : heard ≡ heard_from sender (entry_of t (view ws).known)
-    heard-is = verdict_there sound t found vote-passes.is_known sender eh
+    heard-is = verdict_there sound t at vote-passes.is_known sender eh
 
     -- the sender was not heard before
     module _ (z : heard ≡ 0) where
       after_is : heard_ledger place sender verdict ws ≡ after_vote here (view ws) sender verdict t
       unfolding after_vote
-      after_is = rw (entry_at, place_is) refl
+      after_is = rw (entry_at, stands_at) refl
 
       fresh_step : shard_step house here (view ws) (deliver here sender verdict t)
           ≡ (
             after_vote here (view ws) sender verdict t,
-            Heard (outcome_of (hearing sender verdict (entry_of t (view ws).known))),
+            Ok (Heard (outcome_of (hearing sender verdict (entry_of t (view ws).known)))),
           )
       unfolding hear
       fresh_step = hear-step ∙ rw (sym heard-is ∙ z) refl
@@ -307,7 +310,7 @@ module _ {ws : List ℕ} (sound : Sound ws) (sender verdict : ℕ) (t : Transact
       fresh_ready = record {
         room = record { long = sound.long; held = sound.held };
         known = sound.known;
-        entry = vote-below;
+        entry = place-below sound t at;
         from = shard-below sender vote-passes.passes.sender-fits;
         says = vote-passes.passes.verdict_fits;
         fits =
@@ -316,17 +319,17 @@ module _ {ws : List ℕ} (sound : Sound ws) (sender verdict : ℕ) (t : Transact
       }
 
       pub fresh-carried : {vs : List ℕ} {decided : Outcome} → FreshDone place sender verdict ws decided vs
-          → Steps ws (deliver here sender verdict t) (Heard decided) vs
+          → Steps ws (deliver here sender verdict t) (Ok (Heard decided)) vs
       fresh-carried {vs} {decided} d =
           let o : outcome_of (hearing sender verdict (entry_of t (view ws).known)) ≡ decided =
           ap (λ (k : Known). outcome_of (hearing sender verdict k)) (sym entry_at) ∙ sym d.decides in
-          let step = fresh_step ∙ ap (λ (o : Outcome). (after_vote here (view ws) sender verdict t, Heard o)) o in
+          let step = fresh_step ∙ ap (λ (o : Outcome). (after_vote here (view ws) sender verdict t, Ok (Heard o))) o in
           let call = deliver here sender verdict t in
-          carries_on sound call (step ∙ ap (λ (l : Ledger). (l, Heard decided)) (sym after_is)) sound.known d.leaves
+          carries_on sound call (step ∙ ap (λ (l : Ledger). (l, Ok (Heard decided))) (sym after_is)) sound.known d.leaves
 
     -- the same vote was heard before
     pub again-carried : {decided : Outcome} → (heard ≡ 0 → ⊥) → decided ≡ outcome_of (slot_known ws place)
-        → Steps ws (deliver here sender verdict t) (Again decided) ws
+        → Steps ws (deliver here sender verdict t) (Ok (Again decided)) ws
     unfolding hear
     again-carried n ed =
         let z = ne_eqb (heard_from sender (entry_of t (view ws).known)) 0 (λ q. n (heard-is ∙ q)) in
@@ -335,7 +338,7 @@ module _ {ws : List ℕ} (sound : Sound ws) (sender verdict : ℕ) (t : Transact
 -- ---- A vote that passes on an unknown number: the registration, and then the vote on the transaction that it has entered
 
 module _ {ws : List ℕ} (sound : Sound ws) (sender verdict : ℕ) (t : Transaction) (unknown : is_unknown t (view ws).known ≡ true)
-    (pass : first_of (deliver_refusals house (number ws) (view ws) (number ws) sender verdict t) ≡ 0) where
+    (pass : first_of (deliver_refusals house (number ws) (view ws) (number ws) sender verdict t) ≡ Ok tt) where
   abbrev mine : ℕ
   mine = number ws
 
@@ -353,7 +356,7 @@ module _ {ws : List ℕ} (sound : Sound ws) (sender verdict : ℕ) (t : Transact
   bring_enters p = entering sound t brought.registers p
 
   module _ {vs us : List ℕ} {own : Own} {first : Outcome} (p : Pledges t ws own vs) (e : Entered own t vs first us) where
-    before : Steps ws (register mine t) (Registered own.verdict first) us
+    before : Steps ws (register mine t) (Ok (Registered own.verdict first)) us
     before = register-carried sound t brought.registers p e
 
     left_is : view us ≡ registered
@@ -362,7 +365,7 @@ module _ {ws : List ℕ} (sound : Sound ws) (sender verdict : ℕ) (t : Transact
     known-then : is_unknown t (view us).known ≡ false
     known-then = ap (λ (l : Ledger). is_unknown t l.known) left_is ∙ brought-known brought
 
-    passes_then : first_of (deliver_refusals house (number us) (view us) (number us) sender verdict t) ≡ 0
+    passes_then : first_of (deliver_refusals house (number us) (view us) (number us) sender verdict t) ≡ Ok tt
     passes_then =
         rw (left_is, before.numbered)
         (brought-passes brought (form-passes house mine (view ws) mine sender verdict t pass))
@@ -377,17 +380,24 @@ module _ {ws : List ℕ} (sound : Sound ws) (sender verdict : ℕ) (t : Transact
           ∙ sym (find-last (is_numbered t.number) (view ws).known k (not_is unknown) (eqb_same t.number))
           ∙ ap (λ (l : Ledger). find (is_numbered t.number) l.known) (sym left_is)
 
+      stands-then : Stands (is_numbered t.number) (view us).known place
+      stands-then =
+          let among = (view us).known in
+          let some : any (is_numbered t.number) among ≡ true = not-no (any (is_numbered t.number) among) known-then in
+          let below = rw (← place-then) at (find-below (is_numbered t.number) among some) in
+          stands (is_numbered t.number) among place (sym (position_hit (is_numbered t.number) among (sym place-then) below))
+
       unheard-then : get_or (slot_known us place).heard sender 0 ≡ 0
       unheard-then =
-          heard-is before.sound sender verdict t known-then passes_then place-then refl
+          heard-is before.sound sender verdict t stands-then passes_then refl
           ∙ ap (λ (l : Ledger). heard_from sender (entry_of t l.known)) left_is ∙ brought-fresh brought
 
       pub bring_ready : FreshVote place sender verdict us
-      bring_ready = fresh_ready before.sound sender verdict t known-then passes_then place-then refl unheard-then
+      bring_ready = fresh_ready before.sound sender verdict t stands-then passes_then refl unheard-then
 
       module _ {xs : List ℕ} {decided : Outcome} (d : FreshDone place sender verdict us decided xs) where
-        after : Steps us (deliver (number us) sender verdict t) (Heard decided) xs
-        after = fresh-carried before.sound sender verdict t known-then passes_then place-then refl unheard-then d
+        after : Steps us (deliver (number us) sender verdict t) (Ok (Heard decided)) xs
+        after = fresh-carried before.sound sender verdict t stands-then passes_then refl unheard-then d
 
         -- both steps are the model's
         bring-step : shard_step house mine (view ws) vote-of ≡ bring mine (view ws) sender verdict t
@@ -403,16 +413,16 @@ module _ {ws : List ℕ} (sound : Sound ws) (sender verdict : ℕ) (t : Transact
         abbrev outcome : Outcome
         outcome = outcome_of (hearing sender verdict (entry_of t registered.known))
 
-        answer_is : (shard_step house mine (view ws) vote-of).1 ≡ Brought voted outcome
+        answer_is : (shard_step house mine (view ws) vote-of).1 ≡ Ok (Brought voted outcome)
         unfolding bring
         answer_is = ap (λ (x : Ledger × Answer). x.1) bring-step
 
-        second : shard_step house mine registered vote-of ≡ ((shard_step house mine (view ws) vote-of).0, Heard outcome)
+        second : shard_step house mine registered vote-of ≡ ((shard_step house mine (view ws) vote-of).0, Ok (Heard outcome))
         second = brings-then house mine (view ws) mine sender verdict t voted outcome answer_is
 
-        pub bring-carried : Steps ws vote-of (Brought own.verdict decided) xs
+        pub bring-carried : Steps ws vote-of (Ok (Brought own.verdict decided)) xs
         bring-carried =
-            let heard : Heard decided ≡ Heard outcome =
+            let heard : answered (Heard decided) ≡ answered (Heard outcome) =
             after.answered ∙ rw (left_is, before.numbered) (ap (λ (x : Ledger × Answer). x.1) second) in
             let decided-is : decided ≡ outcome = cc in
             record {
@@ -424,48 +434,48 @@ module _ {ws : List ℕ} (sound : Sound ws) (sender verdict : ℕ) (t : Transact
 
 -- ---- A call that passes is addressed to this shard
 
-module _ (ws : List ℕ) (receiver : ℕ) (t : Transaction) {cause : ℕ}
-    (e : cause ≡ first_of (register_refusals house (number ws) (view ws) receiver t)) (z : cause ≡ 0) where
+module _ (ws : List ℕ) (receiver : ℕ) (t : Transaction)
+    (pass : Ok tt ≡ first_of (register_refusals house (number ws) (view ws) receiver t)) where
   register-addressed : receiver ≡ number ws
-  register-addressed = (register-passes house (number ws) (view ws) receiver t (sym e ∙ z)).form.addressed
+  register-addressed = (register-passes house (number ws) (view ws) receiver t (sym pass)).form.addressed
 
-  pub register-own : first_of (register_refusals house (number ws) (view ws) (number ws) t) ≡ 0
+  pub register-own : first_of (register_refusals house (number ws) (view ws) (number ws) t) ≡ Ok tt
   register-own =
-      subst (λ (r : ℕ). first_of (register_refusals house (number ws) (view ws) r t) ≡ 0) register-addressed (sym e ∙ z)
+      subst (λ (r : ℕ). first_of (register_refusals house (number ws) (view ws) r t) ≡ Ok tt) register-addressed (sym pass)
 
   pub register-back : {answer : Answer} {vs : List ℕ} → Steps ws (register (number ws) t) answer vs
       → Steps ws (register receiver t) answer vs
   register-back {answer} {vs} h = subst (λ (p : ℕ). Steps ws (register p t) answer vs) (sym register-addressed) h
 
 -- a vote: 3 to 6 first, then what the ledger says
-module _ {ws : List ℕ} (sound : Sound ws) (receiver sender verdict : ℕ) (t : Transaction) {me cause : ℕ}
-    (em : me ≡ number ws) (form : cause ≡ first_of (deliver_form house me receiver sender verdict t)) where
-  own-form : cause ≡ first_of (deliver_form house (number ws) receiver sender verdict t)
+module _ {ws : List ℕ} (sound : Sound ws) (receiver sender verdict : ℕ) (t : Transaction) {me : ℕ} {found : Verdict}
+    (em : me ≡ number ws) (form : found ≡ first_of (deliver_form house me receiver sender verdict t)) where
+  own-form : found ≡ first_of (deliver_form house (number ws) receiver sender verdict t)
   own-form = form ∙ rw em refl
 
-  pub form-refused : (cause ≡ 0 → ⊥) → Steps ws (deliver receiver sender verdict t) (Refused cause) ws
+  pub form-refused : {refusal : Refusal} → found ≡ Err refusal → Steps ws (deliver receiver sender verdict t) (Err refusal) ws
   unfolding deliver_refusals
-  form-refused n =
+  form-refused e =
       let first = deliver_form house (number ws) receiver sender verdict t in
       let rest = deliver_rest house (number ws) (view ws) sender verdict t in
-      deliver-refused sound (own-form ∙ sym (first-stands first rest (λ z. n (own-form ∙ z)))) n
+      deliver-refused sound (sym (first-stands first rest (sym own-form ∙ e)))
 
-  addressed : cause ≡ 0 → receiver ≡ number ws
+  addressed : found ≡ Ok tt → receiver ≡ number ws
   unfolding deliver_form
   addressed z =
       let first = deliver_form house (number ws) receiver sender verdict t in
-      eqb-eq receiver (number ws) (not-no (eqb receiver (number ws)) (passed first refl (sym own-form ∙ z)).0)
+      eqb-eq receiver (number ws) (not-no (eqb receiver (number ws)) (passed first (sym own-form ∙ z)).0)
 
-  pub form-own : cause ≡ 0 → first_of (deliver_form house (number ws) (number ws) sender verdict t) ≡ 0
+  pub form-own : found ≡ Ok tt → first_of (deliver_form house (number ws) (number ws) sender verdict t) ≡ Ok tt
   form-own z =
-      subst (λ (r : ℕ). first_of (deliver_form house (number ws) r sender verdict t) ≡ 0) (addressed z) (sym own-form ∙ z)
+      subst (λ (r : ℕ). first_of (deliver_form house (number ws) r sender verdict t) ≡ Ok tt) (addressed z) (sym own-form ∙ z)
 
-  pub form-back : cause ≡ 0 → {answer : Answer} {vs : List ℕ} → Steps ws (deliver (number ws) sender verdict t) answer vs
+  pub form-back : found ≡ Ok tt → {answer : Answer} {vs : List ℕ} → Steps ws (deliver (number ws) sender verdict t) answer vs
       → Steps ws (deliver receiver sender verdict t) answer vs
   form-back z {answer} {vs} h = subst (λ (p : ℕ). Steps ws (deliver p sender verdict t) answer vs) (sym (addressed z)) h
 
 module _ {ws : List ℕ} (sound : Sound ws) (sender verdict : ℕ) (t : Transaction)
-    (form : first_of (deliver_form house (number ws) (number ws) sender verdict t) ≡ 0) where
+    (form : first_of (deliver_form house (number ws) (number ws) sender verdict t) ≡ Ok tt) where
   abbrev on-unknown : Table
   on-unknown = bring_rest house (number ws) (view ws) sender t
 
@@ -473,29 +483,31 @@ module _ {ws : List ℕ} (sound : Sound ws) (sender verdict : ℕ) (t : Transact
   on-known = hear_rest (view ws) sender verdict t
 
   -- what the ledger says, by whether the number is known
-  module _ {unknown : Bool} (u : is_unknown t (view ws).known ≡ unknown) {cause : ℕ} (found : cause ≡ first_of (cond unknown on-unknown on-known)) where
-    whole-cause : cause ≡ first_of (deliver_refusals house (number ws) (view ws) (number ws) sender verdict t)
-    unfolding deliver_refusals deliver_form
-    whole-cause =
-        found ∙ ap (λ (b : Bool). first_of (cond b on-unknown on-known)) (sym u)
-        ∙ sym (first-behind (deliver_form house (number ws) (number ws) sender verdict t) (deliver_rest house (number ws) (view ws) sender verdict t) refl form)
+  module _ {unknown : Bool} (u : is_unknown t (view ws).known ≡ unknown) {found : Verdict} (e : found ≡ first_of (cond unknown on-unknown on-known)) where
+    whole : found ≡ first_of (deliver_refusals house (number ws) (view ws) (number ws) sender verdict t)
+    unfolding deliver_refusals
+    whole =
+        e ∙ ap (λ (b : Bool). first_of (cond b on-unknown on-known)) (sym u)
+        ∙ sym (first-behind (deliver_form house (number ws) (number ws) sender verdict t) (deliver_rest house (number ws) (view ws) sender verdict t) form)
 
-    rest-refused : (cause ≡ 0 → ⊥) → Steps ws (deliver (number ws) sender verdict t) (Refused cause) ws
-    rest-refused n = deliver-refused sound whole-cause n
+    rest-refused : {refusal : Refusal} → found ≡ Err refusal → Steps ws (deliver (number ws) sender verdict t) (Err refusal) ws
+    rest-refused r = deliver-refused sound (sym r ∙ whole)
 
-    rest-passes : cause ≡ 0 → first_of (deliver_refusals house (number ws) (view ws) (number ws) sender verdict t) ≡ 0
-    rest-passes z = sym whole-cause ∙ z
+    rest-passes : found ≡ Ok tt → first_of (deliver_refusals house (number ws) (view ws) (number ws) sender verdict t) ≡ Ok tt
+    rest-passes z = sym whole ∙ z
 
-  module _ (unknown : is_unknown t (view ws).known ≡ true) {cause : ℕ} (found : cause ≡ first_of on-unknown) where
-    pub bring-refused : (cause ≡ 0 → ⊥) → Steps ws (deliver (number ws) sender verdict t) (Refused cause) ws
-    bring-refused n = rest-refused unknown found n
+  module _ (unknown : is_unknown t (view ws).known ≡ true) where
+    pub bring-refused : {refusal : Refusal} → Err refusal ≡ first_of on-unknown → Steps ws (deliver (number ws) sender verdict t) (Err refusal) ws
+    bring-refused e = rest-refused unknown e refl
 
-    pub bring_unrefused : cause ≡ 0 → first_of (deliver_refusals house (number ws) (view ws) (number ws) sender verdict t) ≡ 0
-    bring_unrefused z = rest-passes unknown found z
+    pub bring_unrefused : Ok tt ≡ first_of on-unknown
+        → first_of (deliver_refusals house (number ws) (view ws) (number ws) sender verdict t) ≡ Ok tt
+    bring_unrefused e = rest-passes unknown e refl
 
-  module _ (known : is_unknown t (view ws).known ≡ false) {cause : ℕ} (found : cause ≡ first_of on-known) where
-    pub hear-refused : (cause ≡ 0 → ⊥) → Steps ws (deliver (number ws) sender verdict t) (Refused cause) ws
-    hear-refused n = rest-refused known found n
+  module _ {place : ℕ} (at : Stands (is_numbered t.number) (view ws).known place) where
+    pub hear-refused : {refusal : Refusal} → Err refusal ≡ first_of on-known → Steps ws (deliver (number ws) sender verdict t) (Err refusal) ws
+    hear-refused e = rest-refused (ap not at.some) e refl
 
-    pub hear_unrefused : cause ≡ 0 → first_of (deliver_refusals house (number ws) (view ws) (number ws) sender verdict t) ≡ 0
-    hear_unrefused z = rest-passes known found z
+    pub hear_unrefused : Ok tt ≡ first_of on-known
+        → first_of (deliver_refusals house (number ws) (view ws) (number ws) sender verdict t) ≡ Ok tt
+    hear_unrefused e = rest-passes (ap not at.some) e refl

@@ -7,9 +7,10 @@ use native.Mathlib.Omega.{arith}
 use native.Mathlib.Nat.{not-suc-le-zero}
 use lib.ListN.{length, get_or, take, set, replicate, length-append}
 use lib.Seq.{get_or-set_same, take-set-lt}
+use Rattle.transaction.specs.declared.Input.{Input}
 use Rattle.transaction.specs.declared.Transaction.{Transaction}
 use Rattle.model.specs.declared.Token.{Token}
-use Rattle.model.specs.declared.Found.{Found}
+use Rattle.model.specs.declared.Finding.{Finding}
 use Rattle.model.specs.declared.Known.{Known}
 use Rattle.model.specs.declared.Outcome.{Outcome}
 use Rattle.model.specs.Steps.{
@@ -66,8 +67,7 @@ use Rattle.layout.specs.Layout.{
 use Rattle.layout.proofs.Regions.{tab-same}
 use Rattle.layout.proofs.Slots.{length-tokens, length-known}
 use Rattle.layout.proofs.Ledgers.{held-length}
-use Rattle.holdings.specs.declared.Inputs.{Inputs}
-use Rattle.holdings.specs.Held.{inputs_of, Lists, Holds, Changes, Settling, Settles, settled_at}
+use Rattle.holdings.specs.Held.{Holds, Changes, Settling, Settles, settled_at}
 use Rattle.shard.specs.declared.local.Own.{Own}
 use Rattle.shard.specs.View.{number, view, Fresh}
 use Rattle.shard.specs.Parts.{Pledges, Leaves, Minted, Grows, decided_on, entry_for, Entering, Entered, heard_in, FreshVote, FreshDone}
@@ -287,18 +287,19 @@ module _ {ws : List ℕ} {me : ℕ} (c : Cleared me ws) where
 
 -- ---- The local step, from what each of its four parts yields
 
-pub stepped-here : (ws : List ℕ) (t : Transaction) {me : ℕ} {here found : Inputs} {kept : List Found} → me ≡ number ws → Lists here (inputs_here me t)
-    → ((me : ℕ) (t : Transaction) → Lists here (inputs_here me t) → kept ≡ keeping (findings me (view ws).tokens t))
-    → ((me : ℕ) (tokens : List Token) (t : Transaction) → Lists here (inputs_here me t) → kept ≡ keeping (findings me tokens t)
-    → Lists found (available_here me tokens t))
-    → {vs : List ℕ} → Changes (pledges t.number (inputs_of found)) ws vs
+pub stepped-here : (ws : List ℕ) (t : Transaction) {me : ℕ} {here found : List Input} {kept : List Finding} → me ≡ number ws
+    → here ≡ inputs_here me t
+    → ((me : ℕ) (t : Transaction) → here ≡ inputs_here me t → kept ≡ keeping (findings me (view ws).tokens t))
+    → ((me : ℕ) (tokens : List Token) (t : Transaction) → here ≡ inputs_here me t → kept ≡ keeping (findings me tokens t)
+    → found ≡ available_here me tokens t)
+    → {vs : List ℕ} → Changes (pledges t.number found) ws vs
     → {verdict : Bool}
-    → ((me : ℕ) (tokens : List Token) (t : Transaction) → Lists here (inputs_here me t) → Lists found (available_here me tokens t)
+    → ((me : ℕ) (tokens : List Token) (t : Transaction) → here ≡ inputs_here me t → found ≡ available_here me tokens t
     → verdict ≡ vote me tokens t)
     → Pledges t ws (record { verdict = verdict; findings = kept }) vs
 stepped-here ws t {me} {here} em first finds second third fourth =
     let tokens = (view ws).tokens in
-    let inputs : Lists here (inputs_here (number ws) t) = subst (λ (m : ℕ). Lists here (inputs_here m t)) em first in
+    let inputs : here ≡ inputs_here (number ws) t = subst (λ (m : ℕ). here ≡ inputs_here m t) em first in
     let kept = finds (number ws) t inputs in
     let found = second (number ws) tokens t inputs kept in
-    record { pledged = rw found.are at third; votes = fourth (number ws) tokens t inputs found; finds = kept }
+    record { pledged = rw found at third; votes = fourth (number ws) tokens t inputs found; finds = kept }

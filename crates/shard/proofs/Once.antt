@@ -11,7 +11,7 @@ use lib.Seq.{get_or-set_same, get_or-set_other}
 use Rattle.transaction.specs.declared.Transaction.{Transaction}
 use Rattle.transaction.specs.Lists.{any}
 use Rattle.model.specs.declared.Known.{Known}
-use Rattle.model.specs.declared.Answer.{Answer}
+use Rattle.model.specs.Answers.{Answer}
 use Rattle.model.specs.Steps.{
   Limits,
   Ledger,
@@ -143,7 +143,7 @@ unfolding after_mint after_turn
 once-step limits me ledger one call = go (shard-effect limits me ledger call)
   where
     go : {call : Call} {r : Ledger × Answer} → ShardEffect limits me ledger call r → OneEach r.0.known
-    go (shard-refused n) = one
+    go shard-refused = one
     go (shard-minted p) = one
     go (shard-registered p) = once-registered limits me ledger one p
     go (shard-heard {receiver} {sender} {verdict} {t} p f z) = once-heard me ledger one sender verdict t

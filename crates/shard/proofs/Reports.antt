@@ -1,54 +1,67 @@
 -- What is told of the findings about a known transaction, from the slot in which it stands.
 use Prim.Native.Nat.{ℕ, ◌<◌}
-use mathlib.Core.Path.{◌≡◌, sym, ap, ◌∙◌}
+use mathlib.Core.Path.{◌≡◌, refl, sym, ap, ◌∙◌}
 use mathlib.Core.List.{List}
-use native.Mathlib.Omega.{arith}
 use lib.ListN.{length, get_or}
+use Rattle.std.specs.Prelude.{Bool, Ok, Err, Option, Some, None, ok_or}
+use Rattle.transaction.specs.declared.refusal.Refusal.{Refusal}
+use Rattle.transaction.specs.declared.refusal.Refusal.TheVariants.{NoSuchNumber}
 use Rattle.transaction.specs.Lists.{first_of}
-use Rattle.model.specs.declared.Found.{Found}
-use Rattle.model.specs.declared.Report.{Report}
-use Rattle.model.specs.declared.Told.TheVariants.{Findings}
-use Rattle.model.specs.Lists.{find}
+use Rattle.transaction.proofs.Tables.{first-stands, first-behind}
+use Rattle.model.specs.declared.Finding.{Finding}
+use Rattle.model.specs.declared.Findings.{Findings}
+use Rattle.model.specs.Answers.{Report}
 use Rattle.model.specs.Steps.{inputs_here, nothing_known}
 use Rattle.model.specs.Shard.{is_numbered}
-use Rattle.model.specs.Findings.{report_refusals, told, refusing, report}
-use Rattle.model.proofs.Capacity.{find-below}
-use Rattle.model.proofs.Findings.{number-known, report-told, report-refused}
-use Rattle.layout.specs.Layout.{known_slots, shard_of, slot_known}
+use Rattle.model.specs.Findings.{report_form, report_rest, report_refusals, told, report}
+use Rattle.model.proofs.Reported.{report-told, report-refused}
+use Rattle.loops.proofs.Positions.{Stands, Nowhere}
+use Rattle.layout.specs.Layout.{shard_of, slot_known}
 use Rattle.layout.proofs.Ledgers.{known-length, known-entry}
 use Rattle.shard.specs.View.{view, Sound}
 use Rattle.shard.specs.View as shard
 
 -- the parts that are read
-pub told-slot : (ws : List ℕ) (place : ℕ) {me count : ℕ} {found : List Found} → me ≡ shard.number ws
+pub told-slot : (ws : List ℕ) (place : ℕ) {me count : ℕ} {found : List Finding} → me ≡ shard.number ws
     → count ≡ length (inputs_here me (slot_known ws place).transaction) → found ≡ (slot_known ws place).findings
-    → record { answer = Findings count; findings = found } ≡ told (shard.number ws) (slot_known ws place)
+    → record { count = count; list = found } ≡ told (shard.number ws) (slot_known ws place)
 told-slot ws place em ec ef =
     let many = ec ∙ (λ i. length (inputs_here (em i) (slot_known ws place).transaction)) in
-    λ i. record { answer = Findings (many i); findings = ef i }
+    λ i. record { count = many i; list = ef i }
 
-module _ {ws : List ℕ} (sound : Sound ws) (at number : ℕ) {place cause : ℕ} (found : place ≡ find (is_numbered number) (view ws).known)
-    (e : cause ≡ first_of (report_refusals (shard.number ws) (view ws) at number)) where
-  -- refused
-  pub report-refusal : {r : Report} → (cause ≡ 0 → ⊥) → r ≡ refusing cause → r ≡ report (shard.number ws) (view ws) at number
-  report-refusal n is = is ∙ ap refusing e ∙ sym (report-refused (shard.number ws) (view ws) at number (λ z. n (e ∙ z)))
+-- the refusal of what was not found
+pub refusal-of : {A : Type 0} (o : Option A) {refusal other : Refusal} → Err refusal ≡ ok_or o other → refusal ≡ other
+refusal-of None e = cc
+refusal-of (Some place) e = absurd cc
 
-  module _ (z : cause ≡ 0) where
-    passes : first_of (report_refusals (shard.number ws) (view ws) at number) ≡ 0
-    passes = sym e ∙ z
+module _ {ws : List ℕ} (sound : Sound ws) (at number : ℕ) where
+  abbrev form : List (Bool × Refusal)
+  form = report_form (shard.number ws) at number
 
-    -- the number stands at the place
-    below : place < (shard_of ws).known
-    below =
-        let known = number-known (shard.number ws) (view ws) at number passes in
-        omega (arith, found, known-length ws sound.known, find-below (is_numbered number) (view ws).known known)
+  abbrev rest : List (Bool × Refusal)
+  rest = report_rest (view ws) number
 
-    pub report-slot : place < known_slots
-    report-slot = omega (arith, below, sound.known)
+  -- refused by its form
+  pub report-formed : {refusal : Refusal} → Err refusal ≡ first_of form → Err refusal ≡ report (shard.number ws) (view ws) at number
+  report-formed e = sym (report-refused (shard.number ws) (view ws) at number (first-stands form rest (sym e)))
 
-    -- and what is told of it is reported
-    pub report-there : {r : Report} → r ≡ told (shard.number ws) (slot_known ws place) → r ≡ report (shard.number ws) (view ws) at number
-    report-there is =
-        is ∙ ap (told (shard.number ws)) (known-entry ws place below sound.known nothing_known
-        ∙ ap (λ (i : ℕ). get_or (view ws).known i nothing_known) found)
-        ∙ sym (report-told (shard.number ws) (view ws) at number passes)
+  module _ (formed : Ok tt ≡ first_of form) where
+    -- the number is not known
+    pub report-unknown : Nowhere (is_numbered number) (view ws).known → Err NoSuchNumber ≡ report (shard.number ws) (view ws) at number
+    report-unknown nowhere =
+        sym (report-refused (shard.number ws) (view ws) at number (first-behind form rest (sym formed) ∙ rw (nowhere.none) refl))
+
+    -- it stands at a place, and what is told of that is reported
+    module _ {place : ℕ} (stands : Stands (is_numbered number) (view ws).known place) where
+      passes : first_of (report_refusals (shard.number ws) (view ws) at number) ≡ Ok tt
+      passes = first-behind form rest (sym formed) ∙ rw (stands.some) refl
+
+      entry : slot_known ws place ≡ get_or (view ws).known place nothing_known
+      entry = known-entry ws place (rw (known-length ws sound.known) at stands.below) sound.known nothing_known
+
+      pub report-there : {found : Findings} → found ≡ told (shard.number ws) (slot_known ws place)
+          → Ok found ≡ report (shard.number ws) (view ws) at number
+      report-there is =
+          ap Ok (is ∙ ap (told (shard.number ws)) (entry
+          ∙ ap (λ (i : ℕ). get_or (view ws).known i nothing_known) (sym stands.first)))
+          ∙ sym (report-told (shard.number ws) (view ws) at number passes)

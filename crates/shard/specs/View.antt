@@ -1,6 +1,6 @@
 -- A shard (document 01: a pantry) as the reference model sees it, and what every call on it promises. A shard is its words.
 use Rattle.std.specs.Prelude.{ℕ, ◌≤◌, ◌≡◌, List, length}
-use Rattle.model.specs.declared.Answer.{Answer}
+use Rattle.model.specs.Answers.{Answer}
 use Rattle.model.specs.Steps.{Ledger, house, empty_ledger}
 use Rattle.model.specs.Shard.{Call, shard_step}
 use Rattle.model.specs.Fit.{Fit}

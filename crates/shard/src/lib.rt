@@ -1,12 +1,11 @@
 // One shard's ledger (document 01: a pantry's), in place: each call is lent the shard's words, changes them and answers.
 // The interface: `new`, `mint_token`, `register_transaction`, `hear_vote`, `turn_shard`, `has_given_vote`, all of `queries`, and
-// `reporting::findings_of`. Internal, and public only because the crate `cluster` calls them: `hear_formed`,
-// `refusals::deliver_form` and `reporting::refused`.
+// `reporting::findings_of`. Internal, and public only because the crate `cluster` calls them: `hear_formed` with its `Vote`, and
+// `refusals::deliver_form`.
 #![tactic(auto)]
 
-ghost use Rattle.std.specs.Prelude.{◌≡◌, true, false};
+ghost use Rattle.std.specs.Prelude.{◌≡◌, true, position};
 ghost use Rattle.transaction.specs.Lists.{first_of};
-ghost use Rattle.model.specs.Lists.{find};
 ghost use Rattle.model.specs.Steps.{house};
 ghost use Rattle.model.specs.Shard.{is_numbered, mint, register, deliver, turn, is_unknown, deliver_form};
 ghost use Rattle.model.specs.Cluster.{gave};
@@ -14,7 +13,7 @@ ghost use Rattle.shard.specs.View.{number, view, Sound, Fresh, Steps};
 
 use layout::Words;
 use layout::counts::own_number;
-use model::Answer;
+use model::{Answer, Done};
 use registry::finding::place_of_number;
 use transaction::Transaction;
 
@@ -25,6 +24,14 @@ mod steps; // the steps that a call that passes takes
 mod turning; // the step of a turn
 pub mod queries; // what can be asked of a shard
 pub mod reporting; // what it found about the inputs of a known transaction
+
+// What a vote says: its sender, the verdict, 1 for yes and 0 for no, and the transaction. Internal, as `hear_formed` is.
+#[derive(Clone, Copy)]
+pub struct Vote {
+    pub sender: u8,
+    pub verdict: u8,
+    pub transaction: Transaction,
+}
 
 // An empty shard of that number, whatever the words were.
 pub fn new(s: &mut Words, me: u8)
@@ -38,12 +45,9 @@ pub fn mint_token(s: &mut Words, receiver: u8, index: u8, owner: u32, amount: u3
     requires { Sound s.old }
     ensures { Steps s.old (mint receiver index owner amount) result s.new }
 {
-    let cause = refusals::mint_refusal(s, receiver, index, owner, amount);
-    if cause != 0 {
-        return Answer::Refused(cause);
-    }
+    refusals::mint_refusal(s, receiver, index, owner, amount)?;
     steps::after_mint(s, index, owner, amount);
-    Answer::Minted
+    Ok(Done::Minted)
 }
 
 // A registration: available inputs are pledged, the shard votes, and decides if its vote is no or it is the only one.
@@ -51,11 +55,8 @@ pub fn register_transaction(s: &mut Words, receiver: u8, t: Transaction) -> Answ
     requires { Sound s.old }
     ensures { Steps s.old (register receiver t) result s.new }
 {
-    let cause = refusals::register_refusal(s, receiver, t);
-    if cause != 0 {
-        return Answer::Refused(cause);
-    }
-    steps::carry_registration(s, t)
+    refusals::register_refusal(s, receiver, t)?;
+    Ok(steps::carry_registration(s, t))
 }
 
 // A vote of another shard, or of its own: fresh or repeated; on an unknown number it brings its transaction.
@@ -63,49 +64,48 @@ pub fn hear_vote(s: &mut Words, receiver: u8, sender: u8, verdict: u8, t: Transa
     requires { Sound s.old }
     ensures { Steps s.old (deliver receiver sender verdict t) result s.new }
 {
-    let cause = refusals::deliver_form(own_number(s), receiver, sender, verdict, t);
-    if cause != 0 {
-        return Answer::Refused(cause);
-    }
-    hear_formed(s, sender, verdict, t)
+    refusals::deliver_form(own_number(s), receiver, sender, verdict, t)?;
+    let vote = Vote {
+        sender,
+        verdict,
+        transaction: t,
+    };
+    hear_formed(s, vote)
 }
 
 // A vote to this shard that has passed 3 to 6. Internal: a cluster, which asks for 16 behind them, calls it so that they are asked for once.
-pub fn hear_formed(s: &mut Words, sender: u8, verdict: u8, t: Transaction) -> Answer
-    requires { Sound s.old × (first_of (deliver_form house (number s.old) (number s.old) sender verdict t) ≡ 0) }
-    ensures { Steps s.old (deliver (number s.old) sender verdict t) result s.new }
+pub fn hear_formed(s: &mut Words, vote: Vote) -> Answer
+    requires sound { Sound s.old }
+    requires formed { first_of (deliver_form house (number s.old) (number s.old) vote.sender vote.verdict vote.transaction) ≡ Ok tt }
+    ensures { Steps s.old (deliver (number s.old) vote.sender vote.verdict vote.transaction) result s.new }
 {
-    let place = place_of_number(s, t.number);
-    if rows::is_unknown(s, place, t.number) {
-        return bring(s, sender, verdict, t);
+    let t = vote.transaction;
+    match place_of_number(s, t.number) {
+        Some(place) => hear(s, place, vote),
+        None => bring(s, vote),
     }
-    hear(s, place, sender, verdict, t)
 }
 
 // One on an unknown number.
-fn bring(s: &mut Words, sender: u8, verdict: u8, t: Transaction) -> Answer
-    requires { Sound s.old × ((first_of (deliver_form house (number s.old) (number s.old) sender verdict t) ≡ 0)
-        × (is_unknown t (view s.old).known ≡ true)) }
-    ensures { Steps s.old (deliver (number s.old) sender verdict t) result s.new }
+fn bring(s: &mut Words, vote: Vote) -> Answer
+    requires sound { Sound s.old }
+    requires formed { first_of (deliver_form house (number s.old) (number s.old) vote.sender vote.verdict vote.transaction) ≡ Ok tt }
+    requires unknown { is_unknown vote.transaction (view s.old).known ≡ true }
+    ensures { Steps s.old (deliver (number s.old) vote.sender vote.verdict vote.transaction) result s.new }
 {
-    let cause = refusals::bring_rest(s, sender, t);
-    if cause != 0 {
-        return Answer::Refused(cause);
-    }
-    steps::carry_brought(s, sender, verdict, t)
+    refusals::bring_rest(s, vote)?;
+    Ok(steps::carry_brought(s, vote))
 }
 
 // One on a known number, which stands at the place.
-fn hear(s: &mut Words, place: usize, sender: u8, verdict: u8, t: Transaction) -> Answer
-    requires { Sound s.old × ((first_of (deliver_form house (number s.old) (number s.old) sender verdict t) ≡ 0)
-        × ((place ≡ find (is_numbered t.number) (view s.old).known) × (is_unknown t (view s.old).known ≡ false))) }
-    ensures { Steps s.old (deliver (number s.old) sender verdict t) result s.new }
+fn hear(s: &mut Words, place: usize, vote: Vote) -> Answer
+    requires sound { Sound s.old }
+    requires formed { first_of (deliver_form house (number s.old) (number s.old) vote.sender vote.verdict vote.transaction) ≡ Ok tt }
+    requires there { position (is_numbered vote.transaction.number) (view s.old).known ≡ Some place }
+    ensures { Steps s.old (deliver (number s.old) vote.sender vote.verdict vote.transaction) result s.new }
 {
-    let cause = refusals::hear_rest(s, place, sender, verdict, t);
-    if cause != 0 {
-        return Answer::Refused(cause);
-    }
-    steps::carry_vote(s, place, sender, verdict, t)
+    refusals::hear_rest(s, place, vote)?;
+    Ok(steps::carry_vote(s, place, vote))
 }
 
 // A turn: what is pledged to transactions that the shard has aborted comes free, and from now on each abort frees its own.
@@ -113,12 +113,9 @@ pub fn turn_shard(s: &mut Words, receiver: u8) -> Answer
     requires { Sound s.old }
     ensures { Steps s.old (turn receiver) result s.new }
 {
-    let cause = refusals::turn_refusal(s, receiver);
-    if cause != 0 {
-        return Answer::Refused(cause);
-    }
+    refusals::turn_refusal(s, receiver)?;
     turning::after_turn(s);
-    Answer::Turned
+    Ok(Done::Turned)
 }
 
 // The shard has given this vote on this transaction; asked of the sender before a cluster delivers it.

@@ -9,14 +9,14 @@ use holdings::pledging::pledge_all;
 use holdings::voting::own_vote;
 use layout::Words;
 use layout::counts::own_number;
-use model::Found;
+use model::Finding;
 use transaction::Transaction;
 
 // What the shard keeps of it with the transaction: its own vote, and what it found about each input here (document 02, 2).
 #[derive(Clone, Copy)]
 pub struct Own {
     pub verdict: bool,
-    pub findings: [Found; 4],
+    pub findings: [Finding; 4],
 }
 
 // First the inputs here, then the available ones among them, then the pledges, then the message.
@@ -26,12 +26,9 @@ pub(crate) fn local_step(s: &mut Words, t: Transaction) -> Own
 {
     let me = own_number(s); // S
     let here = inputs_here(me, t); // I(S, τ) = {o ∈ Inputs(τ) | S = shard(o)}
-    let findings = findings_here(s, here); // what S finds about each of them now
-    let found = available_here(here, findings); // D(S, τ) ⊆ I(S, τ), those available
-    pledge_all(s, t.number, found); // S pledges D(S, τ) to τ
-    let verdict = own_vote(here, found); // m(S, τ): yes if I(S, τ) = D(S, τ)
-    Own {
-        verdict: verdict,
-        findings: findings,
-    }
+    let findings = findings_here(s, &here); // what S finds about each of them now
+    let found = available_here(&here, findings); // D(S, τ) ⊆ I(S, τ), those available
+    pledge_all(s, t.number, &found); // S pledges D(S, τ) to τ
+    let verdict = own_vote(&here, &found); // m(S, τ): yes if I(S, τ) = D(S, τ)
+    Own { verdict, findings }
 }

@@ -2,94 +2,46 @@
 // Nothing is changed.
 ghost use Rattle.std.specs.Prelude.{◌≡◌, ◌<◌};
 ghost use Rattle.transaction.specs.Lists.{first_of};
-ghost use Rattle.model.specs.Lists.{find};
-ghost use Rattle.model.specs.Shard.{is_numbered};
-ghost use Rattle.model.specs.Findings.{report_form, report_rest, report_refusals, told, refusing, report};
+ghost use Rattle.model.specs.Findings.{report_form, told, report};
 ghost use Rattle.layout.specs.Layout.{known_slots, slot_known};
 ghost use Rattle.shard.specs.View.{view, Sound};
 ghost use Rattle.shard.specs.View as View;
 
-use crate::rows::is_unknown;
-use holdings::finding::nothing_found;
 use layout::Words;
 use layout::counts::own_number;
 use layout::entries::findings_at;
-use model::{Report, Told};
+use model::{Findings, Report};
 use registry::counting::inputs_here_at;
 use registry::finding::place_of_number;
 use transaction::fields::shard_fits;
+use transaction::refusal::Refusal;
 
-// 3.
-fn report_form(me: u8, shard: u8, number: u32) -> u8
+// 3: another shard, one above 7, or the number 0.
+fn report_form(me: u8, shard: u8, number: u32) -> Result<(), Refusal>
     ensures { result ≡ first_of (report_form me shard number) }
 {
-    if shard != me {
-        return 3;
+    if shard != me || !shard_fits(shard) || number == 0 {
+        return Err(Refusal::OutOfRange);
     }
-    if !shard_fits(shard) {
-        return 3;
-    }
-    if number == 0 {
-        return 3;
-    }
-    0
-}
-
-// 18; the number stands at the place.
-fn report_rest(s: &Words, place: usize, number: u32) -> u8
-    requires { Sound s.now × (place ≡ find (is_numbered number) (view s.now).known) }
-    ensures { result ≡ first_of (report_rest (view s.now) number) }
-{
-    if is_unknown(s, place, number) {
-        return 18;
-    }
-    0
-}
-
-fn report_refusal(s: &Words, place: usize, shard: u8, number: u32) -> u8
-    requires { Sound s.now × (place ≡ find (is_numbered number) (view s.now).known) }
-    ensures { result ≡ first_of (report_refusals (View.number s.now) (view s.now) shard number) }
-{
-    let cause = report_form(own_number(s), shard, number);
-    if cause != 0 {
-        return cause;
-    }
-    report_rest(s, place, number)
-}
-
-pub fn refused(cause: u8) -> Report
-    ensures { result ≡ refusing cause }
-{
-    let nothing = nothing_found();
-    Report {
-        answer: Told::Refused(cause),
-        findings: nothing,
-    }
+    Ok(())
 }
 
 // What is told of the known transaction in a slot.
-fn told_at(s: &Words, place: usize) -> Report
+fn told_at(s: &Words, place: usize) -> Findings
     requires { place < known_slots }
     ensures { result ≡ told (View.number s.now) (slot_known s.now place) }
 {
-    let me = own_number(s);
-    let count = inputs_here_at(s, place, me);
-    let findings = findings_at(s, place);
-    Report {
-        answer: Told::Findings(count),
-        findings: findings,
-    }
+    let count = inputs_here_at(s, place, own_number(s));
+    let list = findings_at(s, place);
+    Findings { count, list }
 }
 
-// The findings about the inputs here of the known transaction of that number, in input order.
+// The findings about the inputs here of the known transaction of that number, in input order; 18 where it is not known.
 pub fn findings_of(s: &Words, shard: u8, number: u32) -> Report
     requires { Sound s.now }
     ensures { result ≡ report (View.number s.now) (view s.now) shard number }
 {
-    let place = place_of_number(s, number);
-    let cause = report_refusal(s, place, shard, number);
-    if cause != 0 {
-        return refused(cause);
-    }
-    told_at(s, place)
+    report_form(own_number(s), shard, number)?;
+    let place = place_of_number(s, number).ok_or(Refusal::NoSuchNumber)?;
+    Ok(told_at(s, place))
 }

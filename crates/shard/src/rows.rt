@@ -1,12 +1,12 @@
 // The rows of the tables of refusals that the ledger decides: each function answers the test of one row. `place` is the place of the
 // transaction's number among the known ones.
-ghost use Rattle.std.specs.Prelude.{◌≡◌, true, false, not, eqb, leb, length, get_or};
+ghost use Rattle.std.specs.Prelude.{◌≡◌, true, false, not, eqb, leb, length, get_or, position};
 ghost use Rattle.transaction.specs.Lists.{any};
-ghost use Rattle.model.specs.Lists.{find};
 ghost use Rattle.model.specs.Steps.{house, is_for, entry_of, heard_from};
 ghost use Rattle.model.specs.Shard.{is_numbered, is_other, other_verdict, too_full, held_off};
 ghost use Rattle.shard.specs.View.{number, view, Sound};
 
+use crate::Vote;
 use layout::counts::{held, is_given, is_turned, known_count, own_number};
 use layout::entries::heard_at;
 use layout::{GENESIS_SLOTS, KNOWN_SLOTS, TOKEN_SLOTS, Words};
@@ -27,30 +27,16 @@ pub(crate) fn knows_any(s: &Words) -> bool
 pub(crate) fn was_given(s: &Words, index: u8) -> bool
     ensures { result ≡ get_or (view s.now).given index false }
 {
-    let at = index as usize;
-    if at < GENESIS_SLOTS {
-        return is_given(s, at);
-    }
-    false
+    let at = usize::from(index);
+    at < GENESIS_SLOTS && is_given(s, at)
 }
 
-// The number is not known here: 18 where its findings are asked for; 11 for the shard's own vote, and another shard's
-// brings its transaction.
-pub(crate) fn is_unknown(s: &Words, place: usize, number: u32) -> bool
-    requires { Sound s.now × (place ≡ find (is_numbered number) (view s.now).known) }
-    ensures { result ≡ not (any (is_numbered number) (view s.now).known) }
-{
-    known_count(s) <= place
-}
-
-// 7: the number is known here for a different transaction.
+// 7: the number, which is known at the place, is that of a different transaction.
 pub(crate) fn is_other(s: &Words, place: usize, t: Transaction) -> bool
-    requires { Sound s.now × (place ≡ find (is_numbered t.number) (view s.now).known) }
+    requires sound { Sound s.now }
+    requires there { position (is_numbered t.number) (view s.now).known ≡ Some place }
     ensures { result ≡ any (is_other t) (view s.now).known }
 {
-    if known_count(s) <= place {
-        return false;
-    }
     !same_at(s, place, t)
 }
 
@@ -90,24 +76,19 @@ pub(crate) fn is_held_off(s: &Words, t: Transaction) -> bool
 fn is_other_verdict(heard: u8, verdict: u8) -> bool
     ensures { result ≡ other_verdict heard verdict }
 {
-    let noted = (verdict as u16) + 1;
-    (heard != 0) & ((heard as u16) != noted)
+    let noted = u16::from(verdict) + 1;
+    heard != 0 && u16::from(heard) != noted
 }
 
-// 12: the other verdict is heard from this sender. Asked where the number is known and 7 does not fit, so that the transaction stands at the place.
-pub(crate) fn has_other_verdict(
-    s: &Words,
-    place: usize,
-    sender: u8,
-    verdict: u8,
-    t: Transaction,
-) -> bool
-    requires { Sound s.now × ((place ≡ find (is_numbered t.number) (view s.now).known)
-        × (any (is_for t) (view s.now).known ≡ true)) }
-    ensures { result ≡ other_verdict (heard_from sender (entry_of t (view s.now).known)) verdict }
+// 12: the other verdict is heard from this sender. Asked where the transaction stands at the place.
+pub(crate) fn has_other_verdict(s: &Words, place: usize, vote: Vote) -> bool
+    requires sound { Sound s.now }
+    requires there { position (is_numbered vote.transaction.number) (view s.now).known ≡ Some place }
+    requires known { any (is_for vote.transaction) (view s.now).known ≡ true }
+    ensures { result ≡ other_verdict (heard_from vote.sender (entry_of vote.transaction (view s.now).known)) vote.verdict }
 {
-    let heard = heard_at(s, place, sender);
-    is_other_verdict(heard, verdict)
+    let heard = heard_at(s, place, vote.sender);
+    is_other_verdict(heard, vote.verdict)
 }
 
 // 19: the shard has turned.

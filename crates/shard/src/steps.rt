@@ -1,7 +1,6 @@
 // The steps of a call that passes: document 01's. Those of a registration are the local step, and then its entry.
-ghost use Rattle.std.specs.Prelude.{◌≡◌, ◌<◌, true, false, length};
+ghost use Rattle.std.specs.Prelude.{◌≡◌, ◌<◌, true, length, position};
 ghost use Rattle.transaction.specs.Lists.{first_of};
-ghost use Rattle.model.specs.Lists.{find};
 ghost use Rattle.model.specs.Steps.{house, noted, known_with, outcome_of};
 ghost use Rattle.model.specs.Shard.{is_numbered, register_refusals, is_unknown, deliver_refusals, register, deliver};
 ghost use Rattle.layout.specs.Layout.{shard_words, token_slots, known_slots, genesis_slots, shard_of, slot_known};
@@ -9,6 +8,7 @@ ghost use Rattle.holdings.specs.Held.{Settling, Settles};
 ghost use Rattle.shard.specs.View.{number, view, Sound, Steps};
 ghost use Rattle.shard.specs.Parts.{Minted, Grows, Entering, Entered, FreshVote, FreshDone};
 
+use crate::Vote;
 use crate::local::{Own, local_step};
 use holdings::committing::settle_at;
 use layout::Words;
@@ -16,7 +16,7 @@ use layout::counts::{give, held, known_count, own_number, set_held, set_known_co
 use layout::entries::heard_at;
 use layout::stores::{put_heard, put_known};
 use layout::tokens::put_token;
-use model::{Answer, Known, Outcome, Token};
+use model::{Done, Known, Outcome, Token};
 use registry::deciding::outcome_at;
 use transaction::Transaction;
 
@@ -26,12 +26,12 @@ pub(crate) fn after_mint(s: &mut Words, index: u8, owner: u32, amount: u32)
     ensures { Minted s.old index owner amount s.new }
 {
     let n = held(s);
-    let at = index as usize;
+    let at = usize::from(index);
     let token = Token {
         creator: 0,
-        index: index,
-        owner: owner,
-        amount: amount,
+        index,
+        owner,
+        amount,
         pledge: 0,
     };
     put_token(s, n, token);
@@ -51,14 +51,14 @@ fn newly_known(me: u8, own: Own, t: Transaction) -> Known
     requires { me < 8 }
     ensures { result ≡ known_with me own.findings own.verdict t }
 {
-    let at = me as usize;
+    let at = usize::from(me);
     let mut heard = [0u8; 8];
     heard[at] = note(own.verdict);
     let findings = own.findings;
     Known {
         transaction: t,
-        heard: heard,
-        findings: findings,
+        heard,
+        findings,
     }
 }
 
@@ -97,55 +97,50 @@ fn enter(s: &mut Words, own: Own, t: Transaction) -> Outcome
 }
 
 // A registration that passes: the local step, then the transaction is known, and decided where the own vote is enough.
-pub(crate) fn carry_registration(s: &mut Words, t: Transaction) -> Answer
-    requires { Sound s.old × (first_of (register_refusals house (number s.old) (view s.old) (number s.old) t) ≡ 0) }
-    ensures { Steps s.old (register (number s.old) t) result s.new }
+pub(crate) fn carry_registration(s: &mut Words, t: Transaction) -> Done
+    requires sound { Sound s.old }
+    requires passed { first_of (register_refusals house (number s.old) (view s.old) (number s.old) t) ≡ Ok tt }
+    ensures { Steps s.old (register (number s.old) t) (Ok result) s.new }
 {
     let own = local_step(s, t);
     let decided = enter(s, own, t);
-    Answer::Registered(own.verdict, decided)
+    Done::Registered(own.verdict, decided)
 }
 
 // A fresh vote on the known transaction in a slot: it is noted, and what it decides is done.
-fn fresh_vote(s: &mut Words, place: usize, sender: u8, verdict: u8) -> Outcome
-    requires { FreshVote place sender verdict s.old }
-    ensures { FreshDone place sender verdict s.old result s.new }
+fn fresh_vote(s: &mut Words, place: usize, vote: Vote) -> Outcome
+    requires { FreshVote place vote.sender vote.verdict s.old }
+    ensures { FreshDone place vote.sender vote.verdict s.old result s.new }
 {
-    let at = sender as usize;
-    put_heard(s, place, at, verdict + 1);
+    let at = usize::from(vote.sender);
+    put_heard(s, place, at, vote.verdict + 1);
     decide_at(s, place)
 }
 
 // A vote that passes, on the known transaction whose number stands at a place.
-pub(crate) fn carry_vote(
-    s: &mut Words,
-    place: usize,
-    sender: u8,
-    verdict: u8,
-    t: Transaction,
-) -> Answer
-    requires { Sound s.old × ((place ≡ find (is_numbered t.number) (view s.old).known)
-        × ((is_unknown t (view s.old).known ≡ false)
-        × (first_of (deliver_refusals house (number s.old) (view s.old) (number s.old) sender verdict t) ≡ 0))) }
-    ensures { Steps s.old (deliver (number s.old) sender verdict t) result s.new }
+pub(crate) fn carry_vote(s: &mut Words, place: usize, vote: Vote) -> Done
+    requires sound { Sound s.old }
+    requires there { position (is_numbered vote.transaction.number) (view s.old).known ≡ Some place }
+    requires passed { first_of (deliver_refusals house (number s.old) (view s.old) (number s.old) vote.sender vote.verdict vote.transaction) ≡ Ok tt }
+    ensures { Steps s.old (deliver (number s.old) vote.sender vote.verdict vote.transaction) (Ok result) s.new }
 {
-    if heard_at(s, place, sender) == 0 {
-        let decided = fresh_vote(s, place, sender, verdict);
-        return Answer::Heard(decided);
+    if heard_at(s, place, vote.sender) == 0 {
+        Done::Heard(fresh_vote(s, place, vote))
+    } else {
+        Done::Again(outcome_at(s, place))
     }
-    let decided = outcome_at(s, place);
-    Answer::Again(decided)
 }
 
 // A vote that passes on an unknown number brings its transaction (document 02, 6): the registration, and then the vote.
-pub(crate) fn carry_brought(s: &mut Words, sender: u8, verdict: u8, t: Transaction) -> Answer
-    requires { Sound s.old × ((is_unknown t (view s.old).known ≡ true)
-        × (first_of (deliver_refusals house (number s.old) (view s.old) (number s.old) sender verdict t) ≡ 0)) }
-    ensures { Steps s.old (deliver (number s.old) sender verdict t) result s.new }
+pub(crate) fn carry_brought(s: &mut Words, vote: Vote) -> Done
+    requires sound { Sound s.old }
+    requires unknown { is_unknown vote.transaction (view s.old).known ≡ true }
+    requires passed { first_of (deliver_refusals house (number s.old) (view s.old) (number s.old) vote.sender vote.verdict vote.transaction) ≡ Ok tt }
+    ensures { Steps s.old (deliver (number s.old) vote.sender vote.verdict vote.transaction) (Ok result) s.new }
 {
     let place = known_count(s);
-    let own = local_step(s, t);
-    enter(s, own, t);
-    let decided = fresh_vote(s, place, sender, verdict);
-    Answer::Brought(own.verdict, decided)
+    let own = local_step(s, vote.transaction);
+    enter(s, own, vote.transaction);
+    let decided = fresh_vote(s, place, vote);
+    Done::Brought(own.verdict, decided)
 }

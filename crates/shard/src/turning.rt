@@ -18,14 +18,9 @@ fn free_if_aborted(s: &mut Words, place: usize)
     requires { Room s.old × (place < known_slots) }
     ensures { Changes (freeing (is_bound_to (slot_known s.old place))) s.old s.new }
 {
-    let decided = outcome_at(s, place);
-    match decided {
-        Outcome::Abort => {
-            let number = number_at(s, place);
-            free_pledged_to(s, number);
-        }
-        Outcome::Wait => {}
-        Outcome::Commit => {}
+    if matches!(outcome_at(s, place), Outcome::Abort) {
+        let number = number_at(s, place);
+        free_pledged_to(s, number);
     }
 }
 
@@ -34,11 +29,7 @@ fn free_aborted(s: &mut Words)
     requires { Room s.old × ((shard_of s.old).known ≤ known_slots) }
     ensures { Changes (freeing (pledged_to_aborted (view s.old).known)) s.old s.new }
 {
-    let n = known_count(s);
-    let mut k = 0;
-    while k < n {
-        let place = k;
-        k += 1;
+    for place in 0..known_count(s) {
         free_if_aborted(s, place);
     }
 }

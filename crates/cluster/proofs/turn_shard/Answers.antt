@@ -1,8 +1,13 @@
+use Rattle.shard.proofs.Tables.{passed_on}
 use Rattle.cluster.proofs.Shards.{no-shard, turned}
 use Rattle.cluster.proofs.turn_shard.Goals as goal
 
-pub returns-then-at-ge8 : goal.returns-then-at-ge8
-returns-then-at-ge8 c = no-shard c.requires c.if-at-ge8.true
+pub returns-in_err-at : goal.returns-in_err-at
+returns-in_err-at c =
+    let above = c.in_err-at.ensures.above in
+    rw (passed_on c.from_residual.result c.from_residual.ensures.1, above.0) (no-shard c.requires above.1)
 
 pub returns : goal.returns
-returns c = turned c.requires c.if-at-ge8.false c.turn_shard.ensures
+returns c =
+    let within = c.in_ok-at.ensures.within in
+    rw within.0 (turned c.requires (rw within.0 at within.1) (rw within.0 at c.turn_shard.ensures))

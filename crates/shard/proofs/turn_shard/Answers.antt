@@ -1,9 +1,11 @@
 use Rattle.shard.proofs.Calls.{turn-refused, turn-carried}
+use Rattle.shard.proofs.Tables.{passed_on}
 use Rattle.shard.proofs.turn_shard.Goals as goal
 
--- Refused: the cause is the number that the table says.
-pub returns-then-cause-ne0 : goal.returns-then-cause-ne0
-returns-then-cause-ne0 c = turn-refused c.requires c.turn_refusal-cause.ensures c.if-cause-ne0.true
+-- Refused for the cause that the table says.
+pub returns-in_err-turn_refusal : goal.returns-in_err-turn_refusal
+returns-in_err-turn_refusal c =
+    rw (passed_on c.from_residual.result c.from_residual.ensures.1) (turn-refused c.requires c.in_err-turn_refusal.ensures)
 
 pub returns : goal.returns
-returns c = turn-carried c.requires c.args.receiver c.turn_refusal-cause.ensures c.if-cause-ne0.false c.after_turn.ensures
+returns c = turn-carried c.requires c.args.receiver c.in_ok-turn_refusal.ensures c.after_turn.ensures

@@ -5,14 +5,14 @@ use Rattle.loops.proofs.Loops.{sum-next, sum_end}
 use Rattle.cluster.proofs.queries.total_amount.Goals as goal
 
 -- one shard more
-pub loop-i-preserved : goal.loop-i-preserved
+pub loop-s-preserved : goal.loop-s-preserved
 unfolding held_in
-loop-i-preserved c =
-    let so_far = c.loop-i.invariant in
+loop-s-preserved c =
+    let so_far = c.loop-s.invariant in
     record {
-      most = omega (arith, c.total_amount-n.ensures.1, so_far.most);
-      summed = sum-next [] _ so_far.summed (omega arith) (omega (arith, c.requires.eight)) c.total_amount-n.ensures.0;
+      most = omega (arith, c.total_amount-sum.ensures.1, so_far.most);
+      summed = sum-next [] _ so_far.summed (omega arith) (omega (arith, c.requires.eight)) c.total_amount-sum.ensures.0;
     }
 
 pub returns : goal.returns
-returns c = held_in-all c.requires (sum_end c.loop-i.invariant.summed (omega arith))
+returns c = held_in-all c.requires (sum_end c.loop-s.invariant.summed (omega arith))

@@ -16,14 +16,14 @@ pub returns-then-is_free_for : goal.returns-then-is_free_for
 unfolding view available
 returns-then-is_free_for c =
     let slots = length-tokens c.args.s.now in
-    let free = of_slot c.args.x c.token_at-token.ensures c.is_free_for.ensures in
+    let free = of_slot c.args.x c.token_at.ensures c.is_free_for.ensures in
     let hit = seek_hit no_token c.loop-k.invariant.none (omega arith) (omega (arith, slots)) in
     sym (hit (free ∙ c.if-is_free_for.true))
 
 pub loop-k-preserved : goal.loop-k-preserved
 loop-k-preserved c =
     let slots = length-tokens c.args.s.now in
-    let free = of_slot c.args.x c.token_at-token.ensures c.is_free_for.ensures in
+    let free = of_slot c.args.x c.token_at.ensures c.is_free_for.ensures in
     let next = seek_next no_token c.loop-k.invariant.none (omega arith) (omega (arith, slots)) in
     record {
       count = c.loop-k.invariant.count;

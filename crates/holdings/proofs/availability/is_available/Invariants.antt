@@ -1,4 +1,4 @@
-use Rattle.std.proofs.Common.{◌≡◌, ◌-◌}
+use Rattle.std.proofs.Common.{◌≡◌}
 use Rattle.model.specs.Steps.{free_for}
 use Rattle.loops.proofs.Loops.{Seeking}
 use Rattle.layout.specs.Layout.{held_place, word, tokens_of}
@@ -7,9 +7,6 @@ use Rattle.holdings.proofs.availability.is_available.Given as goal
 -- None of the tokens before k is free for the input.
 abbrev pub invariant-loop-k : goal.invariant-loop-k
 invariant-loop-k l = record {
-  count : l.n ≡ word l.s held_place;
+  count : l.k-end ≡ word l.s held_place;
   none : Seeking (free_for l.x) (tokens_of l.s) (word l.s held_place) l.k;
 }
-
-abbrev pub decreases-loop-k : goal.decreases-loop-k
-decreases-loop-k l = l.n - l.k

@@ -1,30 +1,24 @@
-use Rattle.std.proofs.Common.{◌≡◌, length, rules}
-use Rattle.holdings.specs.Held.{Room}
-use Rattle.holdings.proofs.Tokens.{destroying_in_turn, turn-room, four-turns}
+use Rattle.holdings.proofs.Tokens.{destroying_in_turn, turn-room, turn-start, turn-next, turn_end}
 use Rattle.holdings.proofs.committing.destroy.Goals as goal
 
--- There is room after the first input's turn, the second's and the third's.
-pub destroy_if-requires-2 : goal.destroy_if-requires-2
-destroy_if-requires-2 c = turn-room destroying_in_turn c.args.s.now _ c.requires c.destroy_if.ensures
+pub loop-x-init : goal.loop-x-init
+loop-x-init c = record { room = c.requires; turned = turn-start destroying_in_turn c.args.s.now c.requires }
 
-pub destroy_if-requires-3 : goal.destroy_if-requires-3
-destroy_if-requires-3 c =
-    let room1 : Room c.destroy_if.new.s = turn-room destroying_in_turn c.args.s.now _ c.requires c.destroy_if.ensures in
-    turn-room destroying_in_turn _ _ room1 c.destroy_if-2.ensures
+-- One input more has had its turn.
+pub loop-x-preserved : goal.loop-x-preserved
+loop-x-preserved c =
+    let turn = destroying_in_turn in
+    let items = c.as_slice-x-items.result.now in
+    let now = c.loop-x in
+    record {
+      room = turn-room turn now.s c.destroy_named.new.s now.invariant.room c.destroy_named.ensures;
+      turned =
+          turn-next turn items now.x-index _ c.loop-x-test.true c.args.s.now now.s c.destroy_named.new.s
+          now.invariant.turned c.destroy_named.ensures;
+    }
 
-pub destroy_if-requires-4 : goal.destroy_if-requires-4
-destroy_if-requires-4 c =
-    let room1 : Room c.destroy_if.new.s = turn-room destroying_in_turn c.args.s.now _ c.requires c.destroy_if.ensures in
-    let room2 : Room c.destroy_if-2.new.s = turn-room destroying_in_turn _ _ room1 c.destroy_if-2.ensures in
-    turn-room destroying_in_turn _ _ room2 c.destroy_if-3.ensures
-
--- The tokens of the used input slots, turn after turn.
+-- All have had their turn.
 pub returns : goal.returns
 returns c =
-    let inputs = c.args.inputs in
-    let long : length inputs.list ≡ 4 = search rules in
-    four-turns destroying_in_turn inputs.list inputs.count long c.args.s.now _ _ _ _
-    c.destroy_if.ensures
-    c.destroy_if-2.ensures
-    c.destroy_if-3.ensures
-    c.destroy_if-4.ensures
+    turn_end destroying_in_turn c.as_slice-x-items.result.now c.args.inputs.now c.loop-x.x-index c.loop-x-test.false
+    c.as_slice-x-items.ensures.are c.args.s.now c.loop-x.s c.loop-x.invariant.turned

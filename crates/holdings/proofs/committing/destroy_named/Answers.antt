@@ -6,6 +6,7 @@ use Rattle.layout.proofs.Slots.{length-tokens}
 use Rattle.holdings.specs.Held.{destroying}
 use Rattle.holdings.proofs.Tokens.{again, counted, stays_if, stays-not, pack_next}
 use Rattle.holdings.proofs.committing.destroy_named.Goals as goal
+use Rattle.holdings.proofs.committing.destroy_named.Goals.{then-not-names_token, else-not-names_token}
 
 pub loop-k-init : goal.loop-k-init
 loop-k-init c = record {
@@ -14,29 +15,29 @@ loop-k-init c = record {
   packed = pack_start (omega (arith, length-tokens c.args.s.now));
 }
 
--- The input does not name the token at k, which moves to the others that stay.
-pub loop-k-preserved-then-not-names_token : goal.loop-k-preserved-then-not-names_token
-loop-k-preserved-then-not-names_token c =
-    let x = c.args.x in
-    let ws = c.args.s.now in
-    let stay = stays_if x c.names_token.ensures c.token_at-token.ensures (rw c.if-not-names_token.true refl) in
-    record {
-      held = c.loop-k.invariant.held;
-      same = again ws c.loop-k.s _ c.loop-k.invariant.same c.put_token.ensures;
-      packed =
-          pack_next (stays (x ∷ [])) (tokens_of ws) c.held-n.result c.loop-k.s _ c.loop-k.count c.loop-k.k
-          c.loop-k.invariant.packed (search rules) stay c.token_at-token.ensures c.put_token.ensures;
-    }
-
--- It names the token, which goes.
+-- The input does not name the token at k, which moves to the others that stay; or it names the token, which goes.
 pub loop-k-preserved : goal.loop-k-preserved
 loop-k-preserved c =
-    let goes = stays-not c.args.x c.names_token.ensures c.token_at-token.ensures (rw c.if-not-names_token.false refl) in
-    record {
-      held = c.loop-k.invariant.held;
-      same = c.loop-k.invariant.same;
-      packed = pack_out no_token c.loop-k.invariant.packed (search rules) goes;
-    }
+    let x = c.args.x in
+    let ws = c.args.s.now in
+    elim c.if-not-names_token.branch [
+      | then-not-names_token w ↦
+          let stay = stays_if x c.names_token.ensures c.token_at-token.ensures (rw w.if-not-names_token.true refl) in
+          rw (w.s-is, w.count-is) (record {
+            held = c.loop-k.invariant.held;
+            same = again ws c.loop-k.s _ c.loop-k.invariant.same w.put_token.ensures;
+            packed =
+                pack_next (stays (x ∷ [])) (tokens_of ws) c.held-n.result c.loop-k.s _ c.loop-k.count c.loop-k.k
+                c.loop-k.invariant.packed (search rules) stay c.token_at-token.ensures w.put_token.ensures;
+          })
+      | else-not-names_token w ↦
+          let goes = stays-not x c.names_token.ensures c.token_at-token.ensures (rw w.if-not-names_token.false refl) in
+          rw (w.s-is, w.count-is) (record {
+            held = c.loop-k.invariant.held;
+            same = c.loop-k.invariant.same;
+            packed = pack_out no_token c.loop-k.invariant.packed (search rules) goes;
+          })
+    ]
 
 -- All tokens held have had their turn: those before the count are held.
 pub returns : goal.returns

@@ -1,4 +1,4 @@
-use Rattle.std.proofs.Common.{◌≡◌, ◌-◌, [], ◌∷◌}
+use Rattle.std.proofs.Common.{◌≡◌, [], ◌∷◌}
 use Rattle.model.specs.Steps.{stays}
 use Rattle.loops.proofs.Places.{Packing}
 use Rattle.layout.specs.Layout.{held_place, word, tokens_of, shard_of, with_tokens, Becomes}
@@ -11,6 +11,3 @@ invariant-loop-k l = record {
   same : Becomes (with_tokens (shard_of l.fn.s) (tokens_of l.s)) l.s;
   packed : Packing (stays (l.x ∷ [])) (tokens_of l.fn.s) l.n (tokens_of l.s) l.count l.k;
 }
-
-abbrev pub decreases-loop-k : goal.decreases-loop-k
-decreases-loop-k l = l.n - l.k

@@ -1,15 +1,18 @@
-use Rattle.std.proofs.Common.{◌≡◌, length, rules}
+use Rattle.std.proofs.Common.{◌≤◌, length, ◌∙◌}
+use Rattle.transaction.specs.Tokens.{zero_input}
 use Rattle.layout.specs.Layout.{ledger_of}
-use Rattle.holdings.proofs.Local.{findings-by}
+use Rattle.holdings.proofs.Local.{find-next, find_end}
 use Rattle.holdings.proofs.finding.findings_here.Goals as goal
 
--- Slot after slot, the finding about its input.
+-- What is found about one input more is kept.
+pub loop-i-preserved : goal.loop-i-preserved
+loop-i-preserved c =
+    let items = c.as_slice-x-items.result.now in
+    let few : length items ≤ 4 = rw c.as_slice-x-items.ensures.are c.as_slice-x-items.ensures.few in
+    find-next (ledger_of c.args.s.now).tokens items c.loop-i.i zero_input c.loop-i-test.true few c.loop-i.invariant
+    c.finding_of.ensures
+
 pub returns : goal.returns
-returns c me t h =
-    let here = c.args.here in
-    let long : length here.list ≡ 4 = search rules in
-    findings-by here long me (ledger_of c.args.s.now).tokens t h
-    c.found_if.ensures
-    c.found_if-2.ensures
-    c.found_if-3.ensures
-    c.found_if-4.ensures
+returns c me t here =
+    find_end me (ledger_of c.args.s.now).tokens t c.as_slice-x-items.result.now c.loop-i.i c.loop-i-test.false
+    (c.as_slice-x-items.ensures.are ∙ here) c.loop-i.invariant

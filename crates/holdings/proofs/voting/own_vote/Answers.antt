@@ -1,11 +1,7 @@
-use Rattle.std.proofs.Common.{◌≡◌, length, rules}
-use Rattle.holdings.proofs.Local.{counts-vote}
+use Rattle.model.proofs.Local.{vote-counts}
 use Rattle.holdings.proofs.voting.own_vote.Goals as goal
 
+-- As many are available as are here: the vote.
 pub returns : goal.returns
-returns c me tokens t =
-    let here = c.args.here in
-    let found = c.args.found in
-    let long_here : length here.list ≡ 4 = search rules in
-    let long_found : length found.list ≡ 4 = search rules in
-    counts-vote here found me tokens t long_here long_found
+returns c me tokens t here found =
+    rw (c.len.ensures, c.len-2.ensures, here, found) (vote-counts me tokens t)

@@ -4,4 +4,4 @@ use Rattle.layout.proofs.findings.found_in.Goals as goal
 
 pub returns : goal.returns
 unfolding found_in
-returns c = rw c.finding_from-finding.ensures
+returns c = c.finding_from.ensures

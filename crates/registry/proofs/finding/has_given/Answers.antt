@@ -1,21 +1,26 @@
 -- Only the known transaction of that number can pass: it is found and asked, or there is none.
-use Rattle.std.proofs.Common.{rules}
+use Rattle.std.proofs.Common.{sym, ◌∙◌, rules}
+use borrow.Author.Tests.{ne_eqb}
+use Rattle.model.specs.Shard.{is_numbered}
+use Rattle.loops.proofs.Positions.{stands, nowhere}
+use Rattle.layout.specs.Layout.{ledger_of}
 use Rattle.registry.proofs.Finds.{given-none, given_if, given-other}
 use Rattle.registry.proofs.finding.has_given.Goals as goal
 
-pub returns-then-said-noted : goal.returns-then-said-noted
-returns-then-said-noted c =
-    let place = c.place_of_number-place.ensures.0 in
-    given_if c.args.s.now c.requires.0 c.requires.1 c.args.sender c.args.verdict c.args.t place
-    (search rules) c.heard_at-said.ensures c.if-said-noted.true c.same_at.ensures
+pub returns-in_default : goal.returns-in_default
+returns-in_default c =
+    let none = nowhere (is_numbered c.args.t.number) (ledger_of c.args.s.now).known (sym c.in_default.ensures.found) in
+    given-none c.args.s.now c.requires.0 c.requires.1 c.args.sender c.args.verdict c.args.t none
 
-pub returns-else-said-noted : goal.returns-else-said-noted
-returns-else-said-noted c =
-    let place = c.place_of_number-place.ensures.0 in
-    given-other c.args.s.now c.requires.0 c.requires.1 c.args.sender c.args.verdict c.args.t place
-    (search rules) c.heard_at-said.ensures c.if-said-noted.false
+pub returns-then-from-noted : goal.returns-then-from-noted
+returns-then-from-noted c =
+    let at = stands (is_numbered c.args.t.number) (ledger_of c.args.s.now).known c.in-Some.place (sym c.in-Some.ensures.found) in
+    given_if c.args.s.now c.requires.0 c.requires.1 c.args.sender c.args.verdict c.args.t at
+    c.heard_at-said.ensures (search rules) c.same_at.ensures
 
-pub returns-else-place-known_count : goal.returns-else-place-known_count
-returns-else-place-known_count c =
-    let place = c.place_of_number-place.ensures.0 in
-    given-none c.args.s.now c.requires.0 c.requires.1 c.args.sender c.args.verdict c.args.t place (search rules)
+pub returns-else-from-noted : goal.returns-else-from-noted
+returns-else-from-noted c =
+    let at = stands (is_numbered c.args.t.number) (ledger_of c.args.s.now).known c.in-Some.place (sym c.in-Some.ensures.found) in
+    ne_eqb _ _ c.if-from-noted.false
+    ∙ given-other c.args.s.now c.requires.0 c.requires.1 c.args.sender c.args.verdict c.args.t at
+    c.heard_at-said.ensures (search rules)

@@ -1,5 +1,5 @@
 -- None of those before i has the number.
-use Rattle.std.proofs.Common.{◌-◌, ◌≡◌}
+use Rattle.std.proofs.Common.{◌≡◌}
 use Rattle.model.specs.Shard.{is_numbered}
 use Rattle.loops.proofs.Loops.{Finding}
 use Rattle.layout.specs.Layout.{shard_of, transactions_of}
@@ -7,9 +7,6 @@ use Rattle.registry.proofs.finding.place_of_number.Given as goal
 
 abbrev pub invariant-loop-i : goal.invariant-loop-i
 invariant-loop-i l = record {
-  counted : l.n ≡ (shard_of l.s).known;
+  counted : l.i-end ≡ (shard_of l.s).known;
   found : Finding (is_numbered l.number) (transactions_of l.s) (shard_of l.s).known l.i;
 }
-
-abbrev pub decreases-loop-i : goal.decreases-loop-i
-decreases-loop-i l = l.n - l.i

@@ -1,10 +1,9 @@
-use Rattle.shard.proofs.Asked.{known-within, known_behind}
+use Rattle.std.proofs.Common.{ap, ◌∙◌, Some, arith}
+use Rattle.shard.proofs.Asked.{known-within, known-behind}
 use Rattle.shard.proofs.queries.known_at.Goals as goal
 
 pub returns-then-place-known_count : goal.returns-then-place-known_count
-returns-then-place-known_count c =
-    known-within c.requires c.args.place c.known_count.ensures c.if-place-known_count.true c.known_at.ensures
+returns-then-place-known_count c = ap Some c.known_at.ensures ∙ known-within c.requires c.args.place (omega arith)
 
 pub returns : goal.returns
-returns c =
-    known_behind c.requires c.args.place c.known_count.ensures c.if-place-known_count.false c.blank_known.ensures
+returns c = known-behind c.requires c.args.place (omega arith)

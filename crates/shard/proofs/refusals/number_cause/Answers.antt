@@ -1,29 +1,33 @@
 -- What the comparison tells of 7, that another transaction has the number, and of 8, that this one is known.
-use Rattle.std.proofs.Common.{refl, ap, not}
+use Rattle.std.proofs.Common.{Err, ap, not}
+use Rattle.transaction.specs.declared.refusal.Refusal.TheVariants.{NumberTaken, KnownAlready}
 use Rattle.model.specs.Steps.{house}
-use Rattle.model.specs.Shard.{register_rest}
+use Rattle.model.specs.Shard.{is_numbered, register_rest}
+use Rattle.loops.proofs.Positions.{stands}
 use Rattle.shard.specs.View.{number, view}
-use Rattle.shard.proofs.Tables.{Says, here, past, other-is, for_is}
+use Rattle.shard.proofs.Tables.{Says, here, past, place-slot, other-is, for_is}
 use Rattle.shard.proofs.refusals.number_cause.Goals as goal
+
+pub same_at-requires : goal.same_at-requires
+same_at-requires c =
+    let at = stands (is_numbered c.args.t.number) (view c.args.s.now).known c.args.place c.requires.there in
+    place-slot c.requires.sound c.args.t at
 
 pub returns-then-same_at : goal.returns-then-same_at
 returns-then-same_at c =
     let ws = c.args.s.now in
-    let sound = c.requires.0 in
-    let found = c.requires.1.0 in
-    let within = c.requires.1.1 in
-    let other = other-is sound c.args.t found refl within c.same_at.ensures in
-    let own = for_is sound c.args.t found refl within c.same_at.ensures in
-    let said : Says (register_rest house (number ws) (view ws) c.args.t) 8 =
+    let sound = c.requires.sound in
+    let at = stands (is_numbered c.args.t.number) (view ws).known c.args.place c.requires.there in
+    let other = other-is sound c.args.t at c.same_at.ensures in
+    let own = for_is sound c.args.t at c.same_at.ensures in
+    let said : Says (register_rest house (number ws) (view ws) c.args.t) (Err KnownAlready) =
     past other (ap not c.if-same_at.true) (here own c.if-same_at.true) in
     said.so
 
-pub returns : goal.returns
-returns c =
+pub returns-else-same_at : goal.returns-else-same_at
+returns-else-same_at c =
     let ws = c.args.s.now in
-    let sound = c.requires.0 in
-    let found = c.requires.1.0 in
-    let within = c.requires.1.1 in
-    let other = other-is sound c.args.t found refl within c.same_at.ensures in
-    let said : Says (register_rest house (number ws) (view ws) c.args.t) 7 = here other (ap not c.if-same_at.false) in
+    let at = stands (is_numbered c.args.t.number) (view ws).known c.args.place c.requires.there in
+    let other = other-is c.requires.sound c.args.t at c.same_at.ensures in
+    let said : Says (register_rest house (number ws) (view ws) c.args.t) (Err NumberTaken) = here other (ap not c.if-same_at.false) in
     said.so

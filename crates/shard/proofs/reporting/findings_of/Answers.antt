@@ -1,22 +1,38 @@
-use Rattle.shard.proofs.Reports.{report-refusal, report-slot, report-there}
+use Rattle.std.proofs.Common.{Err, sym, ap, ◌∙◌, arith}
+use Rattle.model.specs.Shard.{is_numbered}
+use Rattle.loops.proofs.Positions.{stands, nowhere}
+use Rattle.layout.proofs.Ledgers.{known-length}
+use Rattle.shard.specs.View.{view}
+use Rattle.shard.proofs.Reports.{refusal-of, report-formed, report-unknown, report-there}
+use Rattle.shard.proofs.Tables.{passed_on}
 use Rattle.shard.proofs.reporting.findings_of.Goals as goal
 
--- Refused: the cause is the number that the table says.
-pub returns-then-cause-ne0 : goal.returns-then-cause-ne0
-returns-then-cause-ne0 c =
-    let found = c.place_of_number-place.ensures.0 in
-    let told = c.report_refusal-cause.ensures in
-    report-refusal c.requires c.args.shard c.args.number found told c.if-cause-ne0.true c.refused.ensures
+-- Refused by its form.
+pub returns-in_err-report_form : goal.returns-in_err-report_form
+returns-in_err-report_form c =
+    let formed = rw c.own_number.ensures at c.in_err-report_form.ensures in
+    passed_on c.from_residual.result c.from_residual.ensures.1 ∙ report-formed c.requires c.args.shard c.args.number formed
 
--- Passed: the number stands in one of the slots, and what is told of it is reported.
+-- The number is not known here.
+pub returns-in_err-place : goal.returns-in_err-place
+returns-in_err-place c =
+    let formed = rw c.own_number.ensures at c.in_ok-report_form.ensures in
+    let none = c.in_err-place.ensures.ok_part in
+    let nowhere = nowhere (is_numbered c.args.number) (view c.args.s.now).known (sym c.place_of_number.ensures.found ∙ none) in
+    passed_on c.from_residual-in_err-place.result c.from_residual-in_err-place.ensures.1
+    ∙ ap Err (refusal-of c.place_of_number.result c.in_err-place.ensures.value)
+    ∙ report-unknown c.requires c.args.shard c.args.number formed nowhere
+
+-- It stands in one of the slots, and what is told of that is reported.
 pub told_at-requires : goal.told_at-requires
 told_at-requires c =
-    let found = c.place_of_number-place.ensures.0 in
-    let told = c.report_refusal-cause.ensures in
-    report-slot c.requires c.args.shard c.args.number found told c.if-cause-ne0.false
+    let found = sym c.place_of_number.ensures.found ∙ c.in_ok-place.ensures.ok_part in
+    let at = stands (is_numbered c.args.number) (view c.args.s.now).known c.in_ok-place.place found in
+    omega (arith, at.below, known-length c.args.s.now c.requires.known, c.requires.known)
 
 pub returns : goal.returns
 returns c =
-    let found = c.place_of_number-place.ensures.0 in
-    let told = c.report_refusal-cause.ensures in
-    report-there c.requires c.args.shard c.args.number found told c.if-cause-ne0.false c.told_at.ensures
+    let formed = rw c.own_number.ensures at c.in_ok-report_form.ensures in
+    let found = sym c.place_of_number.ensures.found ∙ c.in_ok-place.ensures.ok_part in
+    let at = stands (is_numbered c.args.number) (view c.args.s.now).known c.in_ok-place.place found in
+    report-there c.requires c.args.shard c.args.number formed at c.told_at.ensures

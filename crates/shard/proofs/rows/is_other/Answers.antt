@@ -1,15 +1,16 @@
--- Where the number is not known, nothing has it; where it is, the comparison tells for which transaction.
-use Rattle.shard.proofs.Tables.{no_other, other-is}
+-- The comparison tells for which transaction the number is known.
+use Rattle.model.specs.Shard.{is_numbered}
+use Rattle.loops.proofs.Positions.{stands}
+use Rattle.shard.specs.View.{view}
+use Rattle.shard.proofs.Tables.{place-slot, other-is}
 use Rattle.shard.proofs.rows.is_other.Goals as goal
 
-pub returns-then-known_count-place : goal.returns-then-known_count-place
-returns-then-known_count-place c =
-    let sound = c.requires.0 in
-    let found = c.requires.1 in
-    no_other sound c.args.t found c.known_count.ensures c.if-known_count-place.true
+pub same_at-requires : goal.same_at-requires
+same_at-requires c =
+    let at = stands (is_numbered c.args.t.number) (view c.args.s.now).known c.args.place c.requires.there in
+    place-slot c.requires.sound c.args.t at
 
 pub returns : goal.returns
 returns c =
-    let sound = c.requires.0 in
-    let found = c.requires.1 in
-    other-is sound c.args.t found c.known_count.ensures c.if-known_count-place.false c.same_at.ensures
+    let at = stands (is_numbered c.args.t.number) (view c.args.s.now).known c.args.place c.requires.there in
+    other-is c.requires.sound c.args.t at c.same_at.ensures

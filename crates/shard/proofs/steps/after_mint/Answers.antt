@@ -4,4 +4,5 @@ use Rattle.shard.proofs.steps.after_mint.Goals as goal
 
 pub returns : goal.returns
 returns c =
-    minted c.args.index c.args.owner c.args.amount c.held-n.ensures refl (omega arith) c.put_token.ensures c.set_held.ensures c.give.ensures
+    let given = rw c.from-at.ensures at c.give.ensures in
+    minted c.args.index c.args.owner c.args.amount c.held-n.ensures refl (omega arith) c.put_token.ensures c.set_held.ensures given

@@ -4,29 +4,23 @@ use Rattle.shard.proofs.steps.carry_brought.Goals as goal
 -- After the local step the transaction can be entered.
 pub enter-requires : goal.enter-requires
 enter-requires c =
-    let sound = c.requires.0 in
-    let unknown = c.requires.1.0 in
-    let passed = c.requires.1.1 in
-    bring_enters sound c.args.sender c.args.verdict c.args.t unknown passed c.local_step-own.ensures
+    let vote = c.args.vote in
+    bring_enters c.requires.sound vote.sender vote.verdict vote.transaction c.requires.unknown c.requires.passed c.local_step-own.ensures
 
 -- It stands behind those that were known, and the sender was not heard on it before.
 pub fresh_vote-decided-requires : goal.fresh_vote-decided-requires
 fresh_vote-decided-requires c =
-    let sound = c.requires.0 in
-    let unknown = c.requires.1.0 in
-    let passed = c.requires.1.1 in
+    let vote = c.args.vote in
     let stepped = c.local_step-own.ensures in
     let entered = c.enter.ensures in
     let behind = c.known_count-place.ensures in
-    bring_ready sound c.args.sender c.args.verdict c.args.t unknown passed stepped entered behind
+    bring_ready c.requires.sound vote.sender vote.verdict vote.transaction c.requires.unknown c.requires.passed stepped entered behind
 
 pub returns : goal.returns
 returns c =
-    let sound = c.requires.0 in
-    let unknown = c.requires.1.0 in
-    let passed = c.requires.1.1 in
+    let vote = c.args.vote in
     let stepped = c.local_step-own.ensures in
     let entered = c.enter.ensures in
     let behind = c.known_count-place.ensures in
-    let voted = c.fresh_vote-decided.ensures in
-    bring-carried sound c.args.sender c.args.verdict c.args.t unknown passed stepped entered behind voted
+    bring-carried c.requires.sound vote.sender vote.verdict vote.transaction c.requires.unknown c.requires.passed stepped entered behind
+    c.fresh_vote-decided.ensures

@@ -1,50 +1,42 @@
-use Rattle.shard.proofs.Calls.{vote-slot, fresh_ready, fresh-carried, again-carried}
+use Rattle.model.specs.Shard.{is_numbered}
+use Rattle.loops.proofs.Positions.{stands}
+use Rattle.shard.specs.View.{view}
+use Rattle.shard.proofs.Tables.{place-slot}
+use Rattle.shard.proofs.Calls.{fresh_ready, fresh-carried, again-carried}
 use Rattle.shard.proofs.steps.carry_vote.Goals as goal
 
 -- The number stands in one of the slots.
 pub heard_at-requires : goal.heard_at-requires
 heard_at-requires c =
-    let sound = c.requires.0 in
-    let found = c.requires.1.0 in
-    let known = c.requires.1.1.0 in
-    let passed = c.requires.1.1.1 in
-    vote-slot sound c.args.sender c.args.verdict c.args.t known passed found
+    let t = c.args.vote.transaction in
+    place-slot c.requires.sound t (stands (is_numbered t.number) (view c.args.s.now).known c.args.place c.requires.there)
 
 -- The sender was not heard before.
-pub fresh_vote-decided-requires : goal.fresh_vote-decided-requires
-fresh_vote-decided-requires c =
-    let sound = c.requires.0 in
-    let found = c.requires.1.0 in
-    let known = c.requires.1.1.0 in
-    let passed = c.requires.1.1.1 in
-    let unheard = c.if-heard_at-eq0.true in
-    fresh_ready sound c.args.sender c.args.verdict c.args.t known passed found c.heard_at.ensures unheard
+pub fresh_vote-requires : goal.fresh_vote-requires
+fresh_vote-requires c =
+    let vote = c.args.vote in
+    let t = vote.transaction in
+    let at = stands (is_numbered t.number) (view c.args.s.now).known c.args.place c.requires.there in
+    fresh_ready c.requires.sound vote.sender vote.verdict t at c.requires.passed c.heard_at.ensures c.if-heard_at-eq0.true
 
 pub returns-then-heard_at-eq0 : goal.returns-then-heard_at-eq0
 returns-then-heard_at-eq0 c =
-    let sound = c.requires.0 in
-    let found = c.requires.1.0 in
-    let known = c.requires.1.1.0 in
-    let passed = c.requires.1.1.1 in
-    let unheard = c.if-heard_at-eq0.true in
-    let done = c.fresh_vote-decided.ensures in
-    fresh-carried sound c.args.sender c.args.verdict c.args.t known passed found c.heard_at.ensures unheard done
+    let vote = c.args.vote in
+    let t = vote.transaction in
+    let at = stands (is_numbered t.number) (view c.args.s.now).known c.args.place c.requires.there in
+    fresh-carried c.requires.sound vote.sender vote.verdict t at c.requires.passed c.heard_at.ensures
+    c.if-heard_at-eq0.true c.fresh_vote.ensures
 
 -- It was heard before.
-pub outcome_at-decided-requires : goal.outcome_at-decided-requires
-outcome_at-decided-requires c =
-    let sound = c.requires.0 in
-    let found = c.requires.1.0 in
-    let known = c.requires.1.1.0 in
-    let passed = c.requires.1.1.1 in
-    vote-slot sound c.args.sender c.args.verdict c.args.t known passed found
+pub outcome_at-requires : goal.outcome_at-requires
+outcome_at-requires c =
+    let t = c.args.vote.transaction in
+    place-slot c.requires.sound t (stands (is_numbered t.number) (view c.args.s.now).known c.args.place c.requires.there)
 
-pub returns : goal.returns
-returns c =
-    let sound = c.requires.0 in
-    let found = c.requires.1.0 in
-    let known = c.requires.1.1.0 in
-    let passed = c.requires.1.1.1 in
-    let heard = c.if-heard_at-eq0.false in
-    let decided = c.outcome_at-decided.ensures in
-    again-carried sound c.args.sender c.args.verdict c.args.t known passed found c.heard_at.ensures heard decided
+pub returns-else-heard_at-eq0 : goal.returns-else-heard_at-eq0
+returns-else-heard_at-eq0 c =
+    let vote = c.args.vote in
+    let t = vote.transaction in
+    let at = stands (is_numbered t.number) (view c.args.s.now).known c.args.place c.requires.there in
+    again-carried c.requires.sound vote.sender vote.verdict t at c.requires.passed c.heard_at.ensures
+    c.if-heard_at-eq0.false c.outcome_at.ensures

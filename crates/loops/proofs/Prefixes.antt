@@ -1,0 +1,32 @@
+-- The elements that pass among the first i, and one element more.
+use Rattle.std.proofs.Common.{ℕ, ◌≡◌, ◌+◌, ◌<◌, ◌≤◌, Bool, true, false, cond, List, [], ◌∷◌, ◌++◌, length, take, get_or, min, refl, sym, ap, ◌∙◌, arith, rules}
+use Rattle.std.proofs.lemmas.List.{take_more, take_min, length-take}
+use Rattle.model.specs.Lists.{keep}
+use Rattle.model.proofs.Basics.{keep-length}
+use Rattle.loops.specs.Lists.{one_if}
+
+keep_behind : {A : Type 0} (f : A → Bool) (l : List A) (x : A) → keep f (l ++ (x ∷ [])) ≡ keep f l ++ one_if (f x) x
+keep_behind f [] x = refl
+keep_behind {A} f (y ∷ l) x = go (f y) (keep_behind f l x)
+  where
+    go : (b : Bool) → keep f (l ++ (x ∷ [])) ≡ keep f l ++ one_if (f x) x
+        → cond b (y ∷ keep f (l ++ (x ∷ []))) (keep f (l ++ (x ∷ []))) ≡ cond b (y ∷ keep f l) (keep f l) ++ one_if (f x) x
+    go true e = ap (λ (k : List A). y ∷ k) e
+    go false e = e
+
+module _ {A : Type 0} (f : A → Bool) (l : List A) (i : ℕ) (d : A) where
+  keep-more : i < length l → keep f (take (i + 1) l) ≡ keep f (take i l) ++ one_if (f (get_or l i d)) (get_or l i d)
+  keep-more h = ap (keep f) (take_more l i d h) ∙ keep_behind f (take i l) (get_or l i d)
+
+  pub keep-in : i < length l → f (get_or l i d) ≡ true → keep f (take i l) ++ (get_or l i d ∷ []) ≡ keep f (take (i + 1) l)
+  keep-in h e = sym (keep-more h ∙ rw e refl)
+
+  pub keep-out : i < length l → f (get_or l i d) ≡ false → keep f (take i l) ≡ keep f (take (i + 1) l)
+  keep-out h e = sym (keep-more h ∙ rw e (search rules))
+
+  pub keep-few : length (keep f (take i l)) ≤ i
+  keep-few = omega (arith, keep-length f (take i l), length-take i l)
+
+-- the used ones of four slots
+pub used-are : {A : Type 0} (l : List A) → length l ≡ 4 → (count n : ℕ) → n ≡ min count 4 → take n l ≡ take count l
+used-are l long count n e = rw e (ap (λ (k : ℕ). take (min count k) l) (sym long) ∙ take_min count l)
