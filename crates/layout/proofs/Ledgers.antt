@@ -1,7 +1,7 @@
 -- What the slots of a shard say of its ledger: counts and entries.
-use Prim.Native.Nat.{ℕ, zero, suc, ◌≤◌, ◌<◌}
-use mathlib.Core.Path.{◌≡◌, refl, sym, ◌∙◌}
-use mathlib.Core.List.{List, [], ◌∷◌}
+use Prim.Native.Nat.{ℕ, ◌≤◌, ◌<◌}
+use mathlib.Core.Path.{◌≡◌, sym, ◌∙◌}
+use mathlib.Core.List.{List}
 use native.Mathlib.Omega.{arith}
 use lib.ListN.{length, get_or, take}
 use lib.Seq.{length-take-le, get_or-take}
@@ -20,18 +20,13 @@ use Rattle.layout.specs.Layout.{
   slot_token,
   slot_known,
 }
+use Rattle.layout.proofs.Regions.{get_or_any}
 use Rattle.layout.proofs.Slots.{length-tokens, length-known}
-
--- an element within a list is the same by any default
-get_d_any : {A : Type 0} (l : List A) (i : ℕ) (d e : A) → i < length l → get_or l i d ≡ get_or l i e
-get_d_any [] i d e h = absurd (omega arith)
-get_d_any (x ∷ l) zero d e h = refl
-get_d_any (x ∷ l) (suc i) d e h = get_d_any l i d e (omega arith)
 
 -- the entry at a place among the first n
 entry_at : {A : Type 0} (l : List A) (n place : ℕ) (d e : A) → place < n → n ≤ length l
     → get_or l place d ≡ get_or (take n l) place e
-entry_at l n place d e h k = get_d_any l place d e (omega arith) ∙ sym (get_or-take n l place e h)
+entry_at l n place d e h k = get_or_any l place d e (omega arith) ∙ sym (get_or-take n l place e h)
 
 module _ (ws : List ℕ) where
   -- the counts are the lengths

@@ -1,24 +1,21 @@
 -- Words in regions: tables, a change within a stretch of words, and one law for all regions of what a change leaves.
 use Prim.Native.Nat.{ℕ, zero, suc, ◌+◌, ◌*◌, ◌≤◌, ◌<◌}
-use mathlib.Core.Path.{◌≡◌, refl, ap, ◌∙◌}
+use mathlib.Core.Path.{◌≡◌, refl, sym, ap, ◌∙◌}
 use mathlib.Core.Logic.{◌⊎◌, inl, inr, ⊎_elim}
-use mathlib.Core.List.{List, ◌∷◌}
+use mathlib.Core.List.{List, [], ◌∷◌}
 use native.Mathlib.Omega.{arith}
 use native.Mathlib.Nat.{le_of_suc-le-suc, not-suc-le-zero, suc-mul, mul-le-mul_right}
-use lib.ListN.{length, get_or, set, length-set}
-use lib.Seq.{get_or-set_other}
-use Rattle.layout.specs.Layout.{word, tab, Within}
+use Rattle.std.proofs.lemmas.List.{get_or-replicate}
+use lib.ListN.{length, get_or, set, replicate, length-set, length-replicate}
+use lib.Seq.{get_or-set_same, get_or-set_other, ext_get_or}
+use Rattle.layout.specs.Layout.{tab, array_in, Within, Same, Local}
+use Rattle.layout.specs.Reads.{tab-at}
 
 -- ---- Tables
 
 pub length-tab : {A : Type 0} (n : ℕ) (f : ℕ → A) → length (tab n f) ≡ n
 length-tab zero f = refl
 length-tab (suc n) f = ap suc (length-tab n (λ (i : ℕ). f (suc i)))
-
-pub tab-at : {A : Type 0} (n : ℕ) (f : ℕ → A) (k : ℕ) (d : A) → k < n → get_or (tab n f) k d ≡ f k
-tab-at zero f k d h = absurd (not-suc-le-zero h)
-tab-at (suc n) f zero d h = refl
-tab-at (suc n) f (suc k) d h = tab-at n (λ (i : ℕ). f (suc i)) k d (le_of_suc-le-suc h)
 
 pub tab-same : {A : Type 0} (n : ℕ) (f g : ℕ → A) → ((i : ℕ) → i < n → g i ≡ f i) → tab n g ≡ tab n f
 tab-same zero f g h = refl
@@ -56,10 +53,6 @@ and_then p q = record { long = q.long ∙ p.long; rest = λ j n. q.rest j n ∙ 
 pub wider : (a e b f : ℕ) {ws vs : List ℕ} → b ≤ a → e ≤ f → Within a e ws vs → Within b f ws vs
 wider a e b f l h p = record { long = p.long; rest = λ j n. p.rest j (λ x y. n (omega arith) (omega arith)) }
 
--- the words from b on and below f are the same
-abbrev pub Same : ℕ → ℕ → List ℕ → List ℕ → Type 0
-Same b f ws vs = (j : ℕ) → b ≤ j → j < f → word vs j ≡ word ws j
-
 -- no word is in both stretches
 abbrev pub Apart : ℕ → ℕ → ℕ → ℕ → Type 0
 Apart a e b f = (j : ℕ) → b ≤ j → j < f → a ≤ j → j < e → ⊥
@@ -79,10 +72,6 @@ lower_or_higher zero (suc k) n = inl (omega arith)
 lower_or_higher (suc i) zero n = inr (omega arith)
 lower_or_higher (suc i) (suc k) n =
     ⊎_elim (λ h. inl (omega arith)) (λ h. inr (omega arith)) (lower_or_higher i k (λ e. n (ap suc e)))
-
--- what stands in a slot depends on the slot's words alone
-abbrev pub Local : {A : Type 0} → (List ℕ → ℕ → A) → ℕ → Type 0
-Local read size = (ws vs : List ℕ) (i : ℕ) → Same i (i + size) ws vs → read vs i ≡ read ws i
 
 module _ {A : Type 0} (read : List ℕ → ℕ → A) (size place slots : ℕ) (local : Local read size) where
   abbrev slot : ℕ → ℕ
@@ -108,3 +97,95 @@ module _ {A : Type 0} (read : List ℕ → ℕ → A) (size place slots : ℕ) (
         between : (i j : ℕ) → (i < k) ⊎ (k < i) → slot i ≤ j → j < slot i + size → slot k ≤ j → j < slot k + size → ⊥
         between i j (inl l) x y z w = let s = stride i k size l in omega arith
         between i j (inr l) x y z w = let s = stride k i size l in omega arith
+
+-- an element within a list is the same by any default
+pub get_or_any : {A : Type 0} (l : List A) (i : ℕ) (d e : A) → i < length l → get_or l i d ≡ get_or l i e
+get_or_any [] i d e h = absurd (omega arith)
+get_or_any (x ∷ l) zero d e h = refl
+get_or_any (x ∷ l) (suc i) d e h = get_or_any l i d e (omega arith)
+
+lower_or_same : (j i : ℕ) → j ≤ i → (j < i) ⊎ (j ≡ i)
+lower_or_same zero zero l = inr refl
+lower_or_same zero (suc i) l = inl (omega arith)
+lower_or_same (suc j) zero l = absurd (omega arith)
+lower_or_same (suc j) (suc i) l =
+    ⊎_elim (λ m. inl (omega arith)) (λ m. inr (ap suc m)) (lower_or_same j i (omega arith))
+
+-- ---- Arrays: n of one kind, one behind the other
+
+module _ {A : Type 0} (read : List ℕ → ℕ → A) (size : ℕ) (local : Local read size) where
+  pub array_local : (n : ℕ) (ws vs : List ℕ) (b : ℕ) → Same b (b + n * size) ws vs
+      → array_in n read size vs b ≡ array_in n read size ws b
+  array_local n ws vs b s =
+      tab-same n (λ (i : ℕ). read ws (b + i * size)) (λ (i : ℕ). read vs (b + i * size))
+      (λ i l. local ws vs (b + i * size) (λ j x y. let e = stride i n size l in s j (omega arith) (omega arith)))
+
+  -- the first i of n are stored
+  pub record Storing (n b : ℕ) (x : List A) (ws vs : List ℕ) (i : ℕ) : Type 0 where
+    pub within : i ≤ n
+    pub kept : Within b (b + n * size) ws vs
+    pub so : (j : ℕ) (d : A) → j < i → read vs (b + j * size) ≡ get_or x j d
+
+  module _ (n b : ℕ) (x : List A) (long : length x ≡ n) (ws : List ℕ) where
+    pub store-start : Storing n b x ws ws 0
+    store-start = record { within = omega arith; kept = nothing_changed b (b + n * size) ws; so = λ j d h. absurd (not-suc-le-zero h) }
+
+    -- one more
+    pub store-next : (vs us : List ℕ) (i : ℕ) (y : A) → Storing n b x ws vs i → i < n → y ≡ get_or x i y
+        → Within (b + i * size) (b + i * size + size) vs us → read us (b + i * size) ≡ y
+        → Storing n b x ws us (i + 1)
+    store-next vs us i y s h at p e = record {
+      within = omega arith;
+      kept =
+          let l = stride i n size h in
+          and_then s.kept (wider (b + i * size) (b + i * size + size) b (b + n * size) (omega arith) (omega arith) p);
+      so = λ j d k. go j d (lower_or_same j i (omega arith));
+    }
+      where
+        go : (j : ℕ) (d : A) → (j < i) ⊎ (j ≡ i) → read us (b + j * size) ≡ get_or x j d
+        go j d (inl l) =
+            let m = stride j i size l in
+            local vs us (b + j * size) (λ a y z. p.rest a (λ q r. omega arith)) ∙ s.so j d l
+        go j d (inr same) = rw same (e ∙ at ∙ get_or_any x i y d (omega arith))
+
+    -- all of them
+    pub store_end : (vs : List ℕ) (i : ℕ) → Storing n b x ws vs i → n ≤ i
+        → Within b (b + n * size) ws vs × (array_in n read size vs b ≡ x)
+    store_end vs i s h =
+        let f : ℕ → A = λ j. read vs (b + j * size) in
+        let d = read vs b in (
+          s.kept,
+          ext_get_or d (tab n f) x (length-tab n f ∙ sym long)
+              (λ j k. let m : j < n = rw (length-tab n f) at k in tab-at n f j d m ∙ s.so j d (omega (arith, s.within))),
+        )
+
+  -- the first i of n are read
+  pub record Reading (n b : ℕ) (ws : List ℕ) (x : List A) (i : ℕ) : Type 0 where
+    pub long : length x ≡ n
+    pub so : (j : ℕ) (d : A) → j < i → get_or x j d ≡ read ws (b + j * size)
+
+  module _ (n b : ℕ) (ws : List ℕ) where
+    -- the first stands in every place
+    pub read-start : (x : List A) (y : A) → 0 < n → x ≡ replicate n y → y ≡ read ws b → Reading n b ws x 1
+    read-start x y h e ey = record {
+      long = rw e (length-replicate n y);
+      so = λ j d k. at j d (omega arith);
+    }
+      where
+        at : (j : ℕ) (d : A) → j ≡ 0 → get_or x j d ≡ read ws (b + j * size)
+        at j d z = rw (z, e, get_or-replicate n 0 y d h) (ey ∙ ap (read ws) (omega arith))
+
+    -- one more
+    pub read-next : (x : List A) (i : ℕ) (y : A) → Reading n b ws x i → i < n → y ≡ read ws (b + i * size) → Reading n b ws (set x i y) (i + 1)
+    read-next x i y r h e = record { long = length-set x i y ∙ r.long; so = λ j d k. go j d (lower_or_same j i (omega arith)) }
+      where
+        go : (j : ℕ) (d : A) → (j < i) ⊎ (j ≡ i) → get_or (set x i y) j d ≡ read ws (b + j * size)
+        go j d (inl l) = get_or-set_other x i j y d (λ q. omega arith) ∙ r.so j d l
+        go j d (inr same) = rw same (get_or-set_same x i y d (omega (arith, r.long)) ∙ e)
+
+    -- all of them
+    pub read_end : (x : List A) (i : ℕ) → Reading n b ws x i → n ≤ i → x ≡ array_in n read size ws b
+    read_end x i r h =
+        let f : ℕ → A = λ j. read ws (b + j * size) in
+        ext_get_or (f 0) x (tab n f) (r.long ∙ sym (length-tab n f))
+        (λ j k. r.so j (f 0) (omega (arith, r.long)) ∙ sym (tab-at n f j (f 0) (omega (arith, r.long))))

@@ -1,56 +1,19 @@
 -- What a read gives, and that each reading depends on its own words alone.
-use Prim.Native.Nat.{ℕ, zero, suc, ◌+◌, ◌*◌, ◌%◌, ◌≤◌, ◌<◌}
-use mathlib.Core.Path.{◌≡◌, refl, ap}
+use Prim.Native.Nat.{ℕ, zero, suc, ◌+◌, ◌*◌, ◌≤◌, ◌<◌}
+use mathlib.Core.Path.{◌≡◌, refl, sym, ap, ◌∙◌}
 use mathlib.Core.Bool.{false}
-use mathlib.Core.List.{List}
+use mathlib.Core.List.{List, ◌∷◌}
 use native.Mathlib.Omega.{arith}
+use Rattle.std.proofs.Math.Nat.{add-zero}
 use lib.ListN.{length, get_or, get_or-eq_default}
 use Rattle.transaction.specs.declared.Input.{Input}
 use Rattle.transaction.specs.declared.Output.{Output}
 use Rattle.transaction.specs.declared.Transaction.{Transaction}
 use Rattle.transaction.specs.Tokens.{zero_input, zero_output}
 use Rattle.model.specs.declared.Finding.{Finding}
-use Rattle.layout.specs.Layout.{
-  token_slots,
-  known_slots,
-  genesis_slots,
-  token_size,
-  input_size,
-  output_size,
-  inputs_offset,
-  outputs_offset,
-  heard_offset,
-  found_size,
-  findings_offset,
-  known_size,
-  entry_place,
-  word,
-  byte,
-  tab,
-  token_in,
-  input_in,
-  output_in,
-  inputs_in,
-  outputs_in,
-  transaction_in,
-  heard_in,
-  found_in,
-  findings_in,
-  known_in,
-  token_at,
-  known_at,
-  given_at,
-  tokens_of,
-  transactions_of,
-  given_of,
-  Shard,
-  shard_of,
-  no_token,
-  no_known,
-  slot_token,
-  slot_known,
-}
-use Rattle.layout.proofs.Regions.{length-tab, tab-at, tab-same, Same, Local}
+use Rattle.layout.specs.Layout.{token_slots, known_slots, genesis_slots, input_size, output_size, inputs_offset, outputs_offset, heard_offset, found_size, findings_offset, known_size, entry_place, word, byte, tab, input_in, output_in, inputs_in, outputs_in, transaction_in, heard_in, found_in, findings_in, known_in, token_at, known_at, given_at, tokens_of, transactions_of, given_of, no_token, slot_token, slot_known, array_in, Same, Local}
+use Rattle.layout.specs.Reads.{tab-at, known_get, byte_local, input_local, output_local, found_local}
+use Rattle.layout.proofs.Regions.{length-tab, array_local}
 
 -- ---- What a read gives
 
@@ -58,10 +21,6 @@ module _ (ws : List ℕ) (k : ℕ) where
   pub token_get : k < token_slots → slot_token ws k ≡ token_at ws k
   unfolding tokens_of
   token_get h = tab-at token_slots (token_at ws) k no_token h
-
-  pub known_get : k < known_slots → slot_known ws k ≡ known_at ws k
-  unfolding transactions_of
-  known_get h = tab-at known_slots (known_at ws) k no_known h
 
   pub given_get : k < genesis_slots → get_or (given_of ws) k false ≡ given_at ws k
   unfolding given_of
@@ -136,22 +95,22 @@ pub length-given : (ws : List ℕ) → length (given_of ws) ≡ genesis_slots
 unfolding given_of
 length-given ws = length-tab genesis_slots (given_at ws)
 
-pub record Long (s : Shard) : Type 0 where
-  pub tokens : length s.tokens ≡ token_slots
-  pub transactions : length s.transactions ≡ known_slots
-  pub given : length s.given ≡ genesis_slots
-
-pub long_of : (ws : List ℕ) → Long (shard_of ws)
-long_of ws = record { tokens = length-tokens ws; transactions = length-known ws; given = length-given ws }
-
--- four inputs and four outputs
-pub four-inputs : (ws : List ℕ) (k : ℕ) → k < known_slots → length (slot_known ws k).transaction.inputs ≡ 4
+-- a known transaction's arrays
+pub inputs_array : (ws : List ℕ) (b : ℕ) → array_in 4 input_in input_size ws b ≡ inputs_in ws b
 unfolding inputs_in
-four-inputs ws k h = rw (known_get ws k h) refl
+inputs_array ws b = ap (λ (i : ℕ). input_in ws i ∷ tab 3 (λ (j : ℕ). input_in ws (b + suc j * input_size))) (add-zero b)
 
-pub four-outputs : (ws : List ℕ) (k : ℕ) → k < known_slots → length (slot_known ws k).transaction.outputs ≡ 4
+pub outputs_array : (ws : List ℕ) (b : ℕ) → array_in 4 output_in output_size ws b ≡ outputs_in ws b
 unfolding outputs_in
-four-outputs ws k h = rw (known_get ws k h) refl
+outputs_array ws b = ap (λ (i : ℕ). output_in ws i ∷ tab 3 (λ (j : ℕ). output_in ws (b + suc j * output_size))) (add-zero b)
+
+pub findings_array : (ws : List ℕ) (b : ℕ) → array_in 4 found_in found_size ws b ≡ findings_in ws b
+unfolding findings_in
+findings_array ws b = ap (λ (i : ℕ). found_in ws i ∷ tab 3 (λ (j : ℕ). found_in ws (b + suc j * found_size))) (add-zero b)
+
+pub heard_array : (ws : List ℕ) (b : ℕ) → array_in 8 byte 1 ws b ≡ heard_in ws b
+unfolding heard_in
+heard_array ws b = refl
 
 -- ---- Each reading depends on its own words alone
 
@@ -161,61 +120,25 @@ module _ (ws vs : List ℕ) where
     at : (i : ℕ) → b ≤ i → i < f → word vs i ≡ word ws i
     at i l h = s i l h
 
-    input-same : (i : ℕ) → b ≤ i → i + input_size ≤ f → input_in vs i ≡ input_in ws i
-    unfolding input_in
-    input-same i l h =
-        rw (
-          at i (omega arith) (omega arith),
-          at (i + 1) (omega arith) (omega arith),
-          at (i + 2) (omega arith) (omega arith),
-          at (i + 3) (omega arith) (omega arith),
-          at (i + 4) (omega arith) (omega arith),
-        )
-
-    output-same : (i : ℕ) → b ≤ i → i + output_size ≤ f → output_in vs i ≡ output_in ws i
-    unfolding output_in
-    output-same i l h =
-        rw (at i (omega arith) (omega arith), at (i + 1) (omega arith) (omega arith), at (i + 2) (omega arith) (omega arith))
+    part : (i n : ℕ) → b ≤ i → i + n ≤ f → Same i (i + n) ws vs
+    part i n l h j x y = s j (omega arith) (omega arith)
 
     pub inputs-same : (i : ℕ) → b ≤ i → i + 4 * input_size ≤ f → inputs_in vs i ≡ inputs_in ws i
-    unfolding inputs_in
     inputs-same i l h =
-        rw (
-          input-same i (omega arith) (omega arith),
-          input-same (i + input_size) (omega arith) (omega arith),
-          input-same (i + 2 * input_size) (omega arith) (omega arith),
-          input-same (i + 3 * input_size) (omega arith) (omega arith),
-        )
+        sym (inputs_array vs i) ∙ array_local input_in input_size input_local 4 ws vs i (part i (4 * input_size) l h) ∙ inputs_array ws i
 
     pub outputs-same : (i : ℕ) → b ≤ i → i + 4 * output_size ≤ f → outputs_in vs i ≡ outputs_in ws i
-    unfolding outputs_in
     outputs-same i l h =
-        rw (
-          output-same i (omega arith) (omega arith),
-          output-same (i + output_size) (omega arith) (omega arith),
-          output-same (i + 2 * output_size) (omega arith) (omega arith),
-          output-same (i + 3 * output_size) (omega arith) (omega arith),
-        )
+        sym (outputs_array vs i) ∙ array_local output_in output_size output_local 4 ws vs i (part i (4 * output_size) l h)
+        ∙ outputs_array ws i
 
     pub heard-same : (i : ℕ) → b ≤ i → i + 8 ≤ f → heard_in vs i ≡ heard_in ws i
-    unfolding heard_in
-    heard-same i l h =
-        tab-same 8 (λ (k : ℕ). byte ws (i + k)) (λ (k : ℕ). byte vs (i + k))
-        (λ k m. ap (λ (w : ℕ). w % 256) (at (i + k) (omega arith) (omega arith)))
-
-    found-same : (i : ℕ) → b ≤ i → i + found_size ≤ f → found_in vs i ≡ found_in ws i
-    unfolding found_in
-    found-same i l h = rw (at i (omega arith) (omega arith), at (i + 1) (omega arith) (omega arith))
+    heard-same i l h = sym (heard_array vs i) ∙ array_local byte 1 byte_local 8 ws vs i (part i 8 l h) ∙ heard_array ws i
 
     pub findings-same : (i : ℕ) → b ≤ i → i + 4 * found_size ≤ f → findings_in vs i ≡ findings_in ws i
-    unfolding findings_in
     findings-same i l h =
-        rw (
-          found-same i (omega arith) (omega arith),
-          found-same (i + found_size) (omega arith) (omega arith),
-          found-same (i + 2 * found_size) (omega arith) (omega arith),
-          found-same (i + 3 * found_size) (omega arith) (omega arith),
-        )
+        sym (findings_array vs i) ∙ array_local found_in found_size found_local 4 ws vs i (part i (4 * found_size) l h)
+        ∙ findings_array ws i
 
     pub transaction-same : (i : ℕ) → b ≤ i → i + heard_offset ≤ f → transaction_in vs i ≡ transaction_in ws i
     transaction-same i l h =
@@ -235,24 +158,5 @@ module _ (ws vs : List ℕ) where
           findings-same (i + findings_offset) (omega arith) (omega arith),
         )
 
-pub token_local : Local token_in token_size
-token_local ws vs i s =
-    rw (
-      s i (omega arith) (omega arith),
-      s (i + 1) (omega arith) (omega arith),
-      s (i + 2) (omega arith) (omega arith),
-      s (i + 3) (omega arith) (omega arith),
-      s (i + 4) (omega arith) (omega arith),
-    )
-
 pub known_local : Local known_in known_size
 known_local ws vs i s = known_same ws vs i (i + known_size) s i (omega arith) (omega arith)
-
-pub input_local : Local input_in input_size
-input_local ws vs i s = input-same ws vs i (i + input_size) s i (omega arith) (omega arith)
-
-pub output_local : Local output_in output_size
-output_local ws vs i s = output-same ws vs i (i + output_size) s i (omega arith) (omega arith)
-
-pub found_local : Local found_in found_size
-found_local ws vs i s = found-same ws vs i (i + found_size) s i (omega arith) (omega arith)

@@ -1,18 +1,16 @@
 -- The shard after a store: one word, one slot, or a known transaction part by part.
-use Prim.Native.Nat.{ℕ, zero, suc, ◌+◌, ◌*◌, ◌%◌, ◌≤◌, ◌<◌}
+use Prim.Native.Nat.{ℕ, zero, suc, ◌+◌, ◌%◌, ◌≤◌, ◌<◌}
 use mathlib.Core.Path.{◌≡◌, refl, ap, sym, ◌∙◌}
 use mathlib.Core.Bool.{Bool, true, false, not}
 use mathlib.Core.List.{List, [], ◌∷◌}
 use native.Mathlib.Omega.{arith}
-use native.Mathlib.Nat.{not-suc-le-zero, mod-eq_of_lt}
+use native.Mathlib.Nat.{mod-eq_of_lt}
 use borrow.Author.Tests.{eqb-true, eqb-false}
 use lib.Dec.{eqb}
 use lib.ListN.{length, get_or, set, replicate, length-set, length-replicate}
-use lib.Seq.{get_or-set_same, get_or-set_other, ext_get_or}
+use lib.Seq.{get_or-set_same, get_or-set_other}
 use Rattle.transaction.specs.declared.Input.{Input}
 use Rattle.transaction.specs.declared.Output.{Output}
-use Rattle.transaction.specs.Tokens.{zero_input, zero_output}
-use Rattle.transaction.proofs.Slots.{four}
 use Rattle.model.specs.declared.Token.{Token}
 use Rattle.model.specs.declared.Finding.{Finding}
 use Rattle.model.specs.declared.Finding.TheVariants.{Available, NotHeld, OtherOwner, OtherAmount, Pledged}
@@ -78,36 +76,22 @@ use Rattle.layout.specs.Layout.{
   turned_place,
   with_turned,
   flag,
-  no_finding,
+  array_in,
 }
-use Rattle.layout.proofs.Regions.{
-  length-tab,
-  tab-at,
-  tab-same,
-  tab_change,
-  nothing_changed,
-  stored,
-  and_then,
-  wider,
-  Apart,
-  Local,
-  apart,
-  region_kept,
-  region_set,
-}
+use Rattle.layout.proofs.Regions.{tab-same, tab_change, stored, and_then, wider, Apart, apart, region_kept, region_set}
+use Rattle.layout.specs.Reads.{known_get, token_local}
 use Rattle.layout.proofs.Slots.{
   token_get,
-  known_get,
   inputs-same,
   outputs-same,
   heard-same,
+  inputs_array,
+  outputs_array,
+  heard_array,
+  findings_array,
   findings-same,
   transaction-same,
-  token_local,
   known_local,
-  input_local,
-  output_local,
-  found_local,
 }
 
 -- ---- What a change leaves
@@ -376,27 +360,26 @@ module _ (ws : List ℕ) (b x₀ x₁ x₂ : ℕ) where
       (omega arith) e₄
 
 -- a token's five words
-pub token-put : (ws : List ℕ) (k : ℕ) (t : Token) → k < token_slots → length ws ≡ shard_words → t.index < 256
-    → PutsToken ws k t (five ws (token_place k) t.creator t.index t.owner t.amount t.pledge)
-token-put ws k t h long i =
-    let b = token_place k in
+pub five-put : (ws : List ℕ) (b : ℕ) (t : Token) → b + 5 ≤ length ws → t.index < 256
+    → let vs = five ws b t.creator t.index t.owner t.amount t.pledge in
+    Within b (b + 5) ws vs × (token_in vs b ≡ t)
+five-put ws b t h i =
     let xs = t.creator ∷ t.index ∷ t.owner ∷ t.amount ∷ t.pledge ∷ [] in
-    let r =
-    five-run ws b t.creator t.index t.owner (omega arith) xs t.amount t.pledge refl refl refl
-    refl refl in
-    record {
-      is =
-          token-stored ws _ k h r.within
-          (rw (
-            run_at b xs ws r (omega arith),
-            r.so 1 (omega arith),
-            r.so 2 (omega arith),
-            r.so 3 (omega arith),
-            r.so 4 (omega arith),
-            mod-eq_of_lt i,
-          ) refl);
-      long = r.within.long ∙ long;
-    }
+    let r = five-run ws b t.creator t.index t.owner h xs t.amount t.pledge refl refl refl refl refl in (
+      r.within,
+      rw (
+        run_at b xs ws r (omega arith),
+        r.so 1 (omega arith),
+        r.so 2 (omega arith),
+        r.so 3 (omega arith),
+        r.so 4 (omega arith),
+        mod-eq_of_lt i,
+      ) refl,
+    )
+
+pub token-put : (ws vs : List ℕ) (k : ℕ) (t : Token) → k < token_slots → length ws ≡ shard_words
+    → Within (token_place k) (token_place k + token_size) ws vs × (token_at vs k ≡ t) → PutsToken ws k t vs
+token-put ws vs k t h long p = record { is = token-stored ws vs k h p.0 p.1; long = p.0.long ∙ long }
 
 -- a finding is that of its numbers
 finding-back : (found : Finding) → finding_from (finding_number found) (pledging_number found) ≡ found
@@ -436,20 +419,6 @@ output-put ws b y h p =
     let r = three-run ws b y.shard y.owner y.amount h xs refl refl refl in
     (r.within, rw (run_at b xs ws r (omega arith), r.so 1 (omega arith), r.so 2 (omega arith), mod-eq_of_lt p) refl)
 
-pub head-put : (ws : List ℕ) (b number inputs outputs : ℕ) → b + 3 ≤ length ws → inputs < 256 → outputs < 256
-    → Within b (b + 3) ws (three ws b number inputs outputs)
-    × Headed (three ws b number inputs outputs) b number inputs outputs
-head-put ws b number inputs outputs h p q =
-    let xs = number ∷ inputs ∷ outputs ∷ [] in
-    let r = three-run ws b number inputs outputs h xs refl refl refl in (
-      r.within,
-      record {
-        numbered = run_at b xs ws r (omega arith);
-        ins = rw (r.so 1 (omega arith)) (mod-eq_of_lt p);
-        outs = rw (r.so 2 (omega arith)) (mod-eq_of_lt q);
-      },
-    )
-
 -- a finding's two words
 pub found-put : (ws : List ℕ) (b : ℕ) (x : Finding) {number pledging : ℕ} → b + 2 ≤ length ws
     → number ≡ finding_number x → pledging ≡ pledging_number x
@@ -461,130 +430,18 @@ found-put ws b x {number} {pledging} h en ep =
     let r = run_more b xs ws 1 (set ws b number) pledging (run-first b xs ws number (omega arith) refl) (omega arith) refl in
     (r.within, rw (run_at b xs ws r (omega arith), r.so 1 (omega arith), en, ep, finding-back x) refl)
 
--- ---- Four slots stored one behind the other
-
--- what stands before a later change
-still : {A : Type 0} (read : List ℕ → ℕ → A) (size : ℕ) → Local read size → (i a e : ℕ) {ws vs : List ℕ} {x : A}
-    → Within a e ws vs
-    → i + size ≤ a → read ws i ≡ x → read vs i ≡ x
-still read size local i a e {ws} {vs} p h g = local ws vs i (apart p i (i + size) (λ j x y z w. omega arith)) ∙ g
-
--- each stands where it was stored, and nothing outside the four slots is changed
-record Four {A : Type 0} (read : List ℕ → ℕ → A) (size b : ℕ) (v z : List ℕ) (p q r s : A) : Type 0 where
-  within : Within b (b + 4 * size) v z
-  first : read z b ≡ p
-  second : read z (b + size) ≡ q
-  third : read z (b + 2 * size) ≡ r
-  fourth : read z (b + 3 * size) ≡ s
-
--- a slot is stored at i: nothing outside it is changed, and it is read there
-abbrev pub Puts : {A : Type 0} → (List ℕ → ℕ → A) → ℕ → ℕ → A → List ℕ → List ℕ → Type 0
-Puts read size i x ws vs = Within i (i + size) ws vs × (read vs i ≡ x)
-
-module _ {A : Type 0} (read : List ℕ → ℕ → A) (size : ℕ) (local : Local read size) (b : ℕ) where
-  four-put : (v w x y z : List ℕ) (p q r s : A) → Puts read size b p v w → Puts read size (b + size) q w x
-      → Puts read size (b + 2 * size) r x y
-      → Puts read size (b + 3 * size) s y z → Four read size b v z p q r s
-  four-put v w x y z p q r s hp hq hr hs =
-      let e = b + 4 * size in
-      let yz : Within (b + 3 * size) e y z =
-      wider (b + 3 * size) (b + 3 * size + size) (b + 3 * size) e (omega arith) (omega arith) hs.0 in
-      let xy : Within (b + 2 * size) e x y =
-      wider (b + 2 * size) (b + 2 * size + size) (b + 2 * size) e (omega arith) (omega arith) hr.0 in
-      let xz : Within (b + 2 * size) e x z =
-      and_then xy (wider (b + 3 * size) e (b + 2 * size) e (omega arith) (omega arith) yz) in
-      let wx : Within (b + size) e w x =
-      wider (b + size) (b + size + size) (b + size) e (omega arith) (omega arith) hq.0 in
-      let wz : Within (b + size) e w z =
-      and_then wx (wider (b + 2 * size) e (b + size) e (omega arith) (omega arith) xz) in
-      let vw : Within b e v w = wider b (b + size) b e (omega arith) (omega arith) hp.0 in
-      record {
-        within = and_then vw (wider (b + size) e b e (omega arith) (omega arith) wz);
-        first = still read size local b (b + size) e wz (omega arith) hp.1;
-        second = still read size local (b + size) (b + 2 * size) e xz (omega arith) hq.1;
-        third = still read size local (b + 2 * size) (b + 3 * size) e yz (omega arith) hr.1;
-        fourth = hs.1;
-      }
-
-module _ (b : ℕ) (v w x y z : List ℕ) where
-  pub inputs-put : (l : List Input) → length l ≡ 4 → Puts input_in input_size b (get_or l 0 zero_input) v w
-      → Puts input_in input_size (b + input_size) (get_or l 1 zero_input) w x
-      → Puts input_in input_size (b + 2 * input_size) (get_or l 2 zero_input) x y
-      → Puts input_in input_size (b + 3 * input_size) (get_or l 3 zero_input) y z
-      → Within b (b + 4 * input_size) v z × (inputs_in z b ≡ l)
-  unfolding inputs_in
-  inputs-put l long p q r s =
-      let f = four-put input_in input_size input_local b v w x y z _ _ _ _ p q r s in
-      (f.within, rw (f.first, f.second, f.third, f.fourth) (four zero_input l long))
-
-  pub outputs-put : (l : List Output) → length l ≡ 4 → Puts output_in output_size b (get_or l 0 zero_output) v w
-      → Puts output_in output_size (b + output_size) (get_or l 1 zero_output) w x
-      → Puts output_in output_size (b + 2 * output_size) (get_or l 2 zero_output) x y
-      → Puts output_in output_size (b + 3 * output_size) (get_or l 3 zero_output) y z
-      → Within b (b + 4 * output_size) v z × (outputs_in z b ≡ l)
-  unfolding outputs_in
-  outputs-put l long p q r s =
-      let f = four-put output_in output_size output_local b v w x y z _ _ _ _ p q r s in
-      (f.within, rw (f.first, f.second, f.third, f.fourth) (four zero_output l long))
-
-  pub findings-put : (l : List Finding) → length l ≡ 4 → Puts found_in found_size b (get_or l 0 no_finding) v w
-      → Puts found_in found_size (b + found_size) (get_or l 1 no_finding) w x
-      → Puts found_in found_size (b + 2 * found_size) (get_or l 2 no_finding) x y
-      → Puts found_in found_size (b + 3 * found_size) (get_or l 3 no_finding) y z
-      → Within b (b + 4 * found_size) v z × (findings_in z b ≡ l)
-  unfolding findings_in
-  findings-put l long p q r s =
-      let f = four-put found_in found_size found_local b v w x y z _ _ _ _ p q r s in
-      (f.within, rw (f.first, f.second, f.third, f.fourth) (four no_finding l long))
-
--- ---- The verdicts stored one by one: i of them so far
-
-pub record Noting (b : ℕ) (heard ws vs : List ℕ) (i : ℕ) : Type 0 where
-  pub within : i ≤ 8
-  pub kept : Within b (b + 8) ws vs
-  pub so : (j : ℕ) → j < i → byte vs (b + j) ≡ get_or heard j 0
-
-module _ (b : ℕ) (heard ws : List ℕ) where
-  pub noting-start : Noting b heard ws ws 0
-  noting-start = record { within = omega arith; kept = nothing_changed b (b + 8) ws; so = λ j h. absurd (not-suc-le-zero h) }
-
-  pub noting-next : (vs : List ℕ) (i x : ℕ) → Noting b heard ws vs i → i < 8 → b + 8 ≤ length ws
-      → x ≡ get_or heard i 0 → x < 256
-      → Noting b heard ws (set vs (b + i) x) (i + 1)
-  noting-next vs i x s h l e q = record {
-    within = omega arith;
-    kept = and_then s.kept (stored b (b + 8) (b + i) x vs (omega arith) (omega arith));
-    so = λ j k. go j k (eqb j i) refl;
-  }
-    where
-      go : (j : ℕ) → j < i + 1 → (c : Bool) → eqb j i ≡ c → byte (set vs (b + i) x) (b + j) ≡ get_or heard j 0
-      go j k true c =
-          let same : j ≡ i = eqb-true j i c in
-          let there : word (set vs (b + i) x) (b + i) ≡ x =
-          get_or-set_same vs (b + i) x 0 (omega (arith, s.kept.long)) in
-          rw same (ap (λ (w : ℕ). w % 256) there ∙ mod-eq_of_lt q ∙ e)
-      go j k false c =
-          let other : j ≡ i → ⊥ = eqb-false j i c in
-          ap (λ (w : ℕ). w % 256) (past vs (b + i) (b + j) x (λ y. other (omega arith))) ∙ s.so j (lt_of j i k other)
-
-  pub noting_end : (vs : List ℕ) (i : ℕ) → length heard ≡ 8 → Noting b heard ws vs i → 8 ≤ i → heard_in vs b ≡ heard
-  unfolding heard_in
-  noting_end vs i l s h =
-      let f : ℕ → ℕ = λ j. byte vs (b + j) in
-      ext_get_or 0 (tab 8 f) heard (length-tab 8 f ∙ sym l)
-      (λ j k. let m : j < 8 = rw (length-tab 8 f) at k in tab-at 8 f j 0 m ∙ s.so j (omega (arith, s.within)))
-
 -- ---- A whole known transaction
 
 module _ (k : ℕ) (v w x y z u : List ℕ) (t : Known) (h : k < known_slots) (long : length v ≡ shard_words) where
   pub known-put : (let b = entry_place k in
       Within b (b + 3) v w
       × Headed w b t.transaction.number t.transaction.input_count t.transaction.output_count
-      → Within (b + inputs_offset) (b + inputs_offset + 20) w x × (inputs_in x (b + inputs_offset) ≡ t.transaction.inputs)
+      → Within (b + inputs_offset) (b + inputs_offset + 20) w x
+      × (array_in 4 input_in input_size x (b + inputs_offset) ≡ t.transaction.inputs)
       → Within (b + outputs_offset) (b + outputs_offset + 12) x y
-      × (outputs_in y (b + outputs_offset) ≡ t.transaction.outputs)
-      → Within (b + heard_offset) (b + heard_offset + 8) y z × (heard_in z (b + heard_offset) ≡ t.heard)
-      → Within (b + findings_offset) (b + findings_offset + 8) z u × (findings_in u (b + findings_offset) ≡ t.findings)
+      × (array_in 4 output_in output_size y (b + outputs_offset) ≡ t.transaction.outputs)
+      → Within (b + heard_offset) (b + heard_offset + 8) y z × (array_in 8 byte 1 z (b + heard_offset) ≡ t.heard)
+      → Within (b + findings_offset) (b + findings_offset + 8) z u × (array_in 4 found_in found_size u (b + findings_offset) ≡ t.findings)
       → PutsKnown v k t u)
   known-put hp hq hr hs hf =
       let b = entry_place k in
@@ -609,13 +466,16 @@ module _ (k : ℕ) (v w x y z u : List ℕ) (t : Known) (h : k < known_slots) (l
       let outs : byte u (b + 2) ≡ t.transaction.output_count =
       ap (λ (c : ℕ). c % 256) (wu.rest (b + 2) (λ g m. omega arith)) ∙ hp.1.outs in
       let inputs : inputs_in u i ≡ t.transaction.inputs =
-      inputs-same x u i o (apart xu i o (λ j a c d f. omega arith)) i (omega arith) (omega arith) ∙ hq.1 in
+      inputs-same x u i o (apart xu i o (λ j a c d f. omega arith)) i (omega arith) (omega arith)
+      ∙ sym (inputs_array x i) ∙ hq.1 in
       let outputs : outputs_in u o ≡ t.transaction.outputs =
-      outputs-same y u o g (apart yu o g (λ j a c d f. omega arith)) o (omega arith) (omega arith) ∙ hr.1 in
+      outputs-same y u o g (apart yu o g (λ j a c d f. omega arith)) o (omega arith) (omega arith)
+      ∙ sym (outputs_array y o) ∙ hr.1 in
       let heard : heard_in u g ≡ t.heard =
-      heard-same z u g f (apart zu g f (λ j a c d f. omega arith)) g (omega arith) (omega arith) ∙ hs.1 in
+      heard-same z u g f (apart zu g f (λ j a c d f. omega arith)) g (omega arith) (omega arith)
+      ∙ sym (heard_array z g) ∙ hs.1 in
       record {
-        is = known-stored v u k h vu (rw (number, ins, outs, inputs, outputs, heard, hf.1) refl);
+        is = known-stored v u k h vu (rw (number, ins, outs, inputs, outputs, heard, sym (findings_array u f) ∙ hf.1) refl);
         long = vu.long ∙ long;
       }
 

@@ -105,6 +105,10 @@ abbrev pub tab : {A : Type 0} → ℕ → (ℕ → A) → List A
 tab zero f = []
 tab (suc n) f = f 0 ∷ tab n (λ (i : ℕ). f (suc i))
 
+-- n of them, one behind the other, each of so many words
+abbrev pub array_in : {A : Type 0} → ℕ → (List ℕ → ℕ → A) → ℕ → List ℕ → ℕ → List A
+array_in n read size ws b = tab n (λ (i : ℕ). read ws (b + i * size))
+
 abbrev pub token_in : List ℕ → ℕ → Token
 token_in ws b =
     record {
@@ -301,6 +305,14 @@ PutsKnown ws k x vs = Becomes (with_transactions (shard_of ws) (set (shard_of ws
 pub record Within (a e : ℕ) (ws vs : List ℕ) : Type 0 where
   pub long : length vs ≡ length ws
   pub rest : (j : ℕ) → (a ≤ j → j < e → ⊥) → word vs j ≡ word ws j
+
+-- the words from b on and below f are the same
+abbrev pub Same : ℕ → ℕ → List ℕ → List ℕ → Type 0
+Same b f ws vs = (j : ℕ) → b ≤ j → j < f → word vs j ≡ word ws j
+
+-- what stands in a slot depends on the slot's words alone
+abbrev pub Local : {A : Type 0} → (List ℕ → ℕ → A) → ℕ → Type 0
+Local read size = (ws vs : List ℕ) (i : ℕ) → Same i (i + size) ws vs → read vs i ≡ read ws i
 
 -- a number and two counts stand here
 pub record Headed (ws : List ℕ) (b number inputs outputs : ℕ) : Type 0 where

@@ -1,23 +1,11 @@
 // The shard's number, how many tokens it holds and transactions it knows, the genesis indices given, whether it has
 // turned; and an empty shard.
-ghost use Rattle.std.specs.Prelude.{◌≡◌, true, false, ◌%◌, ◌≤◌, ◌<◌, length, get_or, set};
-ghost use Rattle.layout.specs.Layout.{shard_words, token_slots, known_slots, genesis_slots, shard_of};
+ghost use Rattle.std.specs.Prelude.{◌≡◌, true, false, ◌≤◌, ◌<◌, get_or, set};
+ghost use Rattle.layout.specs.Layout.{token_slots, known_slots, genesis_slots, shard_of};
 ghost use Rattle.layout.specs.Layout.{with_held, with_known, with_given, with_turned, Becomes, Cleared};
 
+use crate::kept::byte;
 use crate::{GIVEN_PLACE, HELD_PLACE, KNOWN_PLACE, NUMBER_PLACE, SHARD_WORDS, TURNED_PLACE, Words};
-
-// A word of a byte.
-pub(crate) fn byte(w: u32) -> u8
-    ensures { result ≡ w % 256 }
-{
-    (w % 256) as u8
-}
-
-fn wide(w: u32) -> usize
-    ensures { result ≡ w }
-{
-    w as usize
-}
 
 pub fn own_number(s: &Words) -> u8
     ensures { result ≡ (shard_of s.now).number }
@@ -28,13 +16,13 @@ pub fn own_number(s: &Words) -> u8
 pub fn held(s: &Words) -> usize
     ensures { result ≡ (shard_of s.now).held }
 {
-    wide(s[HELD_PLACE])
+    s[HELD_PLACE] as usize
 }
 
 pub fn known_count(s: &Words) -> usize
     ensures { result ≡ (shard_of s.now).known }
 {
-    wide(s[KNOWN_PLACE])
+    s[KNOWN_PLACE] as usize
 }
 
 // The genesis index was given.
@@ -53,14 +41,14 @@ pub fn is_turned(s: &Words) -> bool
 }
 
 pub fn set_held(s: &mut Words, n: usize)
-    requires { (n ≤ token_slots) × (length s.old ≡ shard_words) }
+    requires { n ≤ token_slots }
     ensures { Becomes (with_held (shard_of s.old) n) s.new }
 {
     s[HELD_PLACE] = n as u32;
 }
 
 pub fn set_known_count(s: &mut Words, n: usize)
-    requires { (n ≤ known_slots) × (length s.old ≡ shard_words) }
+    requires { n ≤ known_slots }
     ensures { Becomes (with_known (shard_of s.old) n) s.new }
 {
     s[KNOWN_PLACE] = n as u32;
@@ -68,7 +56,7 @@ pub fn set_known_count(s: &mut Words, n: usize)
 
 // The genesis index is given.
 pub fn give(s: &mut Words, index: usize)
-    requires { (index < genesis_slots) × (length s.old ≡ shard_words) }
+    requires { index < genesis_slots }
     ensures { Becomes (with_given (shard_of s.old) (set (shard_of s.old).given index true))
         s.new }
 {
@@ -77,7 +65,6 @@ pub fn give(s: &mut Words, index: usize)
 
 // The shard turns.
 pub fn set_turned(s: &mut Words)
-    requires { length s.old ≡ shard_words }
     ensures { Becomes (with_turned (shard_of s.old) true) s.new }
 {
     s[TURNED_PLACE] = 1;
@@ -88,5 +75,5 @@ pub fn clear(s: &mut Words, number: u8)
     ensures { Cleared number s.new }
 {
     *s = [0; SHARD_WORDS];
-    s[NUMBER_PLACE] = number as u32;
+    s[NUMBER_PLACE] = u32::from(number);
 }

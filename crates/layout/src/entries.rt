@@ -1,96 +1,31 @@
 // The known transactions, read: whole, or only the words that a question needs.
-ghost use Rattle.std.specs.Prelude.{◌≡◌, ◌+◌, ◌≤◌, ◌<◌, get_or};
-ghost use Rattle.transaction.specs.Tokens.{zero_input, zero_output};
-ghost use Rattle.layout.specs.Layout.{shard_words, known_slots, slot_known, input_in, output_in, inputs_in, outputs_in, heard_in};
+// Stays: a slot is its number, and `k < known_slots` stands in each contract. Slots come out of loops over the count and out
+// of searches, whose contracts speak of the number itself: a struct would be made and taken apart at each of these places.
+ghost use Rattle.std.specs.Prelude.{ℕ, List, ◌≡◌, ◌<◌, length, get_or};
+ghost use Rattle.transaction.specs.declared.Transaction.{Transaction};
+ghost use Rattle.transaction.specs.Tokens.{input_shard, output_shard, zero_input, zero_output};
+ghost use Rattle.layout.specs.Layout.{known_slots, slot_known};
+ghost use Rattle.layout.specs.Reads.{four-inputs, four-outputs};
 
-use crate::counts::byte;
-use crate::findings::findings_in;
+use crate::kept::{byte, read_all};
 use crate::{
     FINDINGS_OFFSET, HEARD_OFFSET, INPUT_SIZE, INPUTS_OFFSET, KNOWN_SIZE, OUTPUT_SIZE,
     OUTPUTS_OFFSET, TRANSACTIONS_PLACE, Words,
 };
 use model::{Finding, Known};
-use transaction::{Input, Output, TokenId, Transaction};
-
-fn input_in(s: &Words, b: usize) -> Input
-    requires { b + 5 ≤ shard_words }
-    ensures { result ≡ input_in s.now b }
-{
-    Input {
-        token: TokenId {
-            shard: byte(s[b]),
-            creator: s[b + 1],
-            index: byte(s[b + 2]),
-        },
-        owner: s[b + 3],
-        amount: s[b + 4],
-    }
-}
-
-fn output_in(s: &Words, b: usize) -> Output
-    requires { b + 3 ≤ shard_words }
-    ensures { result ≡ output_in s.now b }
-{
-    Output {
-        shard: byte(s[b]),
-        owner: s[b + 1],
-        amount: s[b + 2],
-    }
-}
-
-fn inputs_in(s: &Words, b: usize) -> [Input; 4]
-    requires { b + 20 ≤ shard_words }
-    ensures { result ≡ inputs_in s.now b }
-{
-    [
-        input_in(s, b),
-        input_in(s, b + INPUT_SIZE),
-        input_in(s, b + 2 * INPUT_SIZE),
-        input_in(s, b + 3 * INPUT_SIZE),
-    ]
-}
-
-fn outputs_in(s: &Words, b: usize) -> [Output; 4]
-    requires { b + 12 ≤ shard_words }
-    ensures { result ≡ outputs_in s.now b }
-{
-    [
-        output_in(s, b),
-        output_in(s, b + OUTPUT_SIZE),
-        output_in(s, b + 2 * OUTPUT_SIZE),
-        output_in(s, b + 3 * OUTPUT_SIZE),
-    ]
-}
-
-fn heard_in(s: &Words, b: usize) -> [u8; 8]
-    requires { b + 8 ≤ shard_words }
-    ensures { result ≡ heard_in s.now b }
-{
-    [
-        byte(s[b]),
-        byte(s[b + 1]),
-        byte(s[b + 2]),
-        byte(s[b + 3]),
-        byte(s[b + 4]),
-        byte(s[b + 5]),
-        byte(s[b + 6]),
-        byte(s[b + 7]),
-    ]
-}
+use transaction::{Input, Output, Transaction};
 
 pub fn transaction_at(s: &Words, k: usize) -> Transaction
     requires { k < known_slots }
     ensures { result ≡ (slot_known s.now k).transaction }
 {
     let b = TRANSACTIONS_PLACE + k * KNOWN_SIZE;
-    let inputs = inputs_in(s, b + INPUTS_OFFSET);
-    let outputs = outputs_in(s, b + OUTPUTS_OFFSET);
     Transaction {
         number: s[b],
         input_count: byte(s[b + 1]),
         output_count: byte(s[b + 2]),
-        inputs: inputs,
-        outputs: outputs,
+        inputs: read_all(s, b + INPUTS_OFFSET),
+        outputs: read_all(s, b + OUTPUTS_OFFSET),
     }
 }
 
@@ -99,7 +34,7 @@ pub fn findings_at(s: &Words, k: usize) -> [Finding; 4]
     requires { k < known_slots }
     ensures { result ≡ (slot_known s.now k).findings }
 {
-    findings_in(s, TRANSACTIONS_PLACE + k * KNOWN_SIZE + FINDINGS_OFFSET)
+    read_all(s, TRANSACTIONS_PLACE + k * KNOWN_SIZE + FINDINGS_OFFSET)
 }
 
 pub fn known_at(s: &Words, k: usize) -> Known
@@ -107,12 +42,12 @@ pub fn known_at(s: &Words, k: usize) -> Known
     ensures { result ≡ slot_known s.now k }
 {
     let t = transaction_at(s, k);
-    let heard = heard_in(s, TRANSACTIONS_PLACE + k * KNOWN_SIZE + HEARD_OFFSET);
+    let heard = read_all(s, TRANSACTIONS_PLACE + k * KNOWN_SIZE + HEARD_OFFSET);
     let findings = findings_at(s, k);
     Known {
         transaction: t,
-        heard: heard,
-        findings: findings,
+        heard,
+        findings,
     }
 }
 
@@ -122,36 +57,6 @@ pub fn number_at(s: &Words, k: usize) -> u32
     ensures { result ≡ (slot_known s.now k).transaction.number }
 {
     s[TRANSACTIONS_PLACE + k * KNOWN_SIZE]
-}
-
-// How many inputs and outputs it has.
-pub fn input_count_at(s: &Words, k: usize) -> u8
-    requires { k < known_slots }
-    ensures { result ≡ (slot_known s.now k).transaction.input_count }
-{
-    byte(s[TRANSACTIONS_PLACE + k * KNOWN_SIZE + 1])
-}
-
-pub fn output_count_at(s: &Words, k: usize) -> u8
-    requires { k < known_slots }
-    ensures { result ≡ (slot_known s.now k).transaction.output_count }
-{
-    byte(s[TRANSACTIONS_PLACE + k * KNOWN_SIZE + 2])
-}
-
-// The shard of one of its four inputs, and of one of its four outputs.
-pub fn input_shard_at(s: &Words, k: usize, i: usize) -> u8
-    requires { (k < known_slots) × (i < 4) }
-    ensures { result ≡ (get_or (slot_known s.now k).transaction.inputs i zero_input).token.shard }
-{
-    byte(s[TRANSACTIONS_PLACE + k * KNOWN_SIZE + INPUTS_OFFSET + i * INPUT_SIZE])
-}
-
-pub fn output_shard_at(s: &Words, k: usize, i: usize) -> u8
-    requires { (k < known_slots) × (i < 4) }
-    ensures { result ≡ (get_or (slot_known s.now k).transaction.outputs i zero_output).shard }
-{
-    byte(s[TRANSACTIONS_PLACE + k * KNOWN_SIZE + OUTPUTS_OFFSET + i * OUTPUT_SIZE])
 }
 
 // What is noted of a sender: 0 not heard, 1 no, 2 yes; 0 for a number above 7.
@@ -164,4 +69,67 @@ pub fn heard_at(s: &Words, k: usize, sender: u8) -> u8
         return byte(s[TRANSACTIONS_PLACE + k * KNOWN_SIZE + HEARD_OFFSET + at]);
     }
     0
+}
+
+// The inputs of a known transaction, or its outputs: what is asked of them without reading the whole transaction.
+pub trait Side: Sized {
+    ghost count: { Transaction → ℕ };
+
+    ghost slots: { Transaction → List Self };
+
+    ghost shard: { Self → ℕ };
+
+    ghost zero: { Self };
+
+    // How many there are.
+    fn count_at(s: &Words, k: usize) -> u8
+        requires { k < known_slots }
+        ensures { result ≡ count (slot_known s.now k).transaction };
+
+    // The shard of one of the four.
+    fn shard_at(s: &Words, k: usize, i: usize) -> u8
+        requires { (k < known_slots) × (i < 4) }
+        ensures { result ≡ shard (get_or (slots (slot_known s.now k).transaction) i zero) };
+
+    ghost four: { (ws : List ℕ) (k : ℕ) → k < known_slots → length (slots (slot_known ws k).transaction) ≡ 4 };
+}
+
+impl Side for Input {
+    ghost count = { λ t. t.input_count };
+
+    ghost slots = { λ t. t.inputs };
+
+    ghost shard = { input_shard };
+
+    ghost zero = { zero_input };
+
+    fn count_at(s: &Words, k: usize) -> u8 {
+        byte(s[TRANSACTIONS_PLACE + k * KNOWN_SIZE + 1])
+    }
+
+    fn shard_at(s: &Words, k: usize, i: usize) -> u8 {
+        byte(s[TRANSACTIONS_PLACE + k * KNOWN_SIZE + INPUTS_OFFSET + i * INPUT_SIZE])
+    }
+
+    ghost four = { four-inputs };
+}
+
+impl Side for Output {
+    ghost count = { λ t. t.output_count };
+
+    ghost slots = { λ t. t.outputs };
+
+    ghost shard = { output_shard };
+
+    ghost zero = { zero_output };
+
+    fn count_at(s: &Words, k: usize) -> u8 {
+        byte(s[TRANSACTIONS_PLACE + k * KNOWN_SIZE + 2])
+    }
+
+    fn shard_at(s: &Words, k: usize, i: usize) -> u8 {
+        byte(s[TRANSACTIONS_PLACE + k * KNOWN_SIZE + OUTPUTS_OFFSET + i * OUTPUT_SIZE])
+    }
+
+    ghost four = { four-outputs };
 }

@@ -3,10 +3,11 @@
 // words, and the calls of `shard` and `cluster` alone change them.
 #![tactic(auto)]
 
+mod kept; // what is kept in some words
 pub mod counts; // the number, the counts, the flags, and an empty shard
 pub mod tokens; // the tokens held
 pub mod entries; // the known transactions, read
-pub mod findings; // what is found about inputs, read and stored
+pub mod findings; // what is found about inputs, as numbers
 pub mod stores; // the known transactions, stored
 
 // Slots.

@@ -1,9 +1,9 @@
 // The tokens held, one at a time.
-ghost use Rattle.std.specs.Prelude.{◌≡◌, ◌&&◌, ◌<◌, eqb, length};
+ghost use Rattle.std.specs.Prelude.{◌≡◌, ◌&&◌, ◌<◌, eqb};
 ghost use Rattle.model.specs.Steps.{pledged_to};
-ghost use Rattle.layout.specs.Layout.{shard_words, token_slots, slot_token, PutsToken};
+ghost use Rattle.layout.specs.Layout.{token_slots, slot_token, PutsToken};
 
-use crate::counts::byte;
+use crate::kept::{Kept, byte};
 use crate::{TOKEN_SIZE, TOKENS_PLACE, Words};
 use model::Token;
 
@@ -11,14 +11,7 @@ pub fn token_at(s: &Words, k: usize) -> Token
     requires { k < token_slots }
     ensures { result ≡ slot_token s.now k }
 {
-    let b = TOKENS_PLACE + k * TOKEN_SIZE;
-    Token {
-        creator: s[b],
-        index: byte(s[b + 1]),
-        owner: s[b + 2],
-        amount: s[b + 3],
-        pledge: s[b + 4],
-    }
+    Token::read(s, TOKENS_PLACE + k * TOKEN_SIZE)
 }
 
 // Only its id, for searches: the token has that creator and index.
@@ -48,20 +41,15 @@ pub fn pledge_at(s: &Words, k: usize) -> u32
 }
 
 pub fn put_token(s: &mut Words, k: usize, t: Token)
-    requires { (k < token_slots) × (length s.old ≡ shard_words) }
+    requires { k < token_slots }
     ensures { PutsToken s.old k t s.new }
 {
-    let b = TOKENS_PLACE + k * TOKEN_SIZE;
-    s[b] = t.creator;
-    s[b + 1] = t.index as u32;
-    s[b + 2] = t.owner;
-    s[b + 3] = t.amount;
-    s[b + 4] = t.pledge;
+    t.put(s, TOKENS_PLACE + k * TOKEN_SIZE);
 }
 
 // The token is pledged to the transaction of that number.
 pub fn put_pledge(s: &mut Words, k: usize, number: u32)
-    requires { (k < token_slots) × (length s.old ≡ shard_words) }
+    requires { k < token_slots }
     ensures { PutsToken s.old k (pledged_to number (slot_token s.old k)) s.new }
 {
     s[TOKENS_PLACE + k * TOKEN_SIZE + 4] = number;

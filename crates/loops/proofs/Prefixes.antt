@@ -30,3 +30,8 @@ module _ {A : Type 0} (f : A → Bool) (l : List A) (i : ℕ) (d : A) where
 -- the used ones of four slots
 pub used-are : {A : Type 0} (l : List A) → length l ≡ 4 → (count n : ℕ) → n ≡ min count 4 → take n l ≡ take count l
 used-are l long count n e = rw e (ap (λ (k : ℕ). take (min count k) l) (sym long) ∙ take_min count l)
+
+-- all of them, where a loop over their numbers ends
+pub used-below : {A : Type 0} (l : List A) → length l ≡ 4 → (count n i : ℕ) → n ≡ min count 4 → n ≤ i → i ≤ n → take i l ≡ take count l
+used-below l long count n i e h k = let same : i ≡ n = omega arith in
+    ap (λ (m : ℕ). take m l) same ∙ used-are l long count n e

@@ -2,7 +2,7 @@
 use Prim.Native.Nat.{ℕ, zero, suc, ◌+◌, ◌≤◌, ◌<◌}
 use native.Mathlib.Omega.{arith}
 use mathlib.Core.Path.{◌≡◌, refl, sym, ap, ◌∙◌}
-use mathlib.Core.Bool.{Bool, true, false, cond, ◌||◌, ◌&&◌, and_assoc, and-true, and-false, or-false}
+use mathlib.Core.Bool.{Bool, true, false, cond, ◌&&◌, and-true, and-false, or-false}
 use mathlib.Core.List.{List, [], ◌∷◌}
 use borrow.Author.Tests.{eq-eqb, ne_eqb, lt-ltb, le-ltb}
 use lib.Dec.{eqb, ltb, leb-suc-suc}
@@ -12,8 +12,8 @@ use Rattle.transaction.specs.declared.Input.{Input}
 use Rattle.transaction.specs.declared.Output.{Output}
 use Rattle.transaction.specs.declared.Transaction.{Transaction}
 use Rattle.transaction.specs.Lists.{any}
-use Rattle.transaction.specs.Tokens.{used_inputs, used_outputs, zero_input, zero_output}
-use Rattle.transaction.proofs.Slots.{and_right, any-by}
+use Rattle.transaction.specs.Tokens.{used_inputs, used_outputs, zero_output}
+use Rattle.transaction.proofs.Slots.{and_right}
 use Rattle.model.specs.declared.Token.{Token}
 use Rattle.model.specs.declared.Known.{Known}
 use Rattle.model.specs.Steps.{input_here, inputs_here, names, output_here, token_of, tokens_from, made_here, outcome_of, nothing_known}
@@ -129,21 +129,12 @@ module _ (ws : List ℕ) (most : (shard_of ws).known ≤ known_slots) (one : One
           → undecided ≡ any (awaits me x) (ledger_of ws).known
       awaits_if is_made eu = eu ∙ sym (rw is_made (and-true (is_undecided (outcome_of there)))) ∙ there-makes em
 
--- some used input of four is here and does
-module _ (me : ℕ) (known : List Known) (t : Transaction) (long : length t.inputs ≡ 4) where
+-- some used input is here and does
+module _ (me : ℕ) (known : List Known) (t : Transaction) where
   abbrev waits : Input → Bool
-  waits x = any (awaits me x) known
+  waits x = input_here me x && any (awaits me x) known
 
-  abbrev slot : ℕ → Bool
-  slot i = let x = get_or t.inputs i zero_input in ltb i t.input_count && input_here me x && waits x
-
-  pub held_off-by : {a b c d : Bool} → a ≡ slot 0 → b ≡ slot 1 → c ≡ slot 2 → d ≡ slot 3 → a || b || c || d ≡ held_off me known t
+  pub held_off-by : {used : List Input} {held : Bool} → used ≡ used_inputs t → any waits used ≡ held → held ≡ held_off me known t
   unfolding held_off inputs_here
-  held_off-by ea eb ec ed =
-      rw (ea ∙ each 0, eb ∙ each 1, ec ∙ each 2, ed ∙ each 3)
-      (any-by zero_input t.inputs long (λ x. input_here me x && waits x) t.input_count refl refl refl refl
-      ∙ sym (any-keep waits (input_here me) (used_inputs t)))
-    where
-      each : (i : ℕ) → slot i ≡ ltb i t.input_count && (input_here me (get_or t.inputs i zero_input) && waits (get_or t.inputs i zero_input))
-      each i =
-          and_assoc (ltb i t.input_count) (input_here me (get_or t.inputs i zero_input)) (waits (get_or t.inputs i zero_input))
+  held_off-by {used} e h =
+      sym h ∙ ap (any waits) e ∙ sym (any-keep (λ x. any (awaits me x) known) (input_here me) (used_inputs t))

@@ -7,4 +7,4 @@ use Rattle.layout.proofs.counts.clear.Goals as goal
 pub returns : goal.returns
 returns c =
     let byte : c.args.number < 256 = search rules in
-    all_cleared shard_words c.args.number refl byte
+    rw c.from.ensures (all_cleared shard_words c.args.number refl byte)

@@ -4,6 +4,6 @@ use Rattle.layout.proofs.counts.give.Goals as goal
 
 pub returns : goal.returns
 returns c =
-    let within = c.requires.0 in
-    let long = c.requires.1 in
+    let within = c.requires in
+    let long = c.told-s in
     flag-put c.args.s.now long c.args.index within

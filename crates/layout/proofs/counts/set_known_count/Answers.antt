@@ -4,5 +4,5 @@ use Rattle.layout.proofs.counts.set_known_count.Goals as goal
 
 pub returns : goal.returns
 returns c =
-    let long = c.requires.1 in
+    let long = c.told-s in
     count-put c.args.s.now long c.args.n

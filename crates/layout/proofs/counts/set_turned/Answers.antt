@@ -3,4 +3,4 @@ use Rattle.layout.proofs.Stored.{turned-put}
 use Rattle.layout.proofs.counts.set_turned.Goals as goal
 
 pub returns : goal.returns
-returns c = turned-put c.args.s.now c.requires
+returns c = turned-put c.args.s.now c.told-s

@@ -6,7 +6,7 @@ use Rattle.layout.proofs.stores.put_heard.Goals as goal
 pub returns : goal.returns
 returns c =
     let within = c.requires.0 in
-    let sender = c.requires.1.0 in
-    let long = c.requires.1.1 in
+    let sender = c.requires.1 in
+    let long = c.told-s in
     let byte : c.args.said < 256 = search rules in
-    heard-put c.args.s.now c.args.k c.args.sender c.args.said within sender byte long
+    rw c.from.ensures (heard-put c.args.s.now c.args.k c.args.sender c.args.said within sender byte long)

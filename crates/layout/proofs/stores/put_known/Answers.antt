@@ -4,11 +4,11 @@ use Rattle.layout.proofs.stores.put_known.Goals as goal
 
 pub returns : goal.returns
 returns c =
-    let within = c.requires.0 in
-    let long = c.requires.1 in
+    let within = c.requires in
+    let long = c.told-s in
     known-put c.args.k c.args.s.now _ _ _ _ _ c.args.x within long
     c.put_head.ensures
-    c.put_inputs.ensures
-    c.put_outputs.ensures
-    c.put_verdicts.ensures
-    c.put_findings.ensures
+    c.put_all.ensures
+    c.put_all-2.ensures
+    c.put_all-3.ensures
+    c.put_all-4.ensures

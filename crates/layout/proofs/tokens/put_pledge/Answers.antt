@@ -4,6 +4,6 @@ use Rattle.layout.proofs.tokens.put_pledge.Goals as goal
 
 pub returns : goal.returns
 returns c =
-    let within = c.requires.0 in
-    let long = c.requires.1 in
+    let within = c.requires in
+    let long = c.told-s in
     pledge_put c.args.s.now c.args.k c.args.number within long

@@ -5,4 +5,4 @@ use Rattle.registry.proofs.deciding.outcome_at.Goals as goal
 
 pub returns : goal.returns
 returns c =
-    decides (slot_known c.args.s.now c.args.k) c.by_inputs.ensures c.by_outputs.ensures c.both.ensures
+    decides (slot_known c.args.s.now c.args.k) c.by_side.ensures c.by_side-2.ensures c.both.ensures

@@ -10,7 +10,7 @@ pub loop-i-preserved : goal.loop-i-preserved
 loop-i-preserved c =
     let slots = length-known c.args.s.now in
     let sum = c.loop-i.invariant in
-    let one = c.reserved_at-n.ensures in
+    let one = c.reserved_at-sum.ensures in
     record {
       counted = sum.counted;
       most = omega (arith, one.1, sum.most);

@@ -1,5 +1,5 @@
 -- The sum of those before i, four each at most.
-use Rattle.std.proofs.Common.{◌-◌, ◌≡◌, ◌≤◌, ◌*◌}
+use Rattle.std.proofs.Common.{◌≡◌, ◌≤◌, ◌*◌}
 use Rattle.model.specs.Shard.{reserved_by}
 use Rattle.loops.proofs.Loops.{Summing}
 use Rattle.layout.specs.Layout.{shard_of, transactions_of}
@@ -7,10 +7,7 @@ use Rattle.registry.proofs.reserving.reserved_here.Given as goal
 
 abbrev pub invariant-loop-i : goal.invariant-loop-i
 invariant-loop-i l = record {
-  counted : l.count ≡ (shard_of l.s).known;
+  counted : l.i-end ≡ (shard_of l.s).known;
   most : l.sum ≤ 4 * l.i;
   summed : Summing (reserved_by l.me) (transactions_of l.s) (shard_of l.s).known l.sum l.i;
 }
-
-abbrev pub decreases-loop-i : goal.decreases-loop-i
-decreases-loop-i l = l.count - l.i

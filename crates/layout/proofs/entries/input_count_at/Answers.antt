@@ -1,8 +1,0 @@
--- The word is that count in the slot.
-use Rattle.std.proofs.Common.{sym, ap, ◌∙◌}
-use Rattle.model.specs.declared.Known.{Known}
-use Rattle.layout.proofs.Slots.{known_get}
-use Rattle.layout.proofs.entries.input_count_at.Goals as goal
-
-pub returns : goal.returns
-returns c = c.byte.ensures ∙ sym (ap (λ (k : Known). k.transaction.input_count) (known_get c.args.s.now c.args.k c.requires))

@@ -1,7 +1,0 @@
--- The finding is that of the two words.
-use Rattle.layout.specs.Layout.{found_in}
-use Rattle.layout.proofs.findings.found_in.Goals as goal
-
-pub returns : goal.returns
-unfolding found_in
-returns c = c.finding_from.ensures
