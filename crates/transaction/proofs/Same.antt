@@ -6,6 +6,8 @@ use mathlib.Core.List.{List, [], ◌∷◌}
 use mathlib.Core.Logic.{◌↔◌}
 use borrow.Author.Tests.{eqb-true, eq-eqb}
 use lib.Dec.{eqb}
+use lib.Pointwise.{pointwise}
+use Rattle.std.proofs.Math.Bool.{and_assoc}
 use Rattle.transaction.specs.declared.TokenId.{TokenId}
 use Rattle.transaction.specs.declared.Input.{Input}
 use Rattle.transaction.specs.declared.Output.{Output}
@@ -36,6 +38,25 @@ agree_equal f sound (a ∷ x) (b ∷ y) h =
 agree_refl : {A : Type 0} (f : A → A → Bool) → ((a : A) → f a a ≡ true) → (x : List A) → agree f x x ≡ true
 agree_refl f self [] = refl
 agree_refl f self (a ∷ x) = rw (self a) (agree_refl f self x)
+
+-- The derived equality of two transactions, where that of an input and that of an output are known.
+agree-pointwise : {A : Type 0} (f g : A → A → Bool) → ((a b : A) → f a b ≡ g a b) → (x y : List A)
+    → pointwise f x y ≡ agree g x y
+agree-pointwise f g e [] [] = refl
+agree-pointwise f g e [] (b ∷ y) = refl
+agree-pointwise f g e (a ∷ x) [] = refl
+agree-pointwise f g e (a ∷ x) (b ∷ y) = rw (e a b, agree-pointwise f g e x y) refl
+
+pub derived : (f : Input → Input → Bool) (g : Output → Output → Bool) → ((a b : Input) → f a b ≡ same_input a b)
+    → ((a b : Output) → g a b ≡ same_output a b) → (a b : Transaction)
+    → (eqb a.number b.number
+    && (eqb a.input_count b.input_count
+    && (eqb a.output_count b.output_count && (pointwise f a.inputs b.inputs && pointwise g a.outputs b.outputs))))
+    ≡ same_transaction a b
+unfolding same_transaction
+derived f g inputs outputs a b =
+    rw (agree-pointwise f same_input inputs a.inputs b.inputs, agree-pointwise g same_output outputs a.outputs b.outputs)
+    (simp and_assoc)
 
 pub same_token_equal : (a b : TokenId) → same_token a b ≡ true → a ≡ b
 unfolding same_token

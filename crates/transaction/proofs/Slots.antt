@@ -1,14 +1,15 @@
 -- Lists of four slots with a count of the used ones: what the functions of specs/Lists say of them, slot by slot.
-use Prim.Native.Nat.{ℕ, zero, suc, ◌+◌, ◌<◌, ◌≤◌}
+use Prim.Native.Nat.{ℕ, zero, suc, ◌+◌, ◌<◌}
 use mathlib.Core.Path.{◌≡◌, refl, sym, ap, ◌∙◌}
 use mathlib.Core.Bool.{Bool, true, false, cond, ◌&&◌, ◌||◌, and_assoc, and-true, or_assoc, or-false, false≢true}
 use mathlib.Core.List.{List, [], ◌∷◌, ◌++◌, map}
 use native.Mathlib.Omega.{arith}
-use borrow.Author.Tests.{lt-ltb, le-ltb}
-use lib.Dec.{ltb}
-use lib.ListN.{length, get_or, take, drop, take-append-drop, length-take}
+use borrow.Author.Tests.{lt-ltb}
+use lib.Dec.{eqb, ltb}
+use Rattle.std.specs.List.{list_any}
+use lib.ListN.{length, get_or, take, drop, take-append-drop}
 use lib.Seq.{take-nil, drop-nil}
-use Rattle.transaction.specs.Lists.{any, all, total, agree, repeats, slots_fit}
+use Rattle.transaction.specs.Lists.{any, all, total, slots_fit}
 
 -- a list of four is its four elements
 pub four : {A : Type 0} (d : A) (x : List A) → length x ≡ 4 → get_or x 0 d ∷ get_or x 1 d ∷ get_or x 2 d ∷ get_or x 3 d ∷ [] ≡ x
@@ -61,37 +62,6 @@ module _ {A : Type 0} (f : A → Bool) (a b c e : A) where
       rw (above n 0 (omega arith), above n 1 (omega arith), above n 2 (omega arith), above n 3 (omega arith))
       (rw (take-nil {A = A} n) (simp (or_assoc, or-false)))
 
--- three and six tests, in the order of the list and in the order of the later one of each pair
-three : (ab ac bc : Bool) → ab || (ac || false) || (bc || false || (false || false)) ≡ ab || (ac || bc) || false
-three true ac bc = refl
-three false true bc = refl
-three false false true = refl
-three false false false = refl
-
-six : (ab ac ae bc be ce : Bool)
-    → ab || (ac || (ae || false)) || (bc || (be || false) || (ce || false || (false || false)))
-    ≡ ab || (ac || bc) || (ae || be || ce)
-six true ac ae bc be ce = refl
-six false true ae bc be ce = refl
-six false false true true be ce = refl
-six false false true false be ce = refl
-six false false false true be ce = refl
-six false false false false true ce = refl
-six false false false false false true = refl
-six false false false false false false = refl
-
-module _ {A : Type 0} (f : A → A → Bool) (a b c e : A) where
-  repeats-of : (n : ℕ)
-      → repeats f (take n (a ∷ b ∷ c ∷ e ∷ []))
-      ≡ ltb 1 n && f a b || ltb 2 n && (f a c || f b c) || ltb 3 n && (f a e || f b e || f c e)
-  repeats-of zero = refl
-  repeats-of (suc zero) = refl
-  repeats-of (suc (suc zero)) = refl
-  repeats-of (suc (suc (suc zero))) = three (f a b) (f a c) (f b c)
-  repeats-of (suc (suc (suc (suc n)))) =
-      rw (above n 1 (omega arith), above n 2 (omega arith), above n 3 (omega arith))
-      (rw (take-nil {A = A} n) (six (f a b) (f a c) (f a e) (f b c) (f b e) (f c e)))
-
 -- the test of the slot at a place
 abbrev pub slot : {A : Type 0} → A → List A → (A → Bool) → (A → Bool) → ℕ → ℕ → Bool
 slot d x u z n place = cond (ltb place n) (u (get_or x place d)) (z (get_or x place d))
@@ -143,68 +113,6 @@ module _ {A : Type 0} (d : A) (x : List A) (long : length x ≡ 4) where
       (sym (any_of f (get_or x 0 d) (get_or x 1 d) (get_or x 2 d) (get_or x 3 d) n)
       ∙ ap (λ (l : List A). any f (take n l)) (four d x long))
 
-  -- two used slots match
-  pub repeats-by : (f : A → A → Bool) (n : ℕ) {ab ac bc ae be ce : Bool}
-      → ab ≡ f (get_or x 0 d) (get_or x 1 d) → ac ≡ f (get_or x 0 d) (get_or x 2 d) → bc ≡ f (get_or x 1 d) (get_or x 2 d)
-      → ae ≡ f (get_or x 0 d) (get_or x 3 d) → be ≡ f (get_or x 1 d) (get_or x 3 d) → ce ≡ f (get_or x 2 d) (get_or x 3 d)
-      → ltb 1 n && ab || ltb 2 n && (ac || bc) || ltb 3 n && (ae || be || ce) ≡ repeats f (take n x)
-  repeats-by f n eab eac ebc eae ebe ece =
-      rw (eab, eac, ebc, eae, ebe, ece)
-      (sym (repeats-of f (get_or x 0 d) (get_or x 1 d) (get_or x 2 d) (get_or x 3 d) n)
-      ∙ ap (λ (l : List A). repeats f (take n l)) (four d x long))
-
-  -- slot by slot, up to the first that matches an earlier one
-  module _ (f : A → A → Bool) (n : ℕ) where
-    abbrev pair : ℕ → ℕ → Bool
-    pair i k = f (get_or x i d) (get_or x k d)
-
-    tests : ltb 1 n && pair 0 1 || ltb 2 n && (pair 0 2 || pair 1 2) || ltb 3 n && (pair 0 3 || pair 1 3 || pair 2 3)
-        ≡ repeats f (take n x)
-    tests = repeats-by f n refl refl refl refl refl refl
-
-    pub repeat_1 : n < 2 → false ≡ repeats f (take n x)
-    repeat_1 h = rw (le-ltb 1 n (omega arith), le-ltb 2 n (omega arith), le-ltb 3 n (omega arith)) at tests
-
-    pub repeat_2 : 2 ≤ n → pair 0 1 ≡ true → true ≡ repeats f (take n x)
-    repeat_2 h y = rw (lt-ltb 1 n (omega arith), y) at tests
-
-    module _ (two : pair 0 1 ≡ false) where
-      pub repeat_3 : 2 ≤ n → n < 3 → false ≡ repeats f (take n x)
-      repeat_3 h k = rw (lt-ltb 1 n (omega arith), two, le-ltb 2 n (omega arith), le-ltb 3 n (omega arith)) at tests
-
-      pub repeat_4 : 3 ≤ n → pair 0 2 || pair 1 2 ≡ true → true ≡ repeats f (take n x)
-      repeat_4 h y = rw (lt-ltb 1 n (omega arith), two, lt-ltb 2 n (omega arith), y) at tests
-
-      module _ (three : pair 0 2 || pair 1 2 ≡ false) where
-        pub repeat_5 : 3 ≤ n → n < 4 → false ≡ repeats f (take n x)
-        repeat_5 h k =
-            rw (lt-ltb 1 n (omega arith), two, lt-ltb 2 n (omega arith), three, le-ltb 3 n (omega arith)) at tests
-
-        pub repeat_6 : 4 ≤ n → pair 0 3 || pair 1 3 || pair 2 3 ≡ repeats f (take n x)
-        repeat_6 h =
-            rw (lt-ltb 1 n (omega arith), two, lt-ltb 2 n (omega arith), three, lt-ltb 3 n (omega arith)) at tests
-
-  -- the sum over all four
-  pub total-by : (f : A → ℕ) {p q r s : ℕ}
-      → p ≡ f (get_or x 0 d) → q ≡ f (get_or x 1 d) → r ≡ f (get_or x 2 d) → s ≡ f (get_or x 3 d)
-      → p + q + r + s ≡ total f x
-  total-by f ep eq er es = omega (arith, ap (total f) (four d x long))
-
-  -- two lists of four agree
-  pub agree-by : (f : A → A → Bool) (y : List A) → length y ≡ 4 → {p q r s : Bool}
-      → p ≡ f (get_or x 0 d) (get_or y 0 d) → q ≡ f (get_or x 1 d) (get_or y 1 d) → r ≡ f (get_or x 2 d) (get_or y 2 d)
-      → s ≡ f (get_or x 3 d) (get_or y 3 d) → p && q && r && s ≡ agree f x y
-  agree-by f y long' ep eq er es =
-      rw (ep, eq, er, es)
-      (sym
-      (agree_of (get_or x 0 d) (get_or x 1 d) (get_or x 2 d) (get_or x 3 d) (get_or y 0 d) (get_or y 1 d) (get_or y 2 d) (get_or y 3 d))
-      ∙ ap (agree f (get_or x 0 d ∷ get_or x 1 d ∷ get_or x 2 d ∷ get_or x 3 d ∷ [])) (four d y long')
-      ∙ ap (λ (l : List A). agree f l y) (four d x long))
-    where
-      agree_of : (a b c e a' b' c' e' : A)
-          → agree f (a ∷ b ∷ c ∷ e ∷ []) (a' ∷ b' ∷ c' ∷ e' ∷ []) ≡ f a a' && f b b' && f c c' && f e e'
-      agree_of a b c e a' b' c' e' = simp (and_assoc, and-true)
-
 -- Sums: unused slots that are zero add nothing.
 pub total-append : {A : Type 0} (f : A → ℕ) (x y : List A) → total f (x ++ y) ≡ total f x + total f y
 total-append f [] y = omega arith
@@ -235,22 +143,16 @@ total-used f u z none n x h =
     ap (total f) (sym (take-append-drop n x)) ∙ total-append f (take n x) (drop n x) in
     omega arith
 
--- a test over a mapped list, and over two lists one behind the other
-pub any-map : {A B : Type 0} (f : B → Bool) (g : A → B) (x : List A) → any f (map g x) ≡ any (λ (a : A). f (g a)) x
-any-map f g [] = refl
-any-map f g (a ∷ x) = ap (λ (b : Bool). f (g a) || b) (any-map f g x)
-
+-- a test over two lists, one behind the other
 pub any_append : {A : Type 0} (f : A → Bool) (x y : List A) → any f (x ++ y) ≡ any f x || any f y
 any_append f [] y = refl
 any_append f (a ∷ x) y = ap (λ (b : Bool). f a || b) (any_append f x y) ∙ sym (or_assoc (f a) (any f x) (any f y))
 
--- the used slot at a place
-module _ {A : Type 0} (x : List A) (long : length x ≡ 4) (n place : ℕ) where
-  pub used-beyond : 4 ≤ place → ltb place (length (take n x)) ≡ false
-  used-beyond h = le-ltb place (length (take n x)) (rw (length-take n x, long) (omega arith))
+-- the library's test of a list, where a number read off each element is looked for
+listed : {A : Type 0} (f : A → ℕ) (n : ℕ) (xs : List A) → list_any (λ x. eqb n (f x)) xs ≡ any (eqb n) (map f xs)
+listed f n [] = refl
+listed f n (x ∷ xs) = rw (listed f n xs) refl
 
-  pub used-none : n ≤ place → ltb place (length (take n x)) ≡ false
-  used-none h = le-ltb place (length (take n x)) (rw (length-take n x, long) (omega arith))
-
-  pub used-some : place < 4 → place < n → ltb place (length (take n x)) ≡ true
-  used-some h k = lt-ltb place (length (take n x)) (rw (length-take n x, long) (omega arith))
+pub any-of : {A : Type 0} (f : A → ℕ) (n : ℕ) (xs : List A) {found : Bool} → found ≡ list_any (λ x. eqb n (f x)) xs
+    → found ≡ any (eqb n) (map f xs)
+any-of f n xs e = e ∙ listed f n xs

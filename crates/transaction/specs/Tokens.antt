@@ -1,11 +1,9 @@
 -- Document 01, 'Tokens and swaps': what a transaction is made of, and when two of them are the same.
-use Rattle.std.specs.Prelude.{ℕ, Bool, cond, ◌&&◌, List, ◌++◌, map, eqb, ltb, length, get_or, take, replicate}
+use Rattle.std.specs.Prelude.{ℕ, Option, Bool, ◌&&◌, List, ◌++◌, map, eqb, slice_get, take, replicate}
 use Rattle.transaction.specs.declared.TokenId.{TokenId}
 use Rattle.transaction.specs.declared.Input.{Input}
 use Rattle.transaction.specs.declared.Output.{Output}
 use Rattle.transaction.specs.declared.Transaction.{Transaction}
-use Rattle.transaction.specs.declared.parts.InputAt.{InputAt}
-use Rattle.transaction.specs.declared.parts.OutputAt.{OutputAt}
 use Rattle.transaction.specs.Lists.{any, agree}
 
 -- slots that are all zero
@@ -23,13 +21,11 @@ abbrev pub used_outputs : Transaction → List Output
 used_outputs t = take t.output_count t.outputs
 
 -- the used input at a place, counted from 0
-unfoldable pub used_input : Transaction → ℕ → InputAt
-used_input t place =
-    cond (ltb place (length (used_inputs t))) (InputAt.Used (get_or (used_inputs t) place zero_input)) InputAt.Unused
+unfoldable pub used_input : Transaction → ℕ → Option Input
+used_input t place = slice_get (used_inputs t) place
 
-unfoldable pub used_output : Transaction → ℕ → OutputAt
-used_output t place =
-    cond (ltb place (length (used_outputs t))) (OutputAt.Used (get_or (used_outputs t) place zero_output)) OutputAt.Unused
+unfoldable pub used_output : Transaction → ℕ → Option Output
+used_output t place = slice_get (used_outputs t) place
 
 -- its shards (document 01: its pantries) are those of its inputs and outputs
 abbrev pub input_shard : Input → ℕ

@@ -12,7 +12,7 @@ pub mod parts; // the used slots, and the shards that take part
 
 // A token's id (document 01: a token's name): the shard (pantry) that holds it, the number of the
 // transaction that made it (0 for a genesis token), and its index (position).
-#[derive(Clone, Copy)]
+#[derive(Clone, Copy, PartialEq, Eq)]
 pub struct TokenId {
     pub shard: u8,
     pub creator: u32,
@@ -20,7 +20,7 @@ pub struct TokenId {
 }
 
 // The token that a transaction destroys, with its owner (household) and amount (portions).
-#[derive(Clone, Copy)]
+#[derive(Clone, Copy, PartialEq, Eq)]
 pub struct Input {
     pub token: TokenId,
     pub owner: u32,
@@ -28,7 +28,7 @@ pub struct Input {
 }
 
 // A token that a transaction makes; its index is its place among all outputs.
-#[derive(Clone, Copy)]
+#[derive(Clone, Copy, PartialEq, Eq)]
 pub struct Output {
     pub shard: u8,
     pub owner: u32,
@@ -36,7 +36,7 @@ pub struct Output {
 }
 
 // A transaction (document 01: a swap). The counts say how many slots are used.
-#[derive(Clone, Copy)]
+#[derive(Clone, Copy, PartialEq, Eq)]
 pub struct Transaction {
     pub number: u32,
     pub input_count: u8,

@@ -42,22 +42,6 @@ front l xs n q h e =
     e ∙ sets-eq xs l 0 (rw (zero-add, q) h) ∙ rw (zero-add, q) refl
 
 -- the lengths of the parts of a record, and of the whole
-pub length-word : (v : ℕ) → length (word_of v) ≡ 4
-unfolding word_of
-length-word v = refl
-
-pub length-input : (x : Input) → length (input_bytes x) ≡ 14
-unfolding word_of input_bytes
-length-input x = refl
-
-pub length-output : (y : Output) → length (output_bytes y) ≡ 9
-unfolding word_of output_bytes
-length-output y = refl
-
-pub length-inputs : (x : List Input) → length (inputs_bytes x) ≡ 56
-unfolding word_of input_bytes inputs_bytes
-length-inputs x = refl
-
 pub length-transaction : (t : Transaction) → length (transaction_bytes t) ≡ 98
 unfolding word_of input_bytes output_bytes inputs_bytes outputs_bytes transaction_bytes
 length-transaction t = refl
