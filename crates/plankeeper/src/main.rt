@@ -128,32 +128,32 @@ impl Output {
 }
 
 // The records among the unread bytes, their lines behind those that wait.
-fn list_part(c: &mut Cluster, number: u64, input: &mut Input, output: &mut Output) -> Progress
-    requires { Sound c.old }
-    ensures { ListsAll c.old number (slice_range input.old.bytes input.old.at input.old.end)
+fn list_part(cluster: &mut Cluster, number: u64, input: &mut Input, output: &mut Output) -> Progress
+    requires { Sound cluster.old }
+    ensures { ListsAll cluster.old number (slice_range input.old.bytes input.old.at input.old.end)
         (cond input.old.ended 0 RECORD) (drop output.old.used output.old.bytes) result
-        c.new (drop output.old.used output.new.bytes) }
+        cluster.new (drop output.old.used output.new.bytes) }
 {
     let room = &mut output.bytes[output.used..];
-    let part = list_records(c, number, input.unread(), input.wanted(), room);
+    let part = list_records(cluster, number, input.unread(), input.wanted(), room);
     output.used += part.used;
     input.listed(part.taken, part.ends);
     part
 }
 
 // The lines that wait, and the last one.
-fn finish(c: &Cluster, output: &mut Output) -> io::Result<()>
-    requires { Sound c.now }
+fn finish(cluster: &Cluster, output: &mut Output) -> io::Result<()>
+    requires { Sound cluster.now }
 {
     let mut line = [0u8; 64];
-    let size = listing::total(c, &mut line);
+    let size = listing::total(cluster, &mut line);
     output.print()?;
     output.stream.write_all(&line[..size])
 }
 
 // Every record's line, and the last one. After a write that failed nothing more is listed.
-fn list_all(c: &mut Cluster, input: &mut Input, output: &mut Output) -> io::Result<()>
-    requires { Sound c.old }
+fn list_all(cluster: &mut Cluster, input: &mut Input, output: &mut Output) -> io::Result<()>
+    requires { Sound cluster.old }
 {
     let mut number = 1;
     input.fill();
@@ -161,20 +161,20 @@ fn list_all(c: &mut Cluster, input: &mut Input, output: &mut Output) -> io::Resu
         if input.unread().is_empty() {
             break;
         }
-        number = list_part(c, number, input, output).number;
+        number = list_part(cluster, number, input, output).number;
         let printed = output.make_room();
         // Stays: the next bytes are read before a failed write is looked at, as the program always did.
         input.fill();
         printed?;
     }
-    finish(c, output)
+    finish(cluster, output)
 }
 
 fn main(rt: HostRuntime) {
-    let mut c = [[0u32; SHARD_WORDS]; 8];
-    cluster::new(&mut c);
+    let mut cluster = [[0u32; SHARD_WORDS]; 8];
+    cluster::new(&mut cluster);
     let mut input = Input::new(rt.stdin());
     let mut output = Output::new(rt.stdout());
     // A write that failed ends the program without a word.
-    let _ = list_all(&mut c, &mut input, &mut output);
+    let _ = list_all(&mut cluster, &mut input, &mut output);
 }
