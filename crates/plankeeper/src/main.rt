@@ -2,7 +2,7 @@
 // and the total.
 #![tactic(auto)]
 
-ghost use Rattle.std.specs.Prelude.{◌≡◌, ◌+◌, ◌-◌, ◌≤◌, ◌<◌, cond, drop, slice_range};
+ghost use Rattle.std.specs.Prelude.{◌≡◌, ◌+◌, ◌-◌, ◌≤◌, ◌<◌, cond, drop, slice_range, OnOk};
 ghost use Rattle.cluster.specs.View.{Sound};
 ghost use Rattle.listing.specs.Buffers.{ListsAll};
 ghost use Rattle.plankeeper.specs.declared.TheConstants.{BUFFER};
@@ -83,7 +83,9 @@ impl Input {
     }
 
     // As many bytes as are wanted.
-    fn fill(&mut self) {
+    fn fill(&mut self)
+        ensures { cond self.new.ended 0 RECORD ≤ self.new.end - self.new.at }
+    {
         while self.end - self.at < self.wanted() {
             self.read_more();
         }
@@ -111,14 +113,18 @@ impl Output {
     }
 
     // Prints all that wait.
-    fn print(&mut self) -> io::Result<()> {
+    fn print(&mut self) -> io::Result<()>
+        ensures { OnOk result (self.new.used ≡ 0) }
+    {
         self.stream.write_all(&self.bytes[..self.used])?;
         self.used = 0;
         Ok(())
     }
 
     // Where little room is left, all that wait are printed.
-    fn make_room(&mut self) -> io::Result<()> {
+    fn make_room(&mut self) -> io::Result<()>
+        ensures { OnOk result (self.new.used ≤ ROOMY) }
+    {
         if self.used > ROOMY {
             self.print()
         } else {
