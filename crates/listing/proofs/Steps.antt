@@ -2,7 +2,7 @@
 use Prim.Native.Nat.{ℕ}
 use native.Mathlib.Omega.{arith}
 use mathlib.Core.Path.{◌≡◌, refl, sym, ap, ◌∙◌, subst}
-use mathlib.Core.Bool.{Bool, false}
+use mathlib.Core.Bool.{false}
 use mathlib.Core.List.{List, [], ◌∷◌}
 use lib.Dec.{leb}
 use Rattle.reader.specs.declared.Record.{Record}
@@ -32,16 +32,17 @@ module _ (before : List (List ℕ)) (step : ℕ) (l lent : List ℕ) (at : ℕ) 
   taken-of = ap (λ (x : Reading). x.taken) reads.whole
 
   -- refused by the reader
-  pub refused : {number cause behind : ℕ} {out : List ℕ} → Sound before → r.answer ≡ Refused number
+  pub refused : {number cause behind : ℕ} {line out : List ℕ} → Sound before → r.answer ≡ Refused number
       → cause ≡ number_of r.answer
-      → Puts lent at (line_of step (45 ∷ []) (answer.Refused cause)) 64 out behind
+      → line ≡ line_of step (45 ∷ []) (answer.Refused cause)
+      → Puts lent at line 64 out behind
       → Lists before step l lent at (record { at = behind; taken = r.taken; ends = leb cause 2 }) before out
   unfolding step_of shown_as
-  refused {number} {cause} sound e k s =
+  refused {number} {cause} {behind} {line} {out} sound e k is s =
       let n : cause ≡ number = k ∙ ap number_of e in
       let a : (reading_of l).answer ≡ Refused cause = answer-of ∙ e ∙ ap Refused (sym n) in
       record {
-        shows = rw a s;
+        shows = rw a (subst (λ (x : List ℕ). Puts lent at x 64 out behind) is s);
         taken = taken-of;
         part = omega (arith, taken-of, taken-within l);
         ends = rw a refl;
@@ -50,22 +51,23 @@ module _ (before : List (List ℕ)) (step : ℕ) (l lent : List ℕ) (at : ℕ) 
       }
 
   -- read, and carried out or refused by the cluster
-  pub carried : {fields : Record} {reply : Answer} {after : List (List ℕ)} {hidden : Bool} {receiver behind : ℕ} {out : List ℕ}
+  pub carried : {fields : Record} {reply : Answer} {after : List (List ℕ)} {receiver behind : ℕ} {place line out : List ℕ}
       → r.answer ≡ Read fields
       → Steps before (call_of fields r.transaction) reply after
-      → hidden ≡ unplaced reply
       → receiver ≡ receiver_of fields
-      → Puts lent at (line_of step (place_word hidden receiver) reply) 64 out behind
+      → place ≡ place_word (unplaced reply) receiver
+      → line ≡ line_of step place reply
+      → Puts lent at line 64 out behind
       → Lists before step l lent at (record { at = behind; taken = r.taken; ends = false }) after out
   unfolding step_of shown_as
-  carried {fields} {reply} {after} {hidden} {receiver} {behind} {out} e k h p s =
+  carried {fields} {reply} {after} {receiver} {behind} {place} {line} {out} e k p h w s =
       let done = cluster_step house (view before) (call_of fields r.transaction) in
       let is : step_of (view before) step l ≡ shown_call step (receiver_of fields) done =
       rw (answer-of ∙ e, transaction-of) refl in
-      let line : line_of step (place_word hidden receiver) reply ≡ (step_of (view before) step l).line =
-      rw (h, p, k.answered) (sym (ap (λ (x : Shown). x.line) is)) in
+      let whole : line ≡ (step_of (view before) step l).line =
+      w ∙ rw (h, p, k.answered) (sym (ap (λ (x : Shown). x.line) is)) in
       record {
-        shows = subst (λ (x : List ℕ). Puts lent at x 64 out behind) line s;
+        shows = subst (λ (x : List ℕ). Puts lent at x 64 out behind) whole s;
         taken = taken-of;
         part = omega (arith, taken-of, taken-within l);
         ends = sym (ap (λ (x : Shown). x.ends) is);

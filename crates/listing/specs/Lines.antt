@@ -1,6 +1,6 @@
 -- Document 01, 'The listing program': the bytes of a line. A line is its step, its shard (pantry) and its words, one
 -- space apart, ended by byte 10.
-use Rattle.std.specs.Prelude.{ℕ, zero, suc, ◌+◌, ◌/◌, ◌%◌, Bool, false, cond, List, [], ◌∷◌, ◌++◌, leb, ltb}
+use Rattle.std.specs.Prelude.{ℕ, zero, suc, ◌+◌, ◌/◌, ◌%◌, Bool, false, cond, List, [], ◌∷◌, ◌++◌, leb, ltb, Option, None, Some}
 use Rattle.model.specs.declared.Answer.{Answer}
 use Rattle.model.specs.declared.Answer.TheVariants.{Refused, Minted, Registered, Heard, Again, Turned, Brought}
 use Rattle.model.specs.Answers.{answer_words}
@@ -42,6 +42,11 @@ unplaced (Brought verdict outcome) = false
 -- the shard, or "-"
 abbrev pub place_word : Bool → ℕ → List ℕ
 place_word hidden shard = cond hidden (45 ∷ []) (decimal shard)
+
+-- the shard that is shown, or "-" for none
+abbrev pub place_text : Option ℕ → List ℕ
+place_text None = 45 ∷ []
+place_text (Some shard) = decimal shard
 
 -- the line of a step
 unfoldable pub line_of : ℕ → List ℕ → Answer → List ℕ
