@@ -2,16 +2,17 @@
 use Prim.Native.Nat.{ℕ}
 use native.Mathlib.Omega.{arith}
 use mathlib.Core.Path.{◌≡◌, refl, sym, ap, ◌∙◌, subst}
-use mathlib.Core.Bool.{false}
+use mathlib.Core.Bool.{Bool, false}
 use mathlib.Core.List.{List, [], ◌∷◌}
 use lib.Dec.{leb}
+use Rattle.std.specs.Prelude.{Ok, Err}
+use Rattle.transaction.specs.declared.refusal.Refusal.{Refusal}
+use Rattle.transaction.specs.Refusals.{refusal_number}
 use Rattle.reader.specs.declared.Record.{Record}
-use Rattle.reader.specs.declared.Answer.TheVariants.{Read, Refused}
 use Rattle.reader.specs.declared.Reading.{Reading}
-use Rattle.reader.specs.Reading.{taken_of, number_of, reading_of, Reads}
+use Rattle.reader.specs.Reading.{taken_of, reading_of, Reads}
 use Rattle.reader.proofs.Cases.{taken-within}
-use Rattle.model.specs.declared.Answer.{Answer}
-use Rattle.model.specs.declared.Answer.TheVariants as answer
+use Rattle.model.specs.Answers.{Answer}
 use Rattle.model.specs.Steps.{house}
 use Rattle.model.specs.Cluster.{cluster_step}
 use Rattle.cluster.specs.View.{view, Sound, Steps}
@@ -32,27 +33,26 @@ module _ (before : List (List ℕ)) (step : ℕ) (l lent : List ℕ) (at : ℕ) 
   taken-of = ap (λ (x : Reading). x.taken) reads.whole
 
   -- refused by the reader
-  pub refused : {number cause behind : ℕ} {line out : List ℕ} → Sound before → r.answer ≡ Refused number
-      → cause ≡ number_of r.answer
-      → line ≡ line_of step (45 ∷ []) (answer.Refused cause)
+  pub refused : {cause : Refusal} {behind : ℕ} {line out : List ℕ} {ends : Bool} → Sound before → r.answer ≡ Err cause
+      → line ≡ line_of step (45 ∷ []) (Err cause)
       → Puts lent at line 64 out behind
-      → Lists before step l lent at (record { at = behind; taken = r.taken; ends = leb cause 2 }) before out
+      → ends ≡ leb (refusal_number cause) 2
+      → Lists before step l lent at (record { at = behind; taken = r.taken; ends = ends }) before out
   unfolding step_of shown_as
-  refused {number} {cause} {behind} {line} {out} sound e k is s =
-      let n : cause ≡ number = k ∙ ap number_of e in
-      let a : (reading_of l).answer ≡ Refused cause = answer-of ∙ e ∙ ap Refused (sym n) in
+  refused {cause} {behind} {line} {out} {ends} sound e is s last =
+      let a : (reading_of l).answer ≡ Err cause = answer-of ∙ e in
       record {
         shows = rw a (subst (λ (x : List ℕ). Puts lent at x 64 out behind) is s);
         taken = taken-of;
         part = omega (arith, taken-of, taken-within l);
-        ends = rw a refl;
+        ends = rw a last;
         ledgers = rw a refl;
         sound = sound;
       }
 
   -- read, and carried out or refused by the cluster
   pub carried : {fields : Record} {reply : Answer} {after : List (List ℕ)} {receiver behind : ℕ} {place line out : List ℕ}
-      → r.answer ≡ Read fields
+      → r.answer ≡ Ok fields
       → Steps before (call_of fields r.transaction) reply after
       → receiver ≡ receiver_of fields
       → place ≡ place_word (unplaced reply) receiver

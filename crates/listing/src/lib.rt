@@ -1,8 +1,8 @@
 // The listing: document 01, 'The listing program'. Each line's bytes and the total; the program only reads and prints.
 #![tactic(auto)]
 
-ghost use Rattle.std.specs.Prelude.{◌≡◌, ◌+◌, ◌≤◌, length};
-ghost use Rattle.reader.specs.Reading.{number_of};
+ghost use Rattle.std.specs.Prelude.{◌≡◌, ◌+◌, ◌≤◌, leb, length};
+ghost use Rattle.transaction.specs.Refusals.{refusal_number};
 ghost use Rattle.cluster.specs.View.{view, Sound};
 ghost use Rattle.model.specs.Totals.{total_held};
 ghost use Rattle.listing.specs.Lines.{unplaced, place_word, place_text, total_line};
@@ -15,6 +15,7 @@ use cluster::Cluster;
 use line::Line;
 use model::Answer;
 use reader::Record;
+use transaction::refusal::Refusal;
 
 mod line; // the bytes of a line
 
@@ -37,16 +38,6 @@ pub struct Progress {
     pub ends: bool,
 }
 
-// The number of a refusal, 0 where a record was read.
-fn cause_of(answer: reader::Answer) -> u8
-    ensures { result ≡ number_of answer }
-{
-    match answer {
-        reader::Answer::Read(_) => 0,
-        reader::Answer::Refused(number) => number,
-    }
-}
-
 // A record's receiving shard.
 fn receiver_of(fields: Record) -> u8
     ensures { result ≡ receiver_of fields }
@@ -64,9 +55,16 @@ fn place_of(answer: Answer, receiver: u8) -> Option<u8>
     ensures { place_text result ≡ place_word (unplaced answer) receiver }
 {
     match answer {
-        Answer::Refused(number) if number <= 5 => None,
+        Err(refusal) if u8::from(refusal) <= 5 => None,
         _ => Some(receiver),
     }
+}
+
+// No whole record stands at the front: nothing behind it is read.
+fn ends_reading(refusal: Refusal) -> bool
+    ensures { result ≡ leb (refusal_number refusal) 2 }
+{
+    matches!(refusal, Refusal::UnknownKind | Refusal::TooShort)
 }
 
 // The record at the front of the bytes: its call, made on the lent cluster, and its line, stored from a place on.
@@ -78,21 +76,24 @@ pub(crate) fn step(c: &mut Cluster, number: u64, bytes: &[u8], out: &mut [u8], a
         c.new out.new }
 {
     let reading = reader::read(bytes);
-    let reader::Answer::Read(fields) = reading.answer else {
-        let cause = cause_of(reading.answer);
-        let line = Line::of_step(number, None, Answer::Refused(cause));
-        return Listed {
-            at: line.store(out, at),
-            taken: reading.taken,
-            ends: cause <= 2,
-        };
-    };
-    let answer = call(c, fields, reading.transaction);
-    let line = Line::of_step(number, place_of(answer, receiver_of(fields)), answer);
-    Listed {
-        at: line.store(out, at),
-        taken: reading.taken,
-        ends: false,
+    match reading.answer {
+        Ok(fields) => {
+            let answer = call(c, fields, reading.transaction);
+            let line = Line::of_step(number, place_of(answer, receiver_of(fields)), answer);
+            Listed {
+                at: line.store(out, at),
+                taken: reading.taken,
+                ends: false,
+            }
+        }
+        Err(refusal) => {
+            let line = Line::of_step(number, None, Err(refusal));
+            Listed {
+                at: line.store(out, at),
+                taken: reading.taken,
+                ends: ends_reading(refusal),
+            }
+        }
     }
 }
 

@@ -4,7 +4,7 @@ ghost use Rattle.model.specs.Answers.{outcome_word, verdict_word};
 ghost use Rattle.listing.specs.Lines.{decimal, spaced, words_of, place_text, line_of, total_line};
 ghost use Rattle.listing.specs.Parts.{Puts};
 
-use model::{Answer, Outcome};
+use model::{Answer, Done, Outcome};
 use std::marker::Model;
 
 // The bytes of a line, 64 at most.
@@ -122,17 +122,17 @@ impl Line {
         ensures within { length self.new ≤ length self.old + 13 }
     {
         match answer {
-            Answer::Refused(number) => {
+            Err(refusal) => {
                 self.word(b"REFUSED");
-                self.small(number);
+                self.small(u8::from(refusal));
             }
-            Answer::Minted => self.word(b"OPENED"),
-            Answer::Registered(verdict, outcome) | Answer::Brought(verdict, outcome) => {
+            Ok(Done::Minted) => self.word(b"OPENED"),
+            Ok(Done::Registered(verdict, outcome)) | Ok(Done::Brought(verdict, outcome)) => {
                 self.words(verdict_text(verdict), outcome_text(outcome))
             }
-            Answer::Heard(outcome) => self.words(b"HEARD", outcome_text(outcome)),
-            Answer::Again(outcome) => self.words(b"AGAIN", outcome_text(outcome)),
-            Answer::Turned => self.word(b"TURNED"),
+            Ok(Done::Heard(outcome)) => self.words(b"HEARD", outcome_text(outcome)),
+            Ok(Done::Again(outcome)) => self.words(b"AGAIN", outcome_text(outcome)),
+            Ok(Done::Turned) => self.word(b"TURNED"),
         }
     }
 
