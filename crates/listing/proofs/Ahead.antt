@@ -4,11 +4,11 @@ use native.Mathlib.Omega.{arith}
 use mathlib.Core.Path.{◌≡◌, refl, sym, ap, ◌∙◌}
 use mathlib.Core.Bool.{Bool, true, false}
 use mathlib.Core.List.{List, ◌++◌}
-use borrow.Author.Tests.{eqb-true, eqb-false}
 use lib.Dec.{eqb}
 use lib.ListN.{length, drop, get_or-append, length-append}
 use lib.Seq.{drop-append-le}
-use Rattle.reader.specs.declared.Answer.TheVariants.{Refused}
+use Rattle.std.specs.Prelude.{Result, Ok, Err, Option, Some, None, unwrap_or}
+use Rattle.transaction.specs.declared.refusal.Refusal.{Refusal}
 use Rattle.reader.specs.declared.Reading.{Reading}
 use Rattle.reader.specs.Layout.{byte_at, word_at, body_length, input_at, output_at, inputs_at, outputs_at, transaction_at}
 use Rattle.reader.specs.Reading.{kind_of, head_cause, read_cause, record_at, transaction_in, taken_of, reading_of, rest_of}
@@ -27,11 +27,11 @@ use Rattle.model.specs.Steps.{Ledger}
 use Rattle.listing.specs.Listing.{step_of}
 
 -- no kind's body is longer
-body_most : (k : ℕ) → body_length k ≤ 101
+body_most : (k : ℕ) → unwrap_or (body_length k) 0 ≤ 101
 unfolding body_length
 body_most k = go (eqb k 1) (eqb k 2) (eqb k 3) (eqb k 4) refl refl refl refl
   where
-    go : (a b c d : Bool) → eqb k 1 ≡ a → eqb k 2 ≡ b → eqb k 3 ≡ c → eqb k 4 ≡ d → body_length k ≤ 101
+    go : (a b c d : Bool) → eqb k 1 ≡ a → eqb k 2 ≡ b → eqb k 3 ≡ c → eqb k 4 ≡ d → unwrap_or (body_length k) 0 ≤ 101
     go true b c d ea eb ec ed = rw ea (omega arith)
     go false true c d ea eb ec ed = rw (ea, eb) (omega arith)
     go false false true d ea eb ec ed = rw (ea, eb, ec) (omega arith)
@@ -92,18 +92,16 @@ module _ (l x : List ℕ) (long : 102 ≤ length l) where
   kind = byte 0 (omega arith)
 
   head-same : head_cause (l ++ x) ≡ head_cause l
-  head-same = go (eqb (body_length (kind_of l)) 0) refl
+  head-same = go (body_length (kind_of l)) refl
     where
-      go : (b : Bool) → eqb (body_length (kind_of l)) 0 ≡ b → head_cause (l ++ x) ≡ head_cause l
-      go true e =
-          let z : body_length (kind_of l) ≡ 0 = eqb-true (body_length (kind_of l)) 0 e in
-          sym (head-unknown (l ++ x) (λ q. omega (arith, longer)) (ap body_length (sym kind)) z)
-          ∙ head-unknown l (λ q. omega arith) refl z
-      go false e =
-          let z : body_length (kind_of l) ≡ 0 → ⊥ = eqb-false (body_length (kind_of l)) 0 e in
-          sym
-          (head-whole (l ++ x) (λ q. omega (arith, longer)) (ap body_length (sym kind)) z (omega (arith, longer, body_most (kind_of l))))
-          ∙ head-whole l (λ q. omega arith) refl z (omega (arith, body_most (kind_of l)))
+      go : (found : Option ℕ) → body_length (kind_of l) ≡ found → head_cause (l ++ x) ≡ head_cause l
+      go None e =
+          sym (head-unknown (l ++ x) (λ q. omega (arith, longer)) (sym e ∙ ap body_length (sym kind)))
+          ∙ head-unknown l (λ q. omega arith) (sym e)
+      go (Some n) e =
+          let most : n ≤ 101 = rw e at (body_most (kind_of l)) in
+          sym (head-whole (l ++ x) (λ q. omega (arith, longer)) (sym e ∙ ap body_length (sym kind)) (omega (arith, longer, most)))
+          ∙ head-whole l (λ q. omega arith) (sym e) (omega (arith, most))
 
   fields-same : record_at (l ++ x) ≡ record_at l
   unfolding record_at
@@ -115,7 +113,7 @@ module _ (l x : List ℕ) (long : 102 ≤ length l) where
   unfolding transaction_in
   transaction-same = rw (kind, transaction 2 (omega arith), transaction 4 (omega arith)) refl
 
-  cause-same : head_cause l ≡ 0 → read_cause (l ++ x) ≡ read_cause l
+  cause-same : head_cause l ≡ Ok tt → read_cause (l ++ x) ≡ read_cause l
   cause-same h =
       by_kinds l h (read_cause (l ++ x) ≡ read_cause l)
       (λ k.
@@ -138,19 +136,15 @@ module _ (l x : List ℕ) (long : 102 ≤ length l) where
 
   same_reading : Same
   unfolding reading_of
-  same_reading = go (eqb (head_cause l) 0) refl
+  same_reading = go (head_cause l) refl
     where
-      go : (b : Bool) → eqb (head_cause l) 0 ≡ b → Same
-      go true e =
-          let h : head_cause l ≡ 0 = eqb-true (head_cause l) 0 e in
-          (rw (cause-same h, fields-same) refl, rw (cause-same h, transaction-same) refl)
-      go false e =
-          let n : head_cause l ≡ 0 → ⊥ = eqb-false (head_cause l) 0 e in
-          let m : head_cause (l ++ x) ≡ 0 → ⊥ = λ q. n (sym head-same ∙ q) in (
-            sym (ap (λ (r : Reading). r.answer) (reading_none (l ++ x) m)) ∙ ap Refused head-same
-                ∙ ap (λ (r : Reading). r.answer) (reading_none l n),
-            sym (ap (λ (r : Reading). r.transaction) (reading_none (l ++ x) m))
-                ∙ ap (λ (r : Reading). r.transaction) (reading_none l n),
+      go : (found : Result Unit Refusal) → head_cause l ≡ found → Same
+      go (Ok tt) e = (rw (cause-same e, fields-same) refl, rw (cause-same e, transaction-same) refl)
+      go (Err cause) e =
+          let there = reading_none (l ++ x) (head-same ∙ e) in
+          let here = reading_none l e in (
+            sym (ap (λ (r : Reading). r.answer) there) ∙ ap (λ (r : Reading). r.answer) here,
+            sym (ap (λ (r : Reading). r.transaction) there) ∙ ap (λ (r : Reading). r.transaction) here,
           )
 
   pub same_step : (shards : List Ledger) (step : ℕ) → step_of shards step (l ++ x) ≡ step_of shards step l
@@ -158,10 +152,10 @@ module _ (l x : List ℕ) (long : 102 ≤ length l) where
   same_step shards step = rw (same_reading.0, same_reading.1) refl
 
   -- the bytes behind the record, where one stands there
-  pub same_rest : head_cause l ≡ 0 → rest_of (l ++ x) ≡ rest_of l ++ x
+  pub same_rest : head_cause l ≡ Ok tt → rest_of (l ++ x) ≡ rest_of l ++ x
   unfolding rest_of
   same_rest h =
       let t : taken_of (l ++ x) ≡ taken_of l =
-      taken_record (l ++ x) (head-same ∙ h) ∙ ap (λ (k : ℕ). body_length k + 1) kind ∙ sym (taken_record l h) in
+      taken_record (l ++ x) (head-same ∙ h) ∙ ap (λ (k : ℕ). unwrap_or (body_length k) 0 + 1) kind ∙ sym (taken_record l h) in
       ap (λ (k : ℕ). drop k (l ++ x)) t
       ∙ drop-append-le (taken_of l) l x (omega (arith, taken_record l h, body_most (kind_of l)))

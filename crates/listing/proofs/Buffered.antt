@@ -4,20 +4,25 @@
 -- the input was cut into parts. This is what the program does between its system calls.
 --
 -- The contracts are read off the functions, as in Whole.antt.
-use Prim.Native.Nat.{ℕ, zero, suc, ◌+◌, ◌-◌, ◌≤◌}
+use Prim.Native.Nat.{ℕ, zero, suc, ◌-◌, ◌≤◌}
 use native.Mathlib.Omega.{arith}
 use mathlib.Core.Path.{◌≡◌, refl, sym, ap, ◌∙◌}
 use mathlib.Core.Bool.{Bool, true, false, cond}
-use mathlib.Core.List.{List, [], ◌++◌, append_assoc, append-nil}
+use mathlib.Core.List.{List, [], ◌∷◌, ◌++◌, append_assoc, append-nil}
 use mathlib.Core.Logic.{◌⊎◌, inl, inr}
-use borrow.Author.Tests.{eqb-true, eqb-false, leb-false}
+use borrow.Author.Tests.{leb-false}
 use lib.Dec.{eqb, leb}
 use lib.ListN.{length, take, drop, length-append}
 use lib.Seq.{take_at}
 use contract.Lifetimes.{Lfts}
+use Rattle.std.specs.Prelude.{Result, Ok, Err, is_none}
+use Rattle.transaction.specs.declared.refusal.Refusal.{Refusal}
+use Rattle.transaction.specs.declared.refusal.Refusal.TheVariants.{UnknownKind, TooShort}
+use Rattle.transaction.specs.Refusals.{refusal_number, number_of}
+use Rattle.transaction.specs.Lists.{first_of}
 use Rattle.reader.specs.declared.Reading.{Reading}
 use Rattle.reader.specs.Layout.{body_length}
-use Rattle.reader.specs.Reading.{kind_of, head_cause, reading_of, rest_of}
+use Rattle.reader.specs.Reading.{kind_of, body_of, head_cause, reading_of, rest_of}
 use Rattle.reader.proofs.Cases.{reading_none}
 use Rattle.model.specs.Steps.{Ledger}
 use Rattle.model.proofs.Basics.{clash}
@@ -66,28 +71,27 @@ pub data PrintsParts : Cluster → ℕ → List ℕ → List ℕ → Type 0 wher
 -- ---- a step on a part is the step on all that is left
 
 -- where reading goes on, a whole record stood at the front
-head-most : (l : List ℕ) → head_cause l ≤ 2
+head-most : (l : List ℕ) → number_of (head_cause l) ≤ 2
 unfolding head_cause
-head-most l = go (eqb (length l) 0) (eqb (body_length (kind_of l)) 0) (leb (length l) (body_length (kind_of l)))
+head-most l = go (eqb (length l) 0) (is_none (body_length (kind_of l))) (leb (length l) (body_of l))
   where
-    go : (a b c : Bool) → cond a 2 (cond b 1 (cond c 2 0)) ≤ 2
+    go : (a b c : Bool) → number_of (first_of ((a, TooShort) ∷ (b, UnknownKind) ∷ (c, TooShort) ∷ [])) ≤ 2
     go true b c = omega arith
     go false true c = omega arith
     go false false true = omega arith
     go false false false = omega arith
 
-stood : (shards : List Ledger) (step : ℕ) (l : List ℕ) → (step_of shards step l).ends ≡ false → head_cause l ≡ 0
+stood : (shards : List Ledger) (step : ℕ) (l : List ℕ) → (step_of shards step l).ends ≡ false → head_cause l ≡ Ok tt
 unfolding step_of shown_as
-stood shards step l e = go (eqb (head_cause l) 0) refl
+stood shards step l e = go (head_cause l) refl
   where
-    go : (b : Bool) → eqb (head_cause l) 0 ≡ b → head_cause l ≡ 0
-    go true y = eqb-true (head_cause l) 0 y
-    go false n =
-        let none = reading_none l (eqb-false (head_cause l) 0 n) in
-        let answer = sym (ap (λ (r : Reading). r.answer) none) in
-        let ends : leb (head_cause l) 2 ≡ false =
+    go : (found : Result Unit Refusal) → head_cause l ≡ found → head_cause l ≡ Ok tt
+    go (Ok tt) h = h
+    go (Err cause) h =
+        let answer = sym (ap (λ (r : Reading). r.answer) (reading_none l h)) in
+        let ends : leb (refusal_number cause) 2 ≡ false =
         sym (ap (λ (a : _). (shown_as shards step a (reading_of l).transaction).ends) answer) ∙ e in
-        absurd (omega (arith, head-most l, leb-false (head_cause l) 2 ends))
+        absurd (omega (arith, ap number_of h, head-most l, leb-false (refusal_number cause) 2 ends))
 
 module _ (wanted : ℕ) (part rest : List ℕ) (fits : Fits wanted rest) (enough : wanted ≤ length part)
     (shards : List Ledger) (step : ℕ) where

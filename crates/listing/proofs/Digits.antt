@@ -1,13 +1,12 @@
 -- The digits that are written are the number in decimal without leading zeros, and a small number has few.
-use Prim.Native.Nat.{ℕ, zero, suc, ◌+◌, ◌-◌, ◌*◌, ◌/◌, ◌%◌, ◌^◌, ◌≤◌, ◌<◌}
+use Prim.Native.Nat.{ℕ, zero, suc, ◌+◌, ◌*◌, ◌/◌, ◌%◌, ◌^◌, ◌≤◌, ◌<◌}
 use native.Mathlib.Nat.{pow-suc}
 use native.Mathlib.Numerals.{sub-one}
 use native.Mathlib.Omega.{arith}
-use mathlib.Core.Path.{◌≡◌, refl, ap, ◌∙◌}
+use mathlib.Core.Path.{◌≡◌, refl}
 use mathlib.Core.Bool.{Bool, true, false}
-use borrow.Author.Tests.{lt-ltb, le-ltb, leb-true, leb-false}
-use lib.Dec.{leb, ltb}
-use lib.Pow.{pow-add}
+use borrow.Author.Tests.{lt-ltb, le-ltb}
+use lib.Dec.{ltb}
 use lib.ListN.{length, length-append}
 use Rattle.io.specs.Digits.{hex_digit_ascii, last_digits, IsDigitCount}
 use Rattle.listing.specs.Lines.{decimal_within, decimal}
@@ -43,18 +42,6 @@ pub spelled : (k n : ℕ) → IsDigitCount 10 1 n k → last_digits 10 k n ≡ d
 unfolding decimal
 spelled zero n f = absurd (omega (arith, f.0))
 spelled (suc j) n f = digits_decimal j (suc n) n f.1 (λ h. rw (sub-one) at (f.2 (omega arith))) (omega arith)
-
--- a number of 64 bits has at most twenty digits
-pub few : (k n : ℕ) → n < 2 ^ 64 → IsDigitCount 10 1 n k → k ≤ 20
-few k n h f = go (leb k 20) refl
-  where
-    go : (b : Bool) → leb k 20 ≡ b → k ≤ 20
-    go true e = leb-true k 20 e
-    go false e =
-        let m : 20 < k = leb-false k 20 e in
-        let i : k - 1 ≡ 20 + (k - 21) = omega arith in
-        let p : 10 ^ (k - 1) ≡ 10 ^ 20 * 10 ^ (k - 21) = ap (λ (x : ℕ). 10 ^ x) i ∙ pow-add 10 20 (k - 21) in
-        absurd (omega (arith, some (k - 21), f.2 (omega arith)))
 
 -- how many digits there are
 short-within : (k enough n : ℕ) → n < 10 ^ suc k → length (decimal_within enough n) ≤ suc k

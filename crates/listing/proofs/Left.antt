@@ -2,11 +2,12 @@
 use Prim.Native.Nat.{ℕ, zero, suc, ◌+◌, ◌≤◌, ◌<◌}
 use native.Mathlib.Omega.{arith}
 use mathlib.Core.Path.{◌≡◌, refl, ap}
-use mathlib.Core.Bool.{Bool, true, false}
+use mathlib.Core.Bool.{true, false}
 use mathlib.Core.List.{List, ◌++◌}
-use borrow.Author.Tests.{eqb-true, eqb-false, eq-eqb, ne_eqb}
-use lib.Dec.{eqb}
+use borrow.Author.Tests.{eq-eqb, ne_eqb}
 use lib.ListN.{length, drop, length-drop}
+use Rattle.std.specs.Prelude.{Result, Ok, Err}
+use Rattle.transaction.specs.declared.refusal.Refusal.{Refusal}
 use Rattle.reader.specs.Reading.{head_cause, taken_of, rest_of}
 use Rattle.reader.proofs.Cases.{taken-all, taken_record}
 use Rattle.model.specs.Steps.{Ledger}
@@ -16,11 +17,11 @@ use Rattle.listing.specs.Listing.{step_of, listing_within}
 
 -- a record takes at least one byte
 pub taken-some : (l : List ℕ) → (length l ≡ 0 → ⊥) → 0 < taken_of l
-taken-some l n = go (eqb (head_cause l) 0) refl
+taken-some l n = go (head_cause l) refl
   where
-    go : (b : Bool) → eqb (head_cause l) 0 ≡ b → 0 < taken_of l
-    go true e = omega (arith, taken_record l (eqb-true (head_cause l) 0 e))
-    go false e = omega (arith, taken-all l (eqb-false (head_cause l) 0 e), n)
+    go : (found : Result Unit Refusal) → head_cause l ≡ found → 0 < taken_of l
+    go (Ok tt) e = omega (arith, taken_record l e)
+    go (Err cause) e = omega (arith, taken-all l e, n)
 
 pub fewer : (l : List ℕ) (n : ℕ) → (length l ≡ 0 → ⊥) → length l ≤ suc n → length (rest_of l) ≤ n
 unfolding rest_of

@@ -1,5 +1,6 @@
 pub mod Digits
 pub mod Stores
+pub mod Text
 pub mod Left
 pub mod Steps
 pub mod Running

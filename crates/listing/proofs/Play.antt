@@ -8,10 +8,11 @@ use mathlib.Core.Bool.{Bool, true, false}
 use mathlib.Core.List.{List, [], ◌∷◌, ◌++◌, append_assoc}
 use lib.Dec.{eqb, leb}
 use lib.ListN.{length}
-use Rattle.reader.specs.declared.Answer as reader
-use Rattle.reader.specs.declared.Answer.TheVariants.{Read, Refused}
+use Rattle.std.specs.Prelude.{Result, Ok, Err}
+use Rattle.transaction.specs.declared.refusal.Refusal.{Refusal}
+use Rattle.transaction.specs.Refusals.{refusal_number}
+use Rattle.reader.specs.declared.Record.{Record}
 use Rattle.reader.specs.Reading.{reading_of, rest_of}
-use Rattle.model.specs.declared.Answer.TheVariants as answer
 use Rattle.model.specs.Steps.{house}
 use Rattle.model.specs.Shard.{Call}
 use Rattle.model.specs.Model as model
@@ -29,11 +30,11 @@ played place before step items =
     ++ total_line (total_held (model.after house place before (calls_of items)).shards)
 
 module _ (place : ℕ) (before : Model) (step : ℕ) (items : List Item) where
-  played-refusal : (number : ℕ)
-      → played place before step (refusal number ∷ items)
-      ≡ line_of step (45 ∷ []) (answer.Refused number) ++ played place before (step + 1) items
+  played-refusal : (cause : Refusal)
+      → played place before step (refusal cause ∷ items)
+      ≡ line_of step (45 ∷ []) (Err cause) ++ played place before (step + 1) items
   unfolding played
-  played-refusal number = append_assoc (line_of step (45 ∷ []) (answer.Refused number)) _ _
+  played-refusal cause = append_assoc (line_of step (45 ∷ []) (Err cause)) _ _
 
   played-call : (receiver : ℕ) (call : Call)
       → played place before step (asked receiver call ∷ items)
@@ -50,21 +51,21 @@ Same enough place before step bytes =
 -- some bytes are left, and the listing behind the first record is the text of its items
 module _ (enough place : ℕ) (before : Model) (step : ℕ) (bytes : List ℕ) (some : eqb (length bytes) 0 ≡ false)
     (further : (place : ℕ) (before : Model) → Same enough place before (step + 1) (rest_of bytes)) where
-  by-refusal : (number : ℕ) (b : Bool) → leb number 2 ≡ b → (reading_of bytes).answer ≡ Refused number
+  by-refusal : (cause : Refusal) (b : Bool) → leb (refusal_number cause) 2 ≡ b → (reading_of bytes).answer ≡ Err cause
       → Same (suc enough) place before step bytes
   unfolding listing_within step_of shown_as items_within item_at played model.after
-  by-refusal number true e a = rw (some, a, e) (sym (played-refusal place before step [] number))
-  by-refusal number false e a =
+  by-refusal cause true e a = rw (some, a, e) (sym (played-refusal place before step [] cause))
+  by-refusal cause false e a =
       rw (some, a, e, further place before)
-      (sym (played-refusal place before step (items_within enough (rest_of bytes)) number))
+      (sym (played-refusal place before step (items_within enough (rest_of bytes)) cause))
 
-  by_answer : (a : reader.Answer) → (reading_of bytes).answer ≡ a → Same (suc enough) place before step bytes
+  by_answer : (a : Result Record Refusal) → (reading_of bytes).answer ≡ a → Same (suc enough) place before step bytes
   unfolding listing_within step_of shown_as items_within item_at model.step
-  by_answer (Read fields) a =
+  by_answer (Ok fields) a =
       let call = call_of fields (reading_of bytes).transaction in
       rw (some, a, further (suc place) (model.step house place before call).0)
       (sym (played-call place before step (items_within enough (rest_of bytes)) (receiver_of fields) call))
-  by_answer (Refused number) a = by-refusal number (leb number 2) refl a
+  by_answer (Err cause) a = by-refusal cause (leb (refusal_number cause) 2) refl a
 
 -- from any model
 from : (enough place : ℕ) (before : Model) (step : ℕ) (bytes : List ℕ) → Same enough place before step bytes

@@ -5,13 +5,14 @@ use mathlib.Core.Path.{◌≡◌, refl, sym, ap, ◌∙◌, subst}
 use mathlib.Core.Bool.{Bool, false}
 use mathlib.Core.List.{List, [], ◌∷◌}
 use lib.Dec.{leb}
+use Rattle.std.specs.Prelude.{Ok, Err}
+use Rattle.transaction.specs.declared.refusal.Refusal.{Refusal}
+use Rattle.transaction.specs.Refusals.{refusal_number}
 use Rattle.reader.specs.declared.Record.{Record}
-use Rattle.reader.specs.declared.Answer.TheVariants.{Read, Refused}
 use Rattle.reader.specs.declared.Reading.{Reading}
-use Rattle.reader.specs.Reading.{taken_of, number_of, reading_of, Reads}
+use Rattle.reader.specs.Reading.{taken_of, reading_of, Reads}
 use Rattle.reader.proofs.Cases.{taken-within}
-use Rattle.model.specs.declared.Answer.{Answer}
-use Rattle.model.specs.declared.Answer.TheVariants as answer
+use Rattle.model.specs.Answers.{Answer}
 use Rattle.model.specs.Steps.{house}
 use Rattle.model.specs.Cluster.{cluster_step}
 use Rattle.cluster.specs.View.{view, Sound, Steps}
@@ -32,40 +33,41 @@ module _ (before : List (List ℕ)) (step : ℕ) (l lent : List ℕ) (at : ℕ) 
   taken-of = ap (λ (x : Reading). x.taken) reads.whole
 
   -- refused by the reader
-  pub refused : {number cause behind : ℕ} {out : List ℕ} → Sound before → r.answer ≡ Refused number
-      → cause ≡ number_of r.answer
-      → Puts lent at (line_of step (45 ∷ []) (answer.Refused cause)) 64 out behind
-      → Lists before step l lent at (record { at = behind; taken = r.taken; ends = leb cause 2 }) before out
+  pub refused : {cause : Refusal} {behind : ℕ} {line out : List ℕ} {ends : Bool} → Sound before → r.answer ≡ Err cause
+      → line ≡ line_of step (45 ∷ []) (Err cause)
+      → Puts lent at line 64 out behind
+      → ends ≡ leb (refusal_number cause) 2
+      → Lists before step l lent at (record { at = behind; taken = r.taken; ends = ends }) before out
   unfolding step_of shown_as
-  refused {number} {cause} sound e k s =
-      let n : cause ≡ number = k ∙ ap number_of e in
-      let a : (reading_of l).answer ≡ Refused cause = answer-of ∙ e ∙ ap Refused (sym n) in
+  refused {cause} {behind} {line} {out} {ends} sound e is s last =
+      let a : (reading_of l).answer ≡ Err cause = answer-of ∙ e in
       record {
-        shows = rw a s;
+        shows = rw a (subst (λ (x : List ℕ). Puts lent at x 64 out behind) is s);
         taken = taken-of;
         part = omega (arith, taken-of, taken-within l);
-        ends = rw a refl;
+        ends = rw a last;
         ledgers = rw a refl;
         sound = sound;
       }
 
   -- read, and carried out or refused by the cluster
-  pub carried : {fields : Record} {reply : Answer} {after : List (List ℕ)} {hidden : Bool} {receiver behind : ℕ} {out : List ℕ}
-      → r.answer ≡ Read fields
+  pub carried : {fields : Record} {reply : Answer} {after : List (List ℕ)} {receiver behind : ℕ} {place line out : List ℕ}
+      → r.answer ≡ Ok fields
       → Steps before (call_of fields r.transaction) reply after
-      → hidden ≡ unplaced reply
       → receiver ≡ receiver_of fields
-      → Puts lent at (line_of step (place_word hidden receiver) reply) 64 out behind
+      → place ≡ place_word (unplaced reply) receiver
+      → line ≡ line_of step place reply
+      → Puts lent at line 64 out behind
       → Lists before step l lent at (record { at = behind; taken = r.taken; ends = false }) after out
   unfolding step_of shown_as
-  carried {fields} {reply} {after} {hidden} {receiver} {behind} {out} e k h p s =
+  carried {fields} {reply} {after} {receiver} {behind} {place} {line} {out} e k p h w s =
       let done = cluster_step house (view before) (call_of fields r.transaction) in
       let is : step_of (view before) step l ≡ shown_call step (receiver_of fields) done =
       rw (answer-of ∙ e, transaction-of) refl in
-      let line : line_of step (place_word hidden receiver) reply ≡ (step_of (view before) step l).line =
-      rw (h, p, k.answered) (sym (ap (λ (x : Shown). x.line) is)) in
+      let whole : line ≡ (step_of (view before) step l).line =
+      w ∙ rw (h, p, k.answered) (sym (ap (λ (x : Shown). x.line) is)) in
       record {
-        shows = subst (λ (x : List ℕ). Puts lent at x 64 out behind) line s;
+        shows = subst (λ (x : List ℕ). Puts lent at x 64 out behind) whole s;
         taken = taken-of;
         part = omega (arith, taken-of, taken-within l);
         ends = sym (ap (λ (x : Shown). x.ends) is);

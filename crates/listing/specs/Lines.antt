@@ -1,9 +1,8 @@
 -- Document 01, 'The listing program': the bytes of a line. A line is its step, its shard (pantry) and its words, one
 -- space apart, ended by byte 10.
-use Rattle.std.specs.Prelude.{ℕ, zero, suc, ◌+◌, ◌/◌, ◌%◌, Bool, false, cond, List, [], ◌∷◌, ◌++◌, leb, ltb}
-use Rattle.model.specs.declared.Answer.{Answer}
-use Rattle.model.specs.declared.Answer.TheVariants.{Refused, Minted, Registered, Heard, Again, Turned, Brought}
-use Rattle.model.specs.Answers.{answer_words}
+use Rattle.std.specs.Prelude.{ℕ, zero, suc, ◌+◌, ◌/◌, ◌%◌, Ok, Err, Bool, false, cond, List, [], ◌∷◌, ◌++◌, leb, ltb, Option, None, Some}
+use Rattle.transaction.specs.Refusals.{refusal_number}
+use Rattle.model.specs.Answers.{Answer, answer_words}
 
 -- a number in decimal without leading zeros; `enough` bounds the count of digits, and a number has no more digits than
 -- one more than itself
@@ -21,27 +20,22 @@ spaced (word ∷ words) = (32 ∷ word) ++ spaced words
 
 -- the words of an answer; behind REFUSED stands its number
 abbrev pub words_of : Answer → List (List ℕ)
-words_of (Refused number) = answer_words (Refused number) ++ (decimal number ∷ [])
-words_of Minted = answer_words Minted
-words_of (Registered verdict outcome) = answer_words (Registered verdict outcome)
-words_of (Heard outcome) = answer_words (Heard outcome)
-words_of (Again outcome) = answer_words (Again outcome)
-words_of Turned = answer_words Turned
-words_of (Brought verdict outcome) = answer_words (Brought verdict outcome)
+words_of (Err refusal) = answer_words (Err refusal) ++ (decimal (refusal_number refusal) ∷ [])
+words_of (Ok done) = answer_words (Ok done)
 
 -- no shard is shown for refusals 1 to 5
 abbrev pub unplaced : Answer → Bool
-unplaced (Refused number) = leb number 5
-unplaced Minted = false
-unplaced (Registered verdict outcome) = false
-unplaced (Heard outcome) = false
-unplaced (Again outcome) = false
-unplaced Turned = false
-unplaced (Brought verdict outcome) = false
+unplaced (Err refusal) = leb (refusal_number refusal) 5
+unplaced (Ok done) = false
 
 -- the shard, or "-"
 abbrev pub place_word : Bool → ℕ → List ℕ
 place_word hidden shard = cond hidden (45 ∷ []) (decimal shard)
+
+-- the shard that is shown, or "-" for none
+abbrev pub place_text : Option ℕ → List ℕ
+place_text None = 45 ∷ []
+place_text (Some shard) = decimal shard
 
 -- the line of a step
 unfoldable pub line_of : ℕ → List ℕ → Answer → List ℕ

@@ -1,13 +1,12 @@
 -- Document 01, 'The listing program': the whole text, by definition.
-use Rattle.std.specs.Prelude.{ℕ, zero, suc, ◌+◌, ◌≤◌, ◌≡◌, Bool, false, cond, List, [], ◌∷◌, ◌++◌, eqb, leb, length}
+use Rattle.std.specs.Prelude.{ℕ, zero, suc, ◌+◌, ◌≤◌, ◌≡◌, Result, Ok, Err, Bool, false, cond, List, [], ◌∷◌, ◌++◌, eqb, leb, length}
 use Rattle.transaction.specs.declared.Transaction.{Transaction}
+use Rattle.transaction.specs.declared.refusal.Refusal.{Refusal}
+use Rattle.transaction.specs.Refusals.{refusal_number}
 use Rattle.reader.specs.declared.Record.{Record}
 use Rattle.reader.specs.declared.Record.TheVariants.{Register, Vote, Mint, Turn}
-use Rattle.reader.specs.declared.Answer as reader
-use Rattle.reader.specs.declared.Answer.TheVariants as reader-answer
 use Rattle.reader.specs.Reading.{reading_of, taken_of, rest_of}
-use Rattle.model.specs.declared.Answer.{Answer}
-use Rattle.model.specs.declared.Answer.TheVariants.{Refused}
+use Rattle.model.specs.Answers.{Answer}
 use Rattle.model.specs.Steps.{Ledger, house}
 use Rattle.model.specs.Cluster.{empty_shards, cluster_step}
 use Rattle.calls.specs.Calls.{call_of}
@@ -39,11 +38,11 @@ abbrev pub shown_call : ℕ → ℕ → List Ledger × Answer → Shown
 shown_call step receiver done = record { line = answer_line step receiver done.1; shards = done.0; ends = false }
 
 -- one that was refused costs its line, with "-"; after 1 or 2 nothing more is read
-unfoldable pub shown_as : List Ledger → ℕ → reader.Answer → Transaction → Shown
-shown_as shards step (reader-answer.Read fields) t =
+unfoldable pub shown_as : List Ledger → ℕ → Result Record Refusal → Transaction → Shown
+shown_as shards step (Ok fields) t =
     shown_call step (receiver_of fields) (cluster_step house shards (call_of fields t))
-shown_as shards step (reader-answer.Refused number) t =
-    record { line = line_of step (45 ∷ []) (Refused number); shards = shards; ends = leb number 2 }
+shown_as shards step (Err refusal) t =
+    record { line = line_of step (45 ∷ []) (Err refusal); shards = shards; ends = leb (refusal_number refusal) 2 }
 
 -- the record at the front of the bytes
 unfoldable pub step_of : List Ledger → ℕ → List ℕ → Shown

@@ -1,24 +1,26 @@
 // The listing: document 01, 'The listing program'. Each line's bytes and the total; the program only reads and prints.
 #![tactic(auto)]
 
-ghost use Rattle.std.specs.Prelude.{◌≡◌, ◌+◌, ◌≤◌, length};
-ghost use Rattle.reader.specs.Reading.{number_of};
+ghost use Rattle.std.specs.Prelude.{◌≡◌, ◌+◌, ◌≤◌, leb, length};
+ghost use Rattle.transaction.specs.Refusals.{refusal_number};
 ghost use Rattle.cluster.specs.View.{view, Sound};
 ghost use Rattle.model.specs.Totals.{total_held};
-ghost use Rattle.listing.specs.Lines.{unplaced, total_line};
+ghost use Rattle.listing.specs.Lines.{unplaced, place_word, place_text, total_line};
 ghost use Rattle.listing.specs.Parts.{Shows};
 ghost use Rattle.listing.specs.Listing.{receiver_of, Lists};
 ghost use Rattle.listing.specs.Buffers.{going, ListsAll};
 
 use calls::call;
 use cluster::Cluster;
+use line::Line;
 use model::Answer;
 use reader::Record;
+use transaction::refusal::Refusal;
 
-mod words; // words stored into lent bytes
-mod lines; // whole lines
+mod line; // the bytes of a line
 
 // The place behind a step's line, the bytes taken from the front, and whether reading ends.
+// Stays: the definition `Lists` and the theorem `whole_listing` name `ends`, and no field is void where it is set.
 #[derive(Clone, Copy)]
 pub struct Listed {
     pub at: usize,
@@ -27,6 +29,7 @@ pub struct Listed {
 }
 
 // The number of the next step, the bytes taken, the bytes of text, and whether reading ends.
+// Stays: the definition `ListsAll` and `whole_listing_by_parts` name `ends`, and no field is void where it is set.
 #[derive(Clone, Copy)]
 pub struct Progress {
     pub number: u64,
@@ -35,93 +38,73 @@ pub struct Progress {
     pub ends: bool,
 }
 
-// The number of a refusal, 0 where a record was read.
-fn cause_of(answer: reader::Answer) -> u8
-    ensures { result ≡ number_of answer }
-{
-    match answer {
-        reader::Answer::Read(_) => 0,
-        reader::Answer::Refused(number) => number,
-    }
-}
-
+// A record's receiving shard.
 fn receiver_of(fields: Record) -> u8
     ensures { result ≡ receiver_of fields }
 {
     match fields {
-        Record::Register { receiver } => receiver,
-        Record::Vote {
-            receiver,
-            sender: _,
-            verdict: _,
-        } => receiver,
-        Record::Mint {
-            receiver,
-            index: _,
-            owner: _,
-            amount: _,
-        } => receiver,
-        Record::Turn { receiver } => receiver,
+        Record::Register { receiver }
+        | Record::Vote { receiver, .. }
+        | Record::Mint { receiver, .. }
+        | Record::Turn { receiver } => receiver,
     }
 }
 
-// No shard is shown for refusals 1 to 5.
-fn is_unplaced(answer: Answer) -> bool
-    ensures { result ≡ unplaced answer }
+// Where a line says that its call was answered: none for refusals 1 to 5, else the receiving shard.
+fn place_of(answer: Answer, receiver: u8) -> Option<u8>
+    ensures { place_text result ≡ place_word (unplaced answer) receiver }
 {
     match answer {
-        Answer::Refused(number) => number <= 5,
-        Answer::Minted => false,
-        Answer::Registered(_, _) => false,
-        Answer::Heard(_) => false,
-        Answer::Again(_) => false,
-        Answer::Turned => false,
-        Answer::Brought(_, _) => false,
+        Err(refusal) if u8::from(refusal) <= 5 => None,
+        _ => Some(receiver),
     }
+}
+
+// No whole record stands at the front: nothing behind it is read.
+fn ends_reading(refusal: Refusal) -> bool
+    ensures { result ≡ leb (refusal_number refusal) 2 }
+{
+    matches!(refusal, Refusal::UnknownKind | Refusal::TooShort)
 }
 
 // The record at the front of the bytes: its call, made on the lent cluster, and its line, stored from a place on.
 // Whoever calls it sees to the room for a line, as `list_records` does.
+// Stays: `out` with a place in it, since `Stepped`, of which the theorem `whole_listing` speaks, reads these arguments.
 pub(crate) fn step(c: &mut Cluster, number: u64, bytes: &[u8], out: &mut [u8], at: usize) -> Listed
     requires { Sound c.old × (at + 64 ≤ length out.old) }
     ensures { Lists c.old number bytes.now out.old at result
         c.new out.new }
 {
-    let r = reader::read(bytes);
-    let answer = r.answer;
-    let t = r.transaction;
-    let taken = r.taken;
-    let reader::Answer::Read(fields) = answer else {
-        let cause = cause_of(answer);
-        let behind = lines::put_line(out, at, number, true, 0, Answer::Refused(cause));
-        return Listed {
-            at: behind,
-            taken: taken,
-            ends: cause <= 2,
-        };
-    };
-    let reply = call(c, fields, t);
-    let behind = lines::put_line(
-        out,
-        at,
-        number,
-        is_unplaced(reply),
-        receiver_of(fields),
-        reply,
-    );
-    Listed {
-        at: behind,
-        taken: taken,
-        ends: false,
+    let reading = reader::read(bytes);
+    match reading.answer {
+        Ok(fields) => {
+            let answer = call(c, fields, reading.transaction);
+            let line = Line::of_step(number, place_of(answer, receiver_of(fields)), answer);
+            Listed {
+                at: line.store(out, at),
+                taken: reading.taken,
+                ends: false,
+            }
+        }
+        Err(refusal) => {
+            let line = Line::of_step(number, None, Err(refusal));
+            Listed {
+                at: line.store(out, at),
+                taken: reading.taken,
+                ends: ends_reading(refusal),
+            }
+        }
     }
 }
 
-// Reading has not ended, as many bytes as are wanted are left, and one at least, a line has room, and the step has a
-// number of 64 bits.
-fn goes_on(ends: bool, left: usize, wanted: usize, room: usize, number: u64) -> bool
-    ensures { result ≡ going ends left wanted room number }
-{
-    !ends & (0 < left) & (wanted <= left) & (64 <= room) & (number < 18446744073709551615)
+impl Progress {
+    // Reading has not ended, as many bytes as are wanted are left, and one at least, a line has room, and the step has
+    // a number of 64 bits.
+    fn goes_on(&self, left: usize, wanted: usize, room: usize) -> bool
+        ensures { result ≡ going self.now.ends left wanted room self.now.number }
+    {
+        !self.ends && 0 < left && wanted <= left && 64 <= room && self.number < u64::MAX
+    }
 }
 
 // Record after record from the front of the bytes, line behind line from the front of the lent bytes. Fewer bytes than
@@ -137,23 +120,22 @@ pub fn list_records(
     ensures { ListsAll c.old number bytes.now wanted out.old result
         c.new out.new }
 {
-    let mut n = number;
-    let mut at: usize = 0;
-    let mut used: usize = 0;
-    let mut ends = false;
-    while goes_on(ends, bytes.len() - at, wanted, out.len() - used, n) {
-        let r = step(c, n, &bytes[at..], out, used);
-        used = r.at;
-        at += r.taken;
-        ends = r.ends;
-        n += 1;
+    let mut so_far = Progress {
+        number,
+        taken: 0,
+        used: 0,
+        ends: false,
+    };
+    while so_far.goes_on(bytes.len() - so_far.taken, wanted, out.len() - so_far.used) {
+        let line = step(c, so_far.number, &bytes[so_far.taken..], out, so_far.used);
+        so_far = Progress {
+            number: so_far.number + 1,
+            taken: so_far.taken + line.taken,
+            used: line.at,
+            ends: line.ends,
+        };
     }
-    Progress {
-        number: n,
-        taken: at,
-        used: used,
-        ends: ends,
-    }
+    so_far
 }
 
 // The last line: TOTAL and the amounts held at all shards, stored from the front of the lent line.
@@ -162,5 +144,5 @@ pub fn total(c: &Cluster, line: &mut [u8; 64]) -> usize
     ensures { Shows (total_line (total_held (view c.now))) line.old line.new result }
 {
     let amount = cluster::queries::total_amount(c);
-    lines::put_total(line, 0, amount)
+    Line::of_total(amount).store(line, 0)
 }

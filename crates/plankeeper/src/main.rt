@@ -2,221 +2,185 @@
 // and the total.
 #![tactic(auto)]
 
-ghost use Rattle.std.specs.Prelude.{◌≡◌, ◌+◌, ◌-◌, ◌≤◌, ◌<◌, length, take, drop};
+ghost use Rattle.std.specs.Prelude.{◌≡◌, ◌+◌, ◌-◌, ◌≤◌, ◌<◌, cond, drop, slice_range, OnOk};
 ghost use Rattle.cluster.specs.View.{Sound};
 ghost use Rattle.listing.specs.Buffers.{ListsAll};
+ghost use Rattle.plankeeper.specs.declared.TheConstants.{BUFFER};
 
 use cluster::Cluster;
 use layout::SHARD_WORDS;
 use listing::{Progress, list_records};
+use std::io;
 use std::io::{Read, Write};
 use std::rt::{Stdin, Stdout};
 
-// The unread bytes of the buffer. A record is 102 bytes long at most: so many are wanted before one is handed over, and
-// none at the end of the input.
-#[derive(Clone, Copy)]
-struct Unread {
+// The bytes of each buffer.
+const BUFFER: usize = 65536;
+
+// A record is so many bytes long at most.
+const RECORD: usize = 102;
+
+// Where more bytes than these wait, little room is left.
+const ROOMY: usize = 61440;
+
+// Standard input, read in large pieces. The bytes from `at` to `end` are not yet listed.
+#[derive(Drop)]
+struct Input {
+    stream: Stdin,
+    bytes: [u8; BUFFER],
     at: usize,
     end: usize,
-    wanted: usize,
+    ended: bool,
+    ghost unread: { (at ≤ end) × (end ≤ BUFFER) },
 }
 
-// How many bytes wait to be printed, and whether every write succeeded.
-#[derive(Clone, Copy)]
-struct Waiting {
+// Standard output, printed in large pieces. So many bytes from the front wait to be printed.
+#[derive(Drop)]
+struct Output {
+    stream: Stdout,
+    bytes: [u8; BUFFER],
     used: usize,
-    well: bool,
+    ghost waiting: { used ≤ BUFFER },
 }
 
-// The unread bytes go to the front of the buffer.
-fn keep(buf: &mut [u8; 65536], at: usize, end: usize) -> usize
-    requires { (at ≤ end) × (end ≤ 65536) }
-    ensures { result ≡ end - at }
-{
-    let n = end - at;
-    let mut i = 0;
-    while i < n {
-        buf[i] = buf[at + i];
-        i += 1;
-    }
-    n
-}
-
-// One read behind the bytes that are kept: the place behind all of them. A read that fails is the end of the input.
-fn read_behind(mut input: Stdin, buf: &mut [u8], kept: usize) -> usize
-    requires { kept ≤ length buf.old }
-    ensures { (kept ≤ result) × (result ≤ length buf.old) }
-{
-    match input.read(&mut buf[kept..]) {
-        Ok(n) => kept + n,
-        Err(_) => kept,
-    }
-}
-
-// More bytes behind the unread ones, or none wanted any more.
-fn refilled(input: Stdin, buf: &mut [u8; 65536], at: usize, end: usize, wanted: usize) -> Unread
-    requires { (at ≤ end) × (end ≤ 65536) × (end - at < wanted) }
-    ensures { (result.at ≤ result.end) × (result.end ≤ 65536) × (result.wanted ≤ wanted) × (result.wanted - (result.end - result.at) < wanted - (end - at)) }
-{
-    let kept = keep(buf, at, end);
-    let more = read_behind(input, buf, kept);
-    if more == kept {
-        return Unread {
+impl Input {
+    fn new(stream: Stdin) -> Input {
+        Input {
+            stream,
+            bytes: [0; BUFFER],
             at: 0,
-            end: more,
-            wanted: 0,
-        };
+            end: 0,
+            ended: false,
+        }
     }
-    Unread {
-        at: 0,
-        end: more,
-        wanted: wanted,
+
+    // The bytes that are not yet listed.
+    fn unread(&self) -> &[u8]
+        ensures { result.now ≡ slice_range self.now.bytes self.now.at self.now.end }
+    {
+        &self.bytes[self.at..self.end]
+    }
+
+    // A longest record's bytes are wanted before one is listed, and none at the end of the input.
+    fn wanted(&self) -> usize
+        ensures { result ≡ cond self.now.ended 0 RECORD }
+    {
+        if self.ended { 0 } else { RECORD }
+    }
+
+    // One read behind the unread bytes, which go to the front. A read that fails is the end of the input.
+    fn read_more(&mut self)
+        requires { self.old.end - self.old.at < cond self.old.ended 0 RECORD }
+        ensures { cond self.new.ended 0 RECORD - (self.new.end - self.new.at)
+            < cond self.old.ended 0 RECORD - (self.old.end - self.old.at) }
+    {
+        self.bytes.copy_within(self.at..self.end, 0);
+        self.end -= self.at;
+        self.at = 0;
+        let count = self.stream.read(&mut self.bytes[self.end..]).unwrap_or(0);
+        self.end += count;
+        self.ended = count == 0;
+    }
+
+    // As many bytes as are wanted.
+    fn fill(&mut self)
+        ensures { cond self.new.ended 0 RECORD ≤ self.new.end - self.new.at }
+    {
+        while self.end - self.at < self.wanted() {
+            self.read_more();
+        }
+    }
+
+    // So many bytes are listed. Where reading ends with them, no more are wanted, and the rest is left.
+    fn listed(&mut self, count: usize, ends: bool)
+        requires { self.old.at + count ≤ self.old.end }
+    {
+        self.at += count;
+        if ends {
+            self.at = self.end;
+            self.ended = true;
+        }
     }
 }
 
-// As many bytes as are wanted.
-fn filled(input: Stdin, buf: &mut [u8; 65536], at: usize, end: usize, wanted: usize) -> Unread
-    requires { (at ≤ end) × (end ≤ 65536) × (wanted ≤ 102) }
-    ensures { (result.at ≤ result.end) × (result.end ≤ 65536) × (result.wanted ≤ 102) }
-{
-    let mut a = at;
-    let mut e = end;
-    let mut w = wanted;
-    while e - a < w {
-        let u = refilled(input, buf, a, e, w);
-        a = u.at;
-        e = u.end;
-        w = u.wanted;
+impl Output {
+    fn new(stream: Stdout) -> Output {
+        Output {
+            stream,
+            bytes: [0; BUFFER],
+            used: 0,
+        }
     }
-    Unread {
-        at: a,
-        end: e,
-        wanted: w,
-    }
-}
 
-fn between(bytes: &[u8], at: usize, end: usize) -> &[u8]
-    requires { (at ≤ end) × (end ≤ length bytes.now) }
-    ensures { result.now ≡ take (end - at) (drop at bytes.now) }
-{
-    &bytes[at..end]
+    // Prints all that wait.
+    fn print(&mut self) -> io::Result<()>
+        ensures { OnOk result (self.new.used ≡ 0) }
+    {
+        self.stream.write_all(&self.bytes[..self.used])?;
+        self.used = 0;
+        Ok(())
+    }
+
+    // Where little room is left, all that wait are printed.
+    fn make_room(&mut self) -> io::Result<()>
+        ensures { OnOk result (self.new.used ≤ ROOMY) }
+    {
+        if self.used > ROOMY {
+            self.print()
+        } else {
+            Ok(())
+        }
+    }
 }
 
 // The records among the unread bytes, their lines behind those that wait.
-fn listed(
-    c: &mut Cluster,
-    number: u64,
-    buf: &[u8; 65536],
-    at: usize,
-    end: usize,
-    wanted: usize,
-    out: &mut [u8],
-    used: usize,
-) -> Progress
-    requires { Sound c.old × (at ≤ end) × (end ≤ 65536) × (used ≤ length out.old) }
-    ensures { ListsAll c.old number (take (end - at) (drop at buf.now)) wanted (drop used out.old) result
-        c.new (drop used out.new) }
+fn list_part(cluster: &mut Cluster, number: u64, input: &mut Input, output: &mut Output) -> Progress
+    requires { Sound cluster.old }
+    ensures { ListsAll cluster.old number (slice_range input.old.bytes input.old.at input.old.end)
+        (cond input.old.ended 0 RECORD) (drop output.old.used output.old.bytes) result
+        cluster.new (drop output.old.used output.new.bytes) }
 {
-    let bytes = between(buf, at, end);
-    list_records(c, number, bytes, wanted, &mut out[used..])
-}
-
-// The first bytes of the text, and whether all of them were written.
-fn print(mut output: Stdout, text: &[u8], n: usize) -> bool
-    requires { n ≤ length text.now }
-{
-    output.write_all(between(text, 0, n)).is_ok()
-}
-
-// Where little room is left, all that wait are printed.
-fn flushed(output: Stdout, out: &[u8; 65536], used: usize) -> Waiting
-    requires { used ≤ 65536 }
-    ensures { result.used ≤ 61440 }
-{
-    if used <= 61440 {
-        return Waiting {
-            used: used,
-            well: true,
-        };
-    }
-    Waiting {
-        used: 0,
-        well: print(output, out, used),
-    }
-}
-
-// After the end of reading no more bytes are wanted.
-fn wanted_after(ends: bool, wanted: usize) -> usize
-    ensures { result ≤ wanted }
-{
-    if ends {
-        return 0;
-    }
-    wanted
-}
-
-// The turns that are left: none where reading ends, where a write failed, and where no bytes are left.
-fn turns_after(turns: u64, ends: bool, well: bool, at: usize, end: usize) -> u64
-    requires { 0 < turns }
-    ensures { result < turns }
-{
-    if ends {
-        return 0;
-    }
-    if !well {
-        return 0;
-    }
-    if at == end {
-        return 0;
-    }
-    turns - 1
+    let room = &mut output.bytes[output.used..];
+    let part = list_records(cluster, number, input.unread(), input.wanted(), room);
+    output.used += part.used;
+    input.listed(part.taken, part.ends);
+    part
 }
 
 // The lines that wait, and the last one.
-fn finish(output: Stdout, out: &[u8; 65536], used: usize, c: &Cluster)
-    requires { Sound c.now × (used ≤ 65536) }
+fn finish(cluster: &Cluster, output: &mut Output) -> io::Result<()>
+    requires { Sound cluster.now }
 {
     let mut line = [0u8; 64];
-    let size = listing::total(c, &mut line);
-    if print(output, out, used) {
-        print(output, &line, size);
+    let size = listing::total(cluster, &mut line);
+    output.print()?;
+    output.stream.write_all(&line[..size])
+}
+
+// Every record's line, and the last one. After a write that failed nothing more is listed.
+fn list_all(cluster: &mut Cluster, input: &mut Input, output: &mut Output) -> io::Result<()>
+    requires { Sound cluster.old }
+{
+    let mut number = 1;
+    input.fill();
+    for _ in 0..u64::MAX {
+        if input.unread().is_empty() {
+            break;
+        }
+        number = list_part(cluster, number, input, output).number;
+        let printed = output.make_room();
+        // Stays: the next bytes are read before a failed write is looked at, as the program always did.
+        input.fill();
+        printed?;
     }
+    finish(cluster, output)
 }
 
 fn main(rt: HostRuntime) {
-    let input = rt.stdin();
-    let output = rt.stdout();
-    let mut buf = [0u8; 65536];
-    let mut out = [0u8; 65536];
-    let mut c = [[0u32; SHARD_WORDS]; 8];
-    cluster::new(&mut c);
-    let mut number: u64 = 1;
-    let mut used: usize = 0;
-    let mut well = true;
-    let first = filled(input, &mut buf, 0, 0, 102);
-    let mut at = first.at;
-    let mut end = first.end;
-    let mut wanted = first.wanted;
-    let mut turns = turns_after(4611686018427387904, false, true, at, end);
-    while 0 < turns {
-        let r = listed(&mut c, number, &buf, at, end, wanted, &mut out, used);
-        let w = flushed(output, &out, used + r.used);
-        used = w.used;
-        well = w.well;
-        let u = filled(
-            input,
-            &mut buf,
-            at + r.taken,
-            end,
-            wanted_after(r.ends, wanted),
-        );
-        at = u.at;
-        end = u.end;
-        wanted = u.wanted;
-        turns = turns_after(turns, r.ends, well, at, end);
-        number = r.number;
-    }
-    if well {
-        finish(output, &out, used, &c);
-    }
+    let mut cluster = [[0u32; SHARD_WORDS]; 8];
+    cluster::new(&mut cluster);
+    let mut input = Input::new(rt.stdin());
+    let mut output = Output::new(rt.stdout());
+    // A write that failed ends the program without a word.
+    let _ = list_all(&mut cluster, &mut input, &mut output);
 }

@@ -5,10 +5,10 @@ use Rattle.listing.proofs.Running.{Reached}
 use Rattle.listing.proofs.list_records.Given as goal
 
 -- running on from here gives what the whole run gives
-abbrev pub invariant-loop-ends : goal.invariant-loop-ends
-invariant-loop-ends l =
-    Reached l.bytes l.fn.out l.wanted (run_of (view l.fn.c) l.number l.bytes l.wanted (length l.fn.out)) l.c l.out l.n l.at
-    l.used l.ends
+abbrev pub invariant-loop-c : goal.invariant-loop-c
+invariant-loop-c l =
+    let whole = run_of (view l.fn.c) l.number l.bytes l.wanted (length l.fn.out) in
+    Reached l.bytes l.fn.out l.wanted whole l.c l.out l.so_far.number l.so_far.taken l.so_far.used l.so_far.ends
 
-abbrev pub decreases-loop-ends : goal.decreases-loop-ends
-decreases-loop-ends l = length l.bytes - l.at
+abbrev pub decreases-loop-c : goal.decreases-loop-c
+decreases-loop-c l = length l.bytes - l.so_far.taken

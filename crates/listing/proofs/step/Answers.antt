@@ -2,15 +2,16 @@ use Rattle.listing.proofs.Steps.{refused, carried}
 use Rattle.listing.proofs.step.Goals as goal
 
 -- refused by the reader
-pub returns-in_default : goal.returns-in_default
-returns-in_default c =
+pub returns-in-Err : goal.returns-in-Err
+returns-in-Err c =
     let a = c.args in
     refused a.c.now a.number a.bytes.now a.out.now a.at
-    c.read-r.ensures c.requires.0 c.in_default.is c.cause_of-cause.ensures c.put_line-behind.ensures
+    c.read-reading.ensures c.requires.0 c.in-Err.is c.of_step-line-in-Err.ensures.text c.store-in-Err.ensures c.ends_reading.ensures
 
 -- read, and carried out or refused by the cluster
-pub returns : goal.returns
-returns c =
+pub returns-in-Ok : goal.returns-in-Ok
+returns-in-Ok c =
     let a = c.args in
     carried a.c.now a.number a.bytes.now a.out.now a.at
-    c.read-r.ensures c.in-Read.is c.call-reply.ensures c.is_unplaced.ensures c.receiver_of.ensures c.put_line-behind-2.ensures
+    c.read-reading.ensures c.in-Ok.is c.call-answer.ensures c.receiver_of.ensures c.place_of.ensures
+    c.of_step-line.ensures.text c.store.ensures

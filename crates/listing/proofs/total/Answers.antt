@@ -6,4 +6,4 @@ use Rattle.listing.proofs.total.Goals as goal
 pub returns : goal.returns
 returns c =
     let long : length c.args.line.now ≡ 64 = search rules in
-    total-shown long c.total_amount-amount.ensures c.put_total.ensures
+    total-shown long c.of_total.ensures.text c.total_amount-amount.ensures c.store.ensures
