@@ -3,6 +3,7 @@ ghost use Rattle.std.specs.Prelude.{◌≡◌, ◌<◌, take};
 ghost use Rattle.transaction.specs.Lists.{repeats, total, first_of};
 ghost use Rattle.transaction.specs.Checks.{same_name, input_amount, output_amount, cause_of, register_checks, vote_checks, mint_checks, turn_checks};
 
+use crate::equality::same_token;
 use crate::fields::{fields_fit, mint_fits, shard_fits};
 use crate::refusal::Refusal;
 use crate::{Input, Output, Transaction};
@@ -10,7 +11,7 @@ use crate::{Input, Output, Transaction};
 fn same_name(a: Input, b: Input) -> bool
     ensures { result ≡ same_name a b }
 {
-    a.token == b.token
+    same_token(a.token, b.token)
 }
 
 // Check 4: one token is named twice among the used inputs.

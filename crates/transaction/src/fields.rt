@@ -4,6 +4,7 @@ ghost use Rattle.transaction.specs.Lists.{slots_fit};
 ghost use Rattle.transaction.specs.Tokens.{same_input, same_output, zero_input, zero_output};
 ghost use Rattle.transaction.specs.Checks.{shard_fits, index_fits, value_fits, input_fits, output_fits, fields_fit, mint_fits};
 
+use crate::equality::{same_input, same_output};
 use crate::{Input, Output, TokenId, Transaction};
 
 pub fn shard_fits(shard: u8) -> bool
@@ -66,20 +67,22 @@ fn zero_output() -> Output
 pub fn input_slot_fits(genesis: u8, used: bool, x: Input) -> bool
     ensures { result ≡ cond used (input_fits genesis x) (same_input zero_input x) }
 {
+    let zero = zero_input();
     if used {
         input_fits(genesis, x)
     } else {
-        zero_input() == x
+        same_input(zero, x)
     }
 }
 
 pub fn output_slot_fits(used: bool, y: Output) -> bool
     ensures { result ≡ cond used (output_fits y) (same_output zero_output y) }
 {
+    let zero = zero_output();
     if used {
         output_fits(y)
     } else {
-        zero_output() == y
+        same_output(zero, y)
     }
 }
 
