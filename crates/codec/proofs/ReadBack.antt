@@ -1,14 +1,14 @@
 -- Every record written reads back as the same fields.
 use Prim.Native.Nat.{ℕ, ◌/◌, ◌%◌}
 use mathlib.Core.Path.{◌≡◌, refl, sym, ap, ◌∙◌}
-use mathlib.Core.Bool.{Bool, true, false, cond}
+use mathlib.Core.Bool.{cond}
 use mathlib.Core.List.{List, [], ◌∷◌, ◌++◌}
 use native.Mathlib.Omega.{arith}
-use borrow.Author.Tests.{eqb-true}
-use lib.Dec.{eqb}
+use Rattle.std.proofs.Common.{Result, Ok, Err, is_ok}
 use lib.ListN.{length, get_or, drop, length-append}
 use lib.Seq.{drop_at}
 use Rattle.transaction.specs.declared.Transaction.{Transaction}
+use Rattle.transaction.specs.declared.refusal.Refusal.{Refusal}
 use Rattle.transaction.specs.Lists.{first_of}
 use Rattle.transaction.specs.Tokens.{zero_input, zero_output, blank_transaction}
 use Rattle.transaction.specs.Checks.{house_genesis, register_checks, vote_checks, mint_checks, turn_checks}
@@ -16,7 +16,6 @@ use Rattle.transaction.proofs.Slots.{four}
 use Rattle.transaction.proofs.Long.{Long}
 use Rattle.reader.specs.declared.Record.{Record}
 use Rattle.reader.specs.declared.Record.TheVariants.{Register, Vote, Mint, Turn}
-use Rattle.reader.specs.declared.Answer.TheVariants.{Read}
 use Rattle.reader.specs.declared.Reading.{Reading}
 use Rattle.reader.specs.Layout.{joined, word_at, input_at, output_at, inputs_at, outputs_at, transaction_at, body_length}
 use Rattle.reader.specs.Reading.{head_cause, reading_of, rest_of}
@@ -101,10 +100,10 @@ behind_4 a b c d q = refl
 
 -- a record of kind 1, with anything behind it
 module _ (r : ℕ) (t : Transaction) (l : List ℕ) where
-  register-whole : head_cause (register_bytes r t ++ l) ≡ 0
+  register-whole : head_cause (register_bytes r t ++ l) ≡ Ok tt
   unfolding register_bytes body_length
   register-whole =
-      sym (head-whole (register_bytes r t ++ l) {n = 99} (λ e. omega arith) refl (λ e. omega arith)
+      sym (head-whole (register_bytes r t ++ l) {n = 99} (λ e. omega arith) refl
       (omega (arith, length-append (transaction_bytes t) l, length-transaction t)))
 
   pub register-rest : rest_of (register_bytes r t ++ l) ≡ l
@@ -113,8 +112,8 @@ module _ (r : ℕ) (t : Transaction) (l : List ℕ) where
       rw (taken_1 (register_bytes r t ++ l) register-whole refl)
       (drop_at (register_bytes r t) l 100 (length-register r t))
 
-  pub register-back : Long t → first_of (register_checks house_genesis r t) ≡ 0
-      → reading_of (register_bytes r t ++ l) ≡ record { answer = Read (Register r); transaction = t; taken = 100 }
+  pub register-back : Long t → first_of (register_checks house_genesis r t) ≡ Ok tt
+      → reading_of (register_bytes r t ++ l) ≡ record { answer = Ok (Register r); transaction = t; taken = 100 }
   unfolding register_bytes
   register-back long pass =
       let whole = register_bytes r t ++ l in
@@ -122,18 +121,17 @@ module _ (r : ℕ) (t : Transaction) (l : List ℕ) where
       let checked = ap (λ (x : Transaction). first_of (register_checks house_genesis r x)) fields in
       sym
       (reading_good whole register-whole
-      (sym pass ∙ sym checked ∙ sym (cause_1 whole register-whole refl))
-      refl
+      (cause_1 whole register-whole refl ∙ checked ∙ pass)
       (sym (record_1 whole register-whole refl))
       (sym fields ∙ sym (transaction_1 whole register-whole refl))
       (sym (taken_1 whole register-whole refl)))
 
 -- a record of kind 2
 module _ (r s v : ℕ) (t : Transaction) (l : List ℕ) where
-  vote-whole : head_cause (vote_bytes r s v t ++ l) ≡ 0
+  vote-whole : head_cause (vote_bytes r s v t ++ l) ≡ Ok tt
   unfolding vote_bytes body_length
   vote-whole =
-      sym (head-whole (vote_bytes r s v t ++ l) {n = 101} (λ e. omega arith) refl (λ e. omega arith)
+      sym (head-whole (vote_bytes r s v t ++ l) {n = 101} (λ e. omega arith) refl
       (omega (arith, length-append (transaction_bytes t) l, length-transaction t)))
 
   pub vote-rest : rest_of (vote_bytes r s v t ++ l) ≡ l
@@ -142,8 +140,8 @@ module _ (r s v : ℕ) (t : Transaction) (l : List ℕ) where
       rw (taken_2 (vote_bytes r s v t ++ l) vote-whole refl)
       (drop_at (vote_bytes r s v t) l 102 (length-vote r s v t))
 
-  pub vote-back : Long t → first_of (vote_checks house_genesis r s v t) ≡ 0
-      → reading_of (vote_bytes r s v t ++ l) ≡ record { answer = Read (Vote r s v); transaction = t; taken = 102 }
+  pub vote-back : Long t → first_of (vote_checks house_genesis r s v t) ≡ Ok tt
+      → reading_of (vote_bytes r s v t ++ l) ≡ record { answer = Ok (Vote r s v); transaction = t; taken = 102 }
   unfolding vote_bytes
   vote-back long pass =
       let whole = vote_bytes r s v t ++ l in
@@ -151,18 +149,17 @@ module _ (r s v : ℕ) (t : Transaction) (l : List ℕ) where
       let checked = ap (λ (x : Transaction). first_of (vote_checks house_genesis r s v x)) fields in
       sym
       (reading_good whole vote-whole
-      (sym pass ∙ sym checked ∙ sym (cause_2 whole vote-whole refl))
-      refl
+      (cause_2 whole vote-whole refl ∙ checked ∙ pass)
       (sym (record_2 whole vote-whole refl))
       (sym fields ∙ sym (transaction_2 whole vote-whole refl))
       (sym (taken_2 whole vote-whole refl)))
 
 -- a record of kind 3
 module _ (r i o a : ℕ) (l : List ℕ) where
-  mint-whole : head_cause (mint_bytes r i o a ++ l) ≡ 0
+  mint-whole : head_cause (mint_bytes r i o a ++ l) ≡ Ok tt
   unfolding word_of mint_bytes body_length
   mint-whole =
-      sym (head-whole (mint_bytes r i o a ++ l) {n = 10} (λ e. omega arith) refl (λ e. omega arith) (omega arith))
+      sym (head-whole (mint_bytes r i o a ++ l) {n = 10} (λ e. omega arith) refl (omega arith))
 
   pub mint-rest : rest_of (mint_bytes r i o a ++ l) ≡ l
   unfolding rest_of word_of mint_bytes
@@ -176,9 +173,9 @@ module _ (r i o a : ℕ) (l : List ℕ) where
   unfolding word_at word_of mint_bytes
   amount-back = word_back a
 
-  pub mint-back : first_of (mint_checks house_genesis r i o a) ≡ 0
+  pub mint-back : first_of (mint_checks house_genesis r i o a) ≡ Ok tt
       → reading_of (mint_bytes r i o a ++ l)
-      ≡ record { answer = Read (Mint r i o a); transaction = blank_transaction; taken = 11 }
+      ≡ record { answer = Ok (Mint r i o a); transaction = blank_transaction; taken = 11 }
   unfolding word_of mint_bytes
   mint-back pass =
       let whole = mint_bytes r i o a ++ l in
@@ -187,46 +184,40 @@ module _ (r i o a : ℕ) (l : List ℕ) where
       let fields = ap (λ (x : ℕ). Mint r i x (word_at whole 7)) owner-back ∙ ap (λ (x : ℕ). Mint r i o x) amount-back in
       sym
       (reading_good whole mint-whole
-      (sym pass ∙ sym checked ∙ sym (cause_3 whole mint-whole refl))
-      refl
+      (cause_3 whole mint-whole refl ∙ checked ∙ pass)
       (sym fields ∙ sym (record_3 whole mint-whole refl))
       (sym (transaction_3 whole mint-whole refl))
       (sym (taken_3 whole mint-whole refl)))
 
 -- a record of kind 4
 module _ (r : ℕ) (l : List ℕ) where
-  turn-whole : head_cause (turn_bytes r ++ l) ≡ 0
+  turn-whole : head_cause (turn_bytes r ++ l) ≡ Ok tt
   unfolding turn_bytes body_length
   turn-whole =
-      sym (head-whole (turn_bytes r ++ l) {n = 1} (λ e. omega arith) refl (λ e. omega arith) (omega arith))
+      sym (head-whole (turn_bytes r ++ l) {n = 1} (λ e. omega arith) refl (omega arith))
 
   pub turn-rest : rest_of (turn_bytes r ++ l) ≡ l
   unfolding rest_of turn_bytes
   turn-rest = rw (taken_4 (turn_bytes r ++ l) turn-whole refl) refl
 
-  pub turn-back : first_of (turn_checks r) ≡ 0
-      → reading_of (turn_bytes r ++ l) ≡ record { answer = Read (Turn r); transaction = blank_transaction; taken = 2 }
+  pub turn-back : first_of (turn_checks r) ≡ Ok tt
+      → reading_of (turn_bytes r ++ l) ≡ record { answer = Ok (Turn r); transaction = blank_transaction; taken = 2 }
   unfolding turn_bytes
   turn-back pass =
       let whole = turn_bytes r ++ l in
       sym
       (reading_good whole turn-whole
-      (sym pass ∙ sym (cause_4 whole turn-whole refl))
-      refl
+      (cause_4 whole turn-whole refl ∙ pass)
       (sym (record_4 whole turn-whole refl))
       (sym (transaction_4 whole turn-whole refl))
       (sym (taken_4 whole turn-whole refl)))
 
--- a record of any kind: its reading where its number is 0, and the reading of what stood there before where not
-by-cause : (number : ℕ) (bytes before : List ℕ) {good : Reading}
-    → (number ≡ 0 → reading_of (bytes ++ drop (length bytes) before) ≡ good)
-    → reading_of (lent_after number bytes before) ≡ cond (eqb number 0) good (reading_of before)
-by-cause number bytes before {good} back = go (eqb number 0) refl
-  where
-    go : (b : Bool) → eqb number 0 ≡ b
-        → reading_of (cond b (bytes ++ drop (length bytes) before) before) ≡ cond b good (reading_of before)
-    go true e = back (eqb-true number 0 e)
-    go false e = refl
+-- a record of any kind: its reading where all checks pass, and the reading of what stood there before where one does not
+by-cause : (cause : Result Unit Refusal) (bytes before : List ℕ) {good : Reading}
+    → (cause ≡ Ok tt → reading_of (bytes ++ drop (length bytes) before) ≡ good)
+    → reading_of (lent_after cause bytes before) ≡ cond (is_ok cause) good (reading_of before)
+by-cause (Ok pass) bytes before back = back refl
+by-cause (Err refusal) bytes before back = refl
 
 -- THEOREM: what stands at the front after a record was written reads back as its fields.
 pub written_reads_back : (fields : Record) (t : Transaction) (before : List ℕ) → Long t

@@ -1,17 +1,16 @@
 -- Every record read writes back as the same bytes.
 use Prim.Native.Nat.{ℕ, ◌+◌, ◌*◌, ◌/◌, ◌%◌, ◌≤◌, ◌<◌}
 use mathlib.Core.Path.{◌≡◌, refl, sym, ap, ◌∙◌}
-use mathlib.Core.Bool.{Bool, true, false}
 use mathlib.Core.List.{List, [], ◌∷◌, ◌++◌}
 use native.Mathlib.Omega.{arith}
-use borrow.Author.Tests.{eqb-true, eqb-false}
-use lib.Dec.{eqb, ltb}
+use Rattle.std.proofs.Common.{Result, Ok, Err}
 use lib.ListN.{length, get_or, take, drop}
 use lib.Seq.{take-add, drop-drop, drop-cons}
+use Rattle.transaction.specs.declared.refusal.Refusal.{Refusal}
+use Rattle.transaction.specs.Refusals.{answer_of}
 use Rattle.transaction.specs.Lists.{first_of}
 use Rattle.transaction.specs.Checks.{house_genesis, register_checks, vote_checks, mint_checks, turn_checks}
 use Rattle.reader.specs.declared.Record.{Record}
-use Rattle.reader.specs.declared.Answer.TheVariants.{Read, Refused}
 use Rattle.reader.specs.declared.Reading.{Reading}
 use Rattle.reader.specs.Layout.{byte_at, joined, word_at, input_at, output_at, inputs_at, outputs_at, transaction_at}
 use Rattle.reader.specs.Reading.{
@@ -23,7 +22,6 @@ use Rattle.reader.specs.Reading.{
   record_at,
   transaction_in,
   taken_of,
-  answer_of,
   reading_of,
 }
 use Rattle.reader.proofs.Cases.{
@@ -60,9 +58,8 @@ use Rattle.writer.specs.Layout.{
   mint_bytes,
   turn_bytes,
 }
-use Rattle.writer.specs.declared.Written.{Written}
-use Rattle.writer.specs.Writing.{register_cause, vote_cause, mint_cause, turn_cause, Writes}
-use Rattle.transaction.proofs.Tables.{numbered, first-stands, first-behind}
+use Rattle.writer.specs.Writing.{room_checks, register_cause, vote_cause, mint_cause, turn_cause, Writes}
+use Rattle.transaction.proofs.Tables.{first-front, first-stands, first-behind}
 use Rattle.writer.proofs.Writes.{refuses}
 use Rattle.codec.specs.Records.{record_bytes, record_cause, copy_cause, Copies}
 
@@ -160,7 +157,7 @@ module _ (l : List ℕ) (small : (i : ℕ) → get_or l i 0 < 256) where
   turn-again h k = glue l 0 1 1 (kind-part k (omega arith)) (byte-part 1 h)
 
   -- THEOREM: the bytes of what was read are the bytes that the record took.
-  pub read_writes_back : head_cause l ≡ 0 → record_bytes (record_at l) (transaction_in l) ≡ take (taken_of l) l
+  pub read_writes_back : head_cause l ≡ Ok tt → record_bytes (record_at l) (transaction_in l) ≡ take (taken_of l) l
   read_writes_back h =
       by_kinds l h (record_bytes (record_at l) (transaction_in l) ≡ take (taken_of l) l)
       (λ k. rw (record_1 l h k, transaction_1 l h k, taken_1 l h k) (register-again (long_1 l h k) k))
@@ -168,77 +165,51 @@ module _ (l : List ℕ) (small : (i : ℕ) → get_or l i 0 < 256) where
       (λ k. rw (record_3 l h k, taken_3 l h k) (mint-again (long_3 l h k) k))
       (λ k. rw (record_4 l h k, taken_4 l h k) (turn-again (long_4 l h k) k))
 
--- the first part of checks that all pass passes
-first-front : (x y : List (Bool × ℕ)) → first_of (x ++ y) ≡ 0 → first_of x ≡ 0
-first-front [] y h = refl
-first-front ((true, k) ∷ x) y h = h
-first-front ((false, k) ∷ x) y h = first-front x y h
-
-head-passes : (l : List ℕ) → read_cause l ≡ 0 → head_cause l ≡ 0
+head-passes : (l : List ℕ) → read_cause l ≡ Ok tt → head_cause l ≡ Ok tt
 unfolding read_cause head_cause
 head-passes l h = first-front (head_checks l) (body_checks l) h
 
 -- What was read is refused by a writer only for want of room, and so is the copy.
-module _ (l : List ℕ) (pass : read_cause l ≡ 0) (room : ℕ) where
-  enough : List (Bool × ℕ)
-  enough = (ltb room (taken_of l), 15) ∷ []
+module _ (l : List ℕ) (pass : read_cause l ≡ Ok tt) (room : ℕ) where
+  copy_room : copy_cause l room ≡ first_of (room_checks (taken_of l) room)
+  unfolding copy_cause read_cause
+  copy_room = first-behind (head_checks l ++ body_checks l) (room_checks (taken_of l) room) pass
 
-  body_numbered : numbered (body_checks l) ≡ true
-  body_numbered =
-      by_kinds l (head-passes l pass) (numbered (body_checks l) ≡ true)
-      (λ k. rw k refl) (λ k. rw k refl) (λ k. rw k refl) (λ k. rw k refl)
-
-  copy_room : copy_cause l room ≡ first_of enough
-  unfolding copy_cause read_cause enough
-  copy_room = first-behind (head_checks l ++ body_checks l) enough body_numbered pass
-
-  record_room : record_cause (record_at l) (transaction_in l) room ≡ first_of enough
-  unfolding enough register_cause vote_cause mint_cause turn_cause
+  record_room : record_cause (record_at l) (transaction_in l) room ≡ first_of (room_checks (taken_of l) room)
+  unfolding register_cause vote_cause mint_cause turn_cause
   record_room =
       let h = head-passes l pass in
-      by_kinds l h (record_cause (record_at l) (transaction_in l) room ≡ first_of enough)
+      by_kinds l h (record_cause (record_at l) (transaction_in l) room ≡ first_of (room_checks (taken_of l) room))
       (λ k.
       rw (record_1 l h k, transaction_1 l h k, taken_1 l h k)
-      (first-behind (register_checks house_genesis (byte_at l 1) (transaction_at l 2)) ((ltb room 100, 15) ∷ []) refl
+      (first-behind (register_checks house_genesis (byte_at l 1) (transaction_at l 2)) (room_checks 100 room)
       (sym (cause_1 l h k) ∙ pass)))
       (λ k.
       rw (record_2 l h k, transaction_2 l h k, taken_2 l h k)
       (first-behind (vote_checks house_genesis (byte_at l 1) (byte_at l 2) (byte_at l 3) (transaction_at l 4))
-      ((ltb room 102, 15) ∷ []) refl (sym (cause_2 l h k) ∙ pass)))
+      (room_checks 102 room) (sym (cause_2 l h k) ∙ pass)))
       (λ k.
       rw (record_3 l h k, taken_3 l h k)
-      (first-behind (mint_checks house_genesis (byte_at l 1) (byte_at l 2) (word_at l 3) (word_at l 7)) ((ltb room 11, 15) ∷ [])
-      refl (sym (cause_3 l h k) ∙ pass)))
+      (first-behind (mint_checks house_genesis (byte_at l 1) (byte_at l 2) (word_at l 3) (word_at l 7)) (room_checks 11 room) (sym (cause_3 l h k) ∙ pass)))
       (λ k.
       rw (record_4 l h k, taken_4 l h k)
-      (first-behind (turn_checks (byte_at l 1)) ((ltb room 2, 15) ∷ []) refl (sym (cause_4 l h k) ∙ pass)))
+      (first-behind (turn_checks (byte_at l 1)) (room_checks 2 room) (sym (cause_4 l h k) ∙ pass)))
 
--- The reader's two answers: a record, of which the checks pass, or a refusal with the number of the check.
-was_read : (number : ℕ) (fields found : Record) → Read found ≡ answer_of number fields → (number ≡ 0) × (found ≡ fields)
-was_read number fields found e = go (eqb number 0) refl
-  where
-    go : (b : Bool) → eqb number 0 ≡ b → (number ≡ 0) × (found ≡ fields)
-    go true z = let f : Read found ≡ Read fields = e ∙ rw z refl in (eqb-true number 0 z, cc)
-    go false z =
-        let f : Read found ≡ Refused number = e ∙ rw z refl in
-        let n : ◌≡◌ {A = ℕ} 0 1 = cc in
-        absurd (omega arith)
+-- The reader's two answers: a record, of which the checks pass, or the refusal of the check.
+was_read : (cause : Result Unit Refusal) (fields found : Record) → Ok found ≡ answer_of cause fields
+    → (cause ≡ Ok tt) × (found ≡ fields)
+was_read (Ok pass) fields found e = (refl, cc)
+was_read (Err refusal) fields found e = absurd cc
 
-was_refused : (number found : ℕ) (fields : Record) → Refused found ≡ answer_of number fields
-    → (found ≡ number) × (number ≡ 0 → ⊥)
-was_refused number found fields e = go (eqb number 0) refl
-  where
-    go : (b : Bool) → eqb number 0 ≡ b → (found ≡ number) × (number ≡ 0 → ⊥)
-    go true z =
-        let f : Refused found ≡ Read fields = e ∙ rw z refl in
-        let n : ◌≡◌ {A = ℕ} 0 1 = cc in
-        absurd (omega arith)
-    go false z = let f : Refused found ≡ Refused number = e ∙ rw z refl in (cc, eqb-false number 0 z)
+was_refused : (cause : Result Unit Refusal) (found : Refusal) (fields : Record) → Err found ≡ answer_of cause fields
+    → cause ≡ Err found
+was_refused (Ok pass) found fields e = absurd cc
+was_refused (Err refusal) found fields e = cc
 
 -- THEOREM: a record read and written again is a copy of its bytes.
 module _ (l before : List ℕ) {reading : Reading} (read : reading ≡ reading_of l) where
-  pub copies : ((i : ℕ) → get_or l i 0 < 256) → {fields : Record} {answer : Written} {after : List ℕ}
-      → reading.answer ≡ Read fields
+  pub copies : ((i : ℕ) → get_or l i 0 < 256) → {fields : Record} {answer : Result ℕ Refusal} {after : List ℕ}
+      → reading.answer ≡ Ok fields
       → Writes (record_cause fields reading.transaction (length before))
       (record_bytes fields reading.transaction) before answer after
       → Copies l before answer after
@@ -249,12 +220,10 @@ module _ (l before : List ℕ) {reading : Reading} (read : reading ≡ reading_o
       let again = read_writes_back l small (head-passes l p.0) in
       rw (p.1, t, record_room l p.0 (length before), again, ← copy_room l p.0 (length before)) at w
 
-  pub copies-refused : {number : ℕ} → reading.answer ≡ Refused number
-      → Copies l before (Written.Refused number) before
+  pub copies-refused : {refusal : Refusal} → reading.answer ≡ Err refusal
+      → Copies l before (Err refusal) before
   unfolding reading_of copy_cause read_cause
-  copies-refused {number} e =
-      let p = was_refused (read_cause l) number (record_at l) (sym e ∙ ap (λ (x : Reading). x.answer) read) in
-      let enough : List (Bool × ℕ) = (ltb (length before) (taken_of l), 15) ∷ [] in
-      refuses (copy_cause l (length before)) (take (taken_of l) l) before
-      (p.0 ∙ sym (first-stands (head_checks l ++ body_checks l) enough p.1))
-      (λ z. p.1 (sym p.0 ∙ z))
+  copies-refused {refusal} e =
+      let p = was_refused (read_cause l) refusal (record_at l) (sym e ∙ ap (λ (x : Reading). x.answer) read) in
+      refuses (take (taken_of l) l) before
+      (sym (first-stands (head_checks l ++ body_checks l) (room_checks (taken_of l) (length before)) p))

@@ -6,12 +6,12 @@ ghost use Rattle.std.specs.Prelude.{◌≡◌, length};
 ghost use Rattle.writer.specs.Writing.{Writes};
 ghost use Rattle.codec.specs.Records.{record_bytes, record_cause, read_back, Copies};
 
-use reader::{Answer, Reading, Record};
+use reader::{Reading, Record};
 use transaction::Transaction;
-use writer::Written;
+use transaction::refusal::Refusal;
 
 // A record of any kind, as the reader gives it. A genesis token's record and a turn take nothing of the transaction.
-pub fn write(fields: Record, t: Transaction, out: &mut [u8]) -> Written
+pub fn write(fields: Record, t: Transaction, out: &mut [u8]) -> Result<usize, Refusal>
     ensures { Writes (record_cause fields t (length out.old)) (record_bytes fields t)
         out.old result out.new }
 {
@@ -36,20 +36,15 @@ pub fn write(fields: Record, t: Transaction, out: &mut [u8]) -> Written
 pub fn write_and_read(fields: Record, t: Transaction, out: &mut [u8]) -> Reading
     ensures { result ≡ read_back fields t out.old }
 {
-    write(fields, t, out);
-    let lent = &out[..];
-    reader::read(lent)
+    let _ = write(fields, t, out);
+    reader::read(out)
 }
 
 // Reads the record at the front of the bytes, and writes its fields into the lent bytes: the same bytes again.
-pub fn copy(bytes: &[u8], out: &mut [u8]) -> Written
+pub fn copy(bytes: &[u8], out: &mut [u8]) -> Result<usize, Refusal>
     ensures { Copies bytes.now out.old result out.new }
 {
     let reading = reader::read(bytes);
-    let answer = reading.answer;
-    let t = reading.transaction;
-    match answer {
-        Answer::Read(fields) => write(fields, t, out),
-        Answer::Refused(number) => Written::Refused(number),
-    }
+    let fields = reading.answer?;
+    write(fields, reading.transaction, out)
 }

@@ -1,6 +1,6 @@
 -- Document 01, 'Records': where each field of a record stands.
 -- A list of bytes is read at a place k, from 0; past the end stands 0.
-use Rattle.std.specs.Prelude.{ℕ, ◌+◌, ◌*◌, cond, List, [], ◌∷◌, eqb, get_or}
+use Rattle.std.specs.Prelude.{ℕ, ◌+◌, ◌*◌, Option, Some, None, cond, List, [], ◌∷◌, eqb, get_or}
 use Rattle.transaction.specs.declared.Input.{Input}
 use Rattle.transaction.specs.declared.Output.{Output}
 use Rattle.transaction.specs.declared.Transaction.{Transaction}
@@ -16,8 +16,9 @@ unfoldable pub word_at : List ℕ → ℕ → ℕ
 word_at l k = joined (byte_at l k) (byte_at l (k + 1)) (byte_at l (k + 2)) (byte_at l (k + 3))
 
 -- one byte of kind, then a body whose length the kind fixes; every other kind has none
-unfoldable pub body_length : ℕ → ℕ
-body_length kind = cond (eqb kind 1) 99 (cond (eqb kind 2) 101 (cond (eqb kind 3) 10 (cond (eqb kind 4) 1 0)))
+unfoldable pub body_length : ℕ → Option ℕ
+body_length kind =
+    cond (eqb kind 1) (Some 99) (cond (eqb kind 2) (Some 101) (cond (eqb kind 3) (Some 10) (cond (eqb kind 4) (Some 1) None)))
 
 -- an input's 14 bytes: shard 1, creator 4, index 1, owner 4, amount 4
 unfoldable pub input_at : List ℕ → ℕ → Input

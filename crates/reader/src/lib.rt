@@ -3,11 +3,12 @@
 // Internal, and public only because the crate `engine` is made of them: `head_cause`, and what is public of `layout` and `bodies`.
 #![tactic(auto)]
 
-ghost use Rattle.std.specs.Prelude.{◌≡◌};
+ghost use Rattle.std.specs.Prelude.{◌≡◌, MatchResult};
 ghost use Rattle.reader.specs.Reading.{Reads, head_cause, taken_of, rest_of};
 ghost use Rattle.reader.specs.Layout.{body_length};
 
 use transaction::Transaction;
+use transaction::refusal::Refusal;
 
 pub mod layout; // fields at their places
 pub mod bodies; // what `read` is made of
@@ -38,96 +39,88 @@ pub enum Record {
     },
 }
 
-// What was read, or the number of the refusal.
-#[derive(Clone, Copy)]
-pub enum Answer {
-    Read(Record),
-    Refused(u8),
-}
-
-// The answer with the transaction's fields beside it, and the bytes taken from the front.
+// The fields that were read or the refusal, with the transaction beside them, and the bytes taken from the front.
 #[derive(Clone, Copy)]
 pub struct Reading {
-    pub answer: Answer,
+    pub answer: Result<Record, Refusal>,
     pub transaction: Transaction,
     pub taken: usize,
 }
 
-// The length of the body that a kind has; 0 for every other kind.
+// The length of the body that a kind has; no other kind has one.
 #[tactic(auto, unfolding(crate::specs::Layout::body_length))]
-fn body_length(kind: u8) -> usize
+fn body_length(kind: u8) -> Option<usize>
     ensures { result ≡ body_length kind }
 {
     match kind {
-        1 => 99,
-        2 => 101,
-        3 => 10,
-        4 => 1,
-        0 | 5..=255 => 0,
+        1 => Some(99),
+        2 => Some(101),
+        3 => Some(10),
+        4 => Some(1),
+        0 | 5..=255 => None,
     }
 }
 
-// Checks 1 and 2: their number, or 0 where a whole record stands at the front.
-pub fn head_cause(bytes: &[u8]) -> u8
+// Checks 1 and 2, and the length of the whole record that stands at the front where they pass.
+fn whole_length(bytes: &[u8]) -> Result<usize, Refusal>
+    ensures { MatchResult result (λ size. (head_cause bytes.now ≡ Ok tt) × (size ≡ taken_of bytes.now))
+        (λ refusal. head_cause bytes.now ≡ Err refusal) }
+{
+    if bytes.is_empty() {
+        return Err(Refusal::TooShort);
+    }
+    let Some(body) = body_length(bytes[0]) else {
+        return Err(Refusal::UnknownKind);
+    };
+    if bytes.len() <= body {
+        return Err(Refusal::TooShort);
+    }
+    Ok(body + 1)
+}
+
+// Checks 1 and 2: ok where a whole record stands at the front.
+pub fn head_cause(bytes: &[u8]) -> Result<(), Refusal>
     ensures { result ≡ head_cause bytes.now }
 {
-    if bytes.len() == 0 {
-        return 2;
-    }
-    let kind = bytes[0];
-    let n = body_length(kind);
-    if n == 0 {
-        return 1;
-    }
-    if bytes.len() <= n {
-        return 2;
-    }
-    0
+    whole_length(bytes)?;
+    Ok(())
 }
 
 // The record at the front of the bytes. A transaction is the last 98 bytes of its record.
 pub fn read(bytes: &[u8]) -> Reading
     ensures { Reads bytes.now result }
 {
-    let cause = head_cause(bytes);
-    if cause != 0 {
-        return bodies::refused(cause, bytes.len());
+    let size = match whole_length(bytes) {
+        Ok(size) => size,
+        Err(cause) => return bodies::refused(cause, bytes.len()),
+    };
+    if 2 < bytes[0] {
+        return bodies::read_bare(bytes, size);
     }
-    let kind = bytes[0];
-    if 2 < kind {
-        return bodies::read_bare(bytes);
-    }
-    let size = body_length(kind) + 1;
     if !bodies::front_fits(bytes) {
-        return bodies::refused(3, size);
+        return bodies::refused(Refusal::OutOfRange, size);
     }
-    let t = layout::transaction_at(bytes, size - 98);
-    let found = bodies::cause_of(t);
-    if found != 0 {
-        return bodies::refused(found, size);
+    let transaction = layout::transaction_at(bytes, size - 98);
+    if let Err(cause) = bodies::cause_of(transaction) {
+        return bodies::refused(cause, size);
     }
-    let fields = bodies::front_fields(bytes);
     Reading {
-        answer: Answer::Read(fields),
-        transaction: t,
+        answer: Ok(bodies::front_fields(bytes)),
+        transaction,
         taken: size,
     }
 }
 
-// The bytes that the record at the front takes.
+// The bytes that the record at the front takes: all of them where no whole record stands there.
 fn taken(bytes: &[u8]) -> usize
     ensures { result ≡ taken_of bytes.now }
 {
-    if head_cause(bytes) != 0 {
-        return bytes.len();
-    }
-    body_length(bytes[0]) + 1
+    whole_length(bytes).unwrap_or(bytes.len())
 }
 
 // The part of the caller's bytes behind the record, for the next read.
 pub fn rest<'a>(bytes: &'a [u8]) -> &'a [u8]
     ensures { result.now ≡ rest_of bytes.now }
 {
-    let n = taken(bytes);
-    &bytes[n..]
+    &bytes[taken(bytes)..]
 }

@@ -25,6 +25,12 @@ first-behind [] others e = refl
 first-behind ((true, k) ∷ fields) others e = absurd cc
 first-behind ((false, k) ∷ fields) others e = first-behind fields others e
 
+-- Where both tables pass, the first one passes.
+pub first-front : (fields others : List (Bool × Refusal)) → first_of (fields ++ others) ≡ Ok tt → first_of fields ≡ Ok tt
+first-front [] others e = refl
+first-front ((true, k) ∷ fields) others e = absurd cc
+first-front ((false, k) ∷ fields) others e = first-front fields others e
+
 -- the same of what was found in the first table, and then in the second
 module _ (fields others : List (Bool × Refusal)) {found : Result Unit Refusal} (e : found ≡ first_of fields) where
   pub table_stands : {refusal : Refusal} → found ≡ Err refusal → found ≡ first_of (fields ++ others)

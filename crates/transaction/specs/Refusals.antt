@@ -1,5 +1,5 @@
 -- Document 01's number for each cause of refusal; from 17 on those of document 02.
-use Rattle.std.specs.Prelude.{ℕ}
+use Rattle.std.specs.Prelude.{ℕ, Result, Ok, Err}
 use Rattle.transaction.specs.declared.refusal.Refusal.{Refusal}
 use Rattle.transaction.specs.declared.refusal.Refusal.TheVariants.{
   UnknownKind,
@@ -43,3 +43,13 @@ refusal_number VoteNotGiven = 16
 refusal_number HeldOff = 17
 refusal_number NoSuchNumber = 18
 refusal_number TurnedAlready = 19
+
+-- the number of an answer: its refusal's, and 0 where it is none
+abbrev pub number_of : {A : Type 0} → Result A Refusal → ℕ
+number_of (Ok done) = 0
+number_of (Err refusal) = refusal_number refusal
+
+-- the answer by the checks: what is to be answered where all pass, and the refusal where one fails
+abbrev pub answer_of : {A : Type 0} → Result Unit Refusal → A → Result A Refusal
+answer_of (Ok pass) done = Ok done
+answer_of (Err refusal) done = Err refusal

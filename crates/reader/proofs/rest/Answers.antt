@@ -18,4 +18,4 @@ returns c =
     let l = c.args.bytes.now in
     let taken = taken_of l in
     let behind = take_all (length l - taken) (drop taken l) (rw (length-drop taken l) (omega arith)) in
-    rw c.taken-n.ensures behind
+    rw c.taken.ensures behind

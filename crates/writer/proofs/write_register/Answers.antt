@@ -1,19 +1,40 @@
-use Rattle.std.proofs.Common.{length, refl, sym, ◌∙◌}
+use Rattle.std.proofs.Common.{length, sym, ◌∙◌}
+use Rattle.std.proofs.lemmas.Result.{err_from_is_err_and}
 use Rattle.transaction.specs.Checks.{house_genesis, register_checks}
-use Rattle.writer.specs.Writing.{register_cause}
+use Rattle.transaction.proofs.Tables.{table_stands, table_behind}
+use Rattle.writer.specs.Writing.{room_checks, register_cause}
 use Rattle.writer.proofs.Stores.{length-register}
-use Rattle.writer.proofs.Writes.{room-there, writes}
+use Rattle.writer.proofs.Writes.{refuses, writes}
 use Rattle.writer.proofs.write_register.Goals as goal
 
--- Where no check fits, there is room.
-pub put_register-requires : goal.put_register-requires
+-- a field is refused
+pub returns-in_err-register_cause : goal.returns-in_err-register_cause
 unfolding register_cause
-put_register-requires c =
+returns-in_err-register_cause c =
     let a = c.args in
-    let none = sym c.register_cause-cause.ensures ∙ c.if-cause-ne0.false in
-    room-there (register_checks house_genesis a.receiver a.t) 100 (length a.out.now) refl none
+    let fields = register_checks house_genesis a.receiver a.t in
+    let room = room_checks 100 (length a.out.now) in
+    let was = c.in_err-register_cause.was in
+    let p = err_from_is_err_and c.from_residual.result c.from_residual.ensures.1 in
+    rw (p.1, p.2) (refuses _ _ (sym was ∙ table_stands fields room c.register_cause.ensures was))
 
+-- the fields pass, and there is too little room
+pub returns-in_err-room : goal.returns-in_err-room
+unfolding register_cause
+returns-in_err-room c =
+    let a = c.args in
+    let fields = register_checks house_genesis a.receiver a.t in
+    let room = room_checks 100 (length a.out.now) in
+    let behind = table_behind fields room c.register_cause.ensures c.in_ok-register_cause.was c.room.ensures in
+    let p = err_from_is_err_and c.from_residual-in_err-room.result c.from_residual-in_err-room.ensures.1 in
+    rw (p.1, p.2) (refuses _ _ (sym c.in_err-room.was ∙ behind))
+
+-- all checks pass
 pub returns : goal.returns
+unfolding register_cause
 returns c =
     let a = c.args in
-    writes _ _ _ c.register_cause-cause.ensures c.if-cause-ne0.false (length-register a.receiver a.t) c.put_register.ensures
+    let fields = register_checks house_genesis a.receiver a.t in
+    let room = room_checks 100 (length a.out.now) in
+    let behind = table_behind fields room c.register_cause.ensures c.in_ok-register_cause.was c.room.ensures in
+    writes _ _ (sym c.in_ok-room.was ∙ behind) (length-register a.receiver a.t) c.put_register.ensures

@@ -1,8 +1,7 @@
 use Rattle.std.proofs.Common.{◌≡◌, arith, sym, ◌∙◌}
-use Rattle.reader.specs.Reading.{read_cause, record_at}
-use Rattle.reader.specs.declared.Record.TheVariants.{Mint}
-use Rattle.reader.specs.Layout.{byte_at}
-use Rattle.reader.proofs.Cases.{long_3, cause_3, record_3, transaction_3, taken_3, reading_bare}
+use Rattle.std.proofs.lemmas.Result.{err_from_is_err_and}
+use Rattle.reader.specs.Reading.{read_cause}
+use Rattle.reader.proofs.Cases.{long_3, cause_3, record_3, answer_fails, answer_passes}
 use Rattle.reader.proofs.bodies.read_mint.Goals as goal
 
 -- All eleven bytes are there.
@@ -18,17 +17,21 @@ word_at-owner-requires c = omega (arith, long_3 c.args.bytes.now c.requires.0 c.
 pub word_at-amount-requires : goal.word_at-amount-requires
 word_at-amount-requires c = omega (arith, long_3 c.args.bytes.now c.requires.0 c.requires.1)
 
--- Each field is what the definition reads, and so is the number of its checks.
+-- Each field is what the definition reads, and so is the answer of the checks.
+pub returns-in_err-mint_cause : goal.returns-in_err-mint_cause
+returns-in_err-mint_cause c =
+    let l = c.args.bytes.now in
+    let head = c.requires.0 in
+    let checked : c.mint_cause.result ≡ read_cause l =
+    c.mint_cause.ensures ∙ rw (c.word_at-owner.ensures, c.word_at-amount.ensures) (sym (cause_3 l head c.requires.1)) in
+    let p = err_from_is_err_and c.from_residual.result c.from_residual.ensures.1 in
+    rw (p.1, p.2) (answer_fails l head (sym checked ∙ c.in_err-mint_cause.was))
+
 pub returns : goal.returns
 returns c =
     let l = c.args.bytes.now in
     let head = c.requires.0 in
-    let kind = c.requires.1 in
-    let owner = c.word_at-owner in
-    let amount = c.word_at-amount in
-    let number = sym (cause_3 l head kind) in
-    let mint = sym (record_3 l head kind) in
-    let checked : c.mint_cause-cause.result ≡ read_cause l = c.mint_cause-cause.ensures ∙ rw (owner.ensures, amount.ensures) number in
-    let fields : Mint (byte_at l 1) (byte_at l 2) owner.result amount.result ≡ record_at l = rw (owner.ensures, amount.ensures) mint in
-    let taken = sym (taken_3 l head kind) in
-    c.bare.ensures ∙ reading_bare l head checked fields (transaction_3 l head kind) taken
+    let checked : c.mint_cause.result ≡ read_cause l =
+    c.mint_cause.ensures ∙ rw (c.word_at-owner.ensures, c.word_at-amount.ensures) (sym (cause_3 l head c.requires.1)) in
+    answer_passes l head (sym checked ∙ c.in_ok-mint_cause.was)
+    (rw (c.word_at-owner.ensures, c.word_at-amount.ensures) (sym (record_3 l head c.requires.1)))
