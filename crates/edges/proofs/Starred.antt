@@ -4,6 +4,7 @@ use Prim.Native.Nat.{ℕ}
 use mathlib.Core.Path.{◌≡◌, refl}
 use mathlib.Core.List.{List}
 use lib.ListN.{length}
+use Rattle.transaction.specs.declared.refusal.Refusal.TheVariants.{TooShort}
 use Rattle.transaction.specs.Tokens.{takes_part, same_token, same_input, same_output, same_transaction}
 use Rattle.transaction.specs.Checks.{
   index_fits,
@@ -75,7 +76,7 @@ use Rattle.model.specs.Totals.{total_amount, held_in, total_held}
 use Rattle.edges.specs.Table.{ids_held, readings, WholeRegistration, StarredTable}
 
 -- any 99 bytes of kind 1
-short : (bytes : List ℕ) → kind_of bytes ≡ 1 → length bytes ≡ 99 → reading_of bytes ≡ refusal 2 99
+short : (bytes : List ℕ) → kind_of bytes ≡ 1 → length bytes ≡ 99 → reading_of bytes ≡ refusal TooShort 99
 unfolding head_cause read_cause taken_of reading_of body_length
 short bytes kind long = simp (kind, long)
 
@@ -120,4 +121,5 @@ starred = record {
   number-again = (refl, refl, refl, refl);
   two-sevens = (refl, refl, refl);
   example_listing = (refl, refl, refl, refl, refl, refl, refl, refl);
+  numbers = refl;
 }

@@ -3,26 +3,33 @@
 -- `starred` in proofs/Starred.antt proves all of them.
 -- Rows about records speak of bytes: the writer's bytes, and one record spelled out.
 -- Rows about calls play them from the empty cluster (round).
-use Rattle.std.specs.Prelude.{ℕ, zero, suc, ◌≡◌, true, false, List, [], ◌∷◌, ◌++◌, map, length, take, replicate}
+use Rattle.std.specs.Prelude.{ℕ, zero, suc, ◌≡◌, Result, Ok, Err, true, false, List, [], ◌∷◌, ◌++◌, map, length, take, replicate}
 use Rattle.transaction.specs.declared.TokenId.{TokenId}
 use Rattle.transaction.specs.declared.Input.{Input}
 use Rattle.transaction.specs.declared.Output.{Output}
 use Rattle.transaction.specs.declared.Transaction.{Transaction}
+use Rattle.transaction.specs.declared.refusal.Refusal.{Refusal}
+use Rattle.transaction.specs.declared.refusal.Refusal.TheVariants.{
+  TooShort,
+  OutOfRange,
+  SumsDiffer,
+  NumberTaken,
+  KnownAlready,
+}
+use Rattle.transaction.specs.Refusals.{refusal_number}
 use Rattle.transaction.specs.Lists.{repeats, first_of}
 use Rattle.transaction.specs.Tokens.{zero_input, zero_output, blank_transaction, same_token}
 use Rattle.transaction.specs.Checks.{balanced, register_checks}
 use Rattle.reader.specs.declared.Record.{Record}
 use Rattle.reader.specs.declared.Record.TheVariants.{Register, Vote, Mint, Turn}
-use Rattle.reader.specs.declared.Answer.TheVariants.{Read}
 use Rattle.reader.specs.declared.Reading.{Reading}
 use Rattle.reader.specs.Layout.{byte_at, transaction_at}
 use Rattle.reader.specs.Reading.{kind_of, read_cause, taken_of, reading_of, refusal, rest_of}
 use Rattle.codec.specs.Records.{record_bytes, record_cause}
 use Rattle.model.specs.declared.Token.{Token}
 use Rattle.model.specs.declared.Outcome.TheVariants.{Wait, Commit, Abort}
-use Rattle.model.specs.declared.Answer.{Answer}
-use Rattle.model.specs.declared.Answer.TheVariants.{Refused, Minted, Registered, Heard, Again}
-use Rattle.model.specs.Answers.{carried_out}
+use Rattle.model.specs.declared.Done.TheVariants.{Minted, Registered, Heard, Again}
+use Rattle.model.specs.Answers.{Answer, carried_out}
 use Rattle.model.specs.Steps.{Ledger, house}
 use Rattle.model.specs.Shard.{Call, mint, register, deliver, turn}
 use Rattle.model.specs.Cluster.{empty_shards, ledger_at}
@@ -89,26 +96,26 @@ stretch_of (call ∷ calls) = bytes_of call ++ stretch_of calls
 
 -- its reading where nothing is refused: all its fields, all its bytes taken
 abbrev pub read_as : Call → Reading
-read_as call = record { answer = Read (fields_of call); transaction = transaction_of call; taken = length (bytes_of call) }
+read_as call = record { answer = Ok (fields_of call); transaction = transaction_of call; taken = length (bytes_of call) }
 
--- a writer's number for it where there is just room, 0 where it is written
-abbrev pub writer_cause : Call → ℕ
+-- why a writer refuses it where there is just room, ok where it is written
+abbrev pub writer_cause : Call → Result Unit Refusal
 writer_cause call = record_cause (fields_of call) (transaction_of call) (length (bytes_of call))
 
 -- It passes: the bytes are read as these fields, the writer writes them, and the empty cluster carries the call out.
 abbrev pub Passes : Call → Type 0
 Passes call =
     (reading_of (bytes_of call) ≡ read_as call)
-    × (writer_cause call ≡ 0)
+    × (writer_cause call ≡ Ok tt)
     × (map carried_out (answers_to (call ∷ [])) ≡ true ∷ [])
 
--- It gives the number: to the reader, which takes all its bytes, so that reading goes on behind it; to the writer;
--- and to the empty cluster.
-abbrev pub Gives : ℕ → Call → Type 0
-Gives number call =
-    (reading_of (bytes_of call) ≡ refusal number (length (bytes_of call)))
-    × (writer_cause call ≡ number)
-    × (answers_to (call ∷ []) ≡ Refused number ∷ [])
+-- It is refused so: by the reader, which takes all its bytes, so that reading goes on behind it; by the writer;
+-- and by the empty cluster.
+abbrev pub Gives : Refusal → Call → Type 0
+Gives cause call =
+    (reading_of (bytes_of call) ≡ refusal cause (length (bytes_of call)))
+    × (writer_cause call ≡ Err cause)
+    × (answers_to (call ∷ []) ≡ Err cause ∷ [])
 
 -- so many records of a longer stretch, each read from the place where the one before it ended
 unfoldable pub readings : ℕ → List ℕ → List Reading
@@ -255,7 +262,7 @@ pub record StarredTable : Type 0 where
   -- No bytes: 2, nothing taken, nothing behind. No calls: no answers, eight empty ledgers, and the amount held is 0.
   -- The listing's own line is to stand here too, once there is a definition of it.
   pub empty-input :
-      (reading_of [] ≡ refusal 2 0)
+      (reading_of [] ≡ refusal TooShort 0)
       × (rest_of [] ≡ [])
       × (answers_to [] ≡ [])
       × (shards_after [] ≡ empty_shards house)
@@ -264,10 +271,10 @@ pub record StarredTable : Type 0 where
   -- Any 99 bytes of kind 1; of any 100 only checks 3 to 5 of the fields can refuse, and all are taken;
   -- and the example's swap, byte by byte.
   pub length_of_kind_1 :
-      ((bytes : List ℕ) → kind_of bytes ≡ 1 → length bytes ≡ 99 → reading_of bytes ≡ refusal 2 99)
+      ((bytes : List ℕ) → kind_of bytes ≡ 1 → length bytes ≡ 99 → reading_of bytes ≡ refusal TooShort 99)
       × ((bytes : List ℕ) → kind_of bytes ≡ 1 → length bytes ≡ 100 → WholeRegistration bytes)
       × (bytes_of (register 0 example5) ≡ example5_bytes)
-      × (reading_of (take 99 example5_bytes) ≡ refusal 2 99)
+      × (reading_of (take 99 example5_bytes) ≡ refusal TooShort 99)
       × (length example5_bytes ≡ 100)
       × (reading_of example5_bytes ≡ read_as (register 0 example5))
   -- * Portions 1,000,000 pass; 1,000,001 and 0 give 3.
@@ -275,63 +282,63 @@ pub record StarredTable : Type 0 where
   pub amounts :
       Passes (mint 0 0 10 1000000)
       × Passes (register 0 (make 1 (input 0 0 0 10 1000000 ∷ []) (output 0 11 1000000 ∷ [])))
-      × Gives 3 (mint 0 0 10 1000001)
-      × Gives 3 (register 0 (make 1 (input 0 0 0 10 1000001 ∷ []) (output 0 11 1000000 ∷ output 0 12 1 ∷ [])))
-      × Gives 3 (register 0 (make 1 (input 0 0 0 10 1000000 ∷ input 0 0 1 10 1 ∷ []) (output 0 11 1000001 ∷ [])))
-      × Gives 3 (mint 0 0 10 0)
-      × Gives 3 (register 0 (make 1 (input 0 0 0 10 3 ∷ input 0 0 1 10 0 ∷ []) (output 0 11 3 ∷ [])))
-      × Gives 3 (register 0 (make 1 (input 0 0 0 10 3 ∷ []) (output 0 11 3 ∷ output 0 12 0 ∷ [])))
+      × Gives OutOfRange (mint 0 0 10 1000001)
+      × Gives OutOfRange (register 0 (make 1 (input 0 0 0 10 1000001 ∷ []) (output 0 11 1000000 ∷ output 0 12 1 ∷ [])))
+      × Gives OutOfRange (register 0 (make 1 (input 0 0 0 10 1000000 ∷ input 0 0 1 10 1 ∷ []) (output 0 11 1000001 ∷ [])))
+      × Gives OutOfRange (mint 0 0 10 0)
+      × Gives OutOfRange (register 0 (make 1 (input 0 0 0 10 3 ∷ input 0 0 1 10 0 ∷ []) (output 0 11 3 ∷ [])))
+      × Gives OutOfRange (register 0 (make 1 (input 0 0 0 10 3 ∷ []) (output 0 11 3 ∷ output 0 12 0 ∷ [])))
   -- * Input position 4 of making swap 9: 3. Position 127 of making swap 0: passes.
   pub input-index :
-      Gives 3 (register 0 (make 1 (input 0 9 4 10 3 ∷ []) (output 0 11 3 ∷ [])))
+      Gives OutOfRange (register 0 (make 1 (input 0 9 4 10 3 ∷ []) (output 0 11 3 ∷ [])))
       × Passes (register 0 (make 1 (input 0 0 127 10 3 ∷ []) (output 0 11 3 ∷ [])))
   -- * Inputs 3 and 2, outputs 5: balanced. Outputs 4: 5.
   pub sums :
       (balanced (three_and_two 5) ≡ true)
       × Passes (register 0 (three_and_two 5))
       × (balanced (three_and_two 4) ≡ false)
-      × Gives 5 (register 0 (three_and_two 4))
+      × Gives SumsDiffer (register 0 (three_and_two 4))
   -- * Two swaps name one held token rightly: the first registered votes yes, the other no.
   -- In either order: the first one waits, and the token is pledged to it; the other one's no aborts it (document 02, 5).
   -- And where the first one is decided at once, the token is gone.
   pub two-claims :
-      (answers_to (opened ∷ register 0 (claim 1) ∷ register 0 (claim 2) ∷ []) ≡ Minted ∷ Registered true Wait ∷ Registered false Abort ∷ [])
+      (answers_to (opened ∷ register 0 (claim 1) ∷ register 0 (claim 2) ∷ []) ≡ Ok Minted ∷ Ok (Registered true Wait) ∷ Ok (Registered false Abort) ∷ [])
       × (tokens_at 0 (opened ∷ register 0 (claim 1) ∷ register 0 (claim 2) ∷ []) ≡ token 0 0 10 3 1 ∷ [])
       × (answers_to (opened ∷ register 0 (claim 2) ∷ register 0 (claim 1) ∷ [])
-      ≡ Minted ∷ Registered true Wait ∷ Registered false Abort ∷ [])
+      ≡ Ok Minted ∷ Ok (Registered true Wait) ∷ Ok (Registered false Abort) ∷ [])
       × (tokens_at 0 (opened ∷ register 0 (claim 2) ∷ register 0 (claim 1) ∷ []) ≡ token 0 0 10 3 2 ∷ [])
       × (answers_to (opened ∷ register 0 (alone 1) ∷ register 0 (alone 2) ∷ [])
-      ≡ Minted ∷ Registered true Commit ∷ Registered false Abort ∷ [])
+      ≡ Ok Minted ∷ Ok (Registered true Commit) ∷ Ok (Registered false Abort) ∷ [])
       × (tokens_at 0 (opened ∷ register 0 (alone 1) ∷ register 0 (alone 2) ∷ []) ≡ token 1 0 11 3 0 ∷ [])
   -- * Right token, wrong household: no, and nothing is pledged.
   -- So a swap that names it rightly afterwards gets yes.
   pub wrong-owner :
-      (answers_to (opened ∷ register 0 wrong_owner ∷ []) ≡ Minted ∷ Registered false Abort ∷ [])
+      (answers_to (opened ∷ register 0 wrong_owner ∷ []) ≡ Ok Minted ∷ Ok (Registered false Abort) ∷ [])
       × (tokens_at 0 (opened ∷ register 0 wrong_owner ∷ []) ≡ token 0 0 10 3 0 ∷ [])
       × (answers_to (opened ∷ register 0 wrong_owner ∷ register 0 (claim 1) ∷ [])
-      ≡ Minted ∷ Registered false Abort ∷ Registered true Wait ∷ [])
+      ≡ Ok Minted ∷ Ok (Registered false Abort) ∷ Ok (Registered true Wait) ∷ [])
   -- * One input available, one not: no, and the first stays pledged.
   -- So a swap that names it rightly afterwards gets no.
   pub one-available :
-      (answers_to (opened ∷ register 0 half ∷ []) ≡ Minted ∷ Registered false Abort ∷ [])
+      (answers_to (opened ∷ register 0 half ∷ []) ≡ Ok Minted ∷ Ok (Registered false Abort) ∷ [])
       × (tokens_at 0 (opened ∷ register 0 half ∷ []) ≡ token 0 0 10 3 6 ∷ [])
       × (answers_to (opened ∷ register 0 half ∷ register 0 (claim 1) ∷ [])
-      ≡ Minted ∷ Registered false Abort ∷ Registered false Abort ∷ [])
+      ≡ Ok Minted ∷ Ok (Registered false Abort) ∷ Ok (Registered false Abort) ∷ [])
   -- * Swap 5 registered again: 8. Another swap numbered 5: 7.
   -- Both leave all as it was. It is the same once swap 5 is decided.
   pub number-again :
       (answers_to (opened ∷ register 0 example5 ∷ register 0 example5 ∷ register 0 other5 ∷ [])
-      ≡ Minted ∷ Registered true Wait ∷ Refused 8 ∷ Refused 7 ∷ [])
+      ≡ Ok Minted ∷ Ok (Registered true Wait) ∷ Err KnownAlready ∷ Err NumberTaken ∷ [])
       × (shards_after (opened ∷ register 0 example5 ∷ register 0 example5 ∷ register 0 other5 ∷ [])
       ≡ shards_after (opened ∷ register 0 example5 ∷ []))
       × (answers_to (cut ++ (register 0 example5 ∷ register 0 other5 ∷ []))
-      ≡ answers_to cut ++ (Refused 8 ∷ Refused 7 ∷ []))
+      ≡ answers_to cut ++ (Err KnownAlready ∷ Err NumberTaken ∷ []))
       × (shards_after (cut ++ (register 0 example5 ∷ register 0 other5 ∷ [])) ≡ shards_after cut)
   -- * Two swaps numbered 7, one of pantries 0 and 1, one of 2 and 3: both may commit; the token names differ by pantry.
   -- Registered at their shards and with their votes delivered, both commit at all of them;
   -- the ids of the tokens then held.
   pub two-sevens :
-      (answers_to sevens ≡ Minted ∷ Minted ∷ replicate 4 (Registered true Wait) ++ replicate 4 (Heard Commit))
+      (answers_to sevens ≡ Ok Minted ∷ Ok Minted ∷ replicate 4 (Ok (Registered true Wait)) ++ replicate 4 (Ok (Heard Commit)))
       × (ids_after sevens ≡ id 1 7 0 ∷ id 3 7 0 ∷ [])
       × (repeats same_token (ids_after sevens) ≡ false)
   -- The listing program's example: 1 0 OPENED, 2 1 OPENED, 3 0 YES WAIT, 4 1 YES WAIT, 5 0 HEARD COMMIT,
@@ -342,10 +349,13 @@ pub record StarredTable : Type 0 where
   pub example_listing :
       (readings 7 (stretch_of example) ≡ map read_as example)
       × (answers_to example
-      ≡ Minted ∷ Minted ∷ Registered true Wait ∷ Registered true Wait ∷ Heard Commit ∷ Heard Commit ∷ Again Commit ∷ [])
+      ≡ Ok Minted ∷ Ok Minted ∷ Ok (Registered true Wait) ∷ Ok (Registered true Wait) ∷ Ok (Heard Commit) ∷ Ok (Heard Commit) ∷ Ok (Again Commit) ∷ [])
       × (tokens_at 0 example ≡ token 5 1 20 2 0 ∷ [])
       × (tokens_at 1 example ≡ token 5 0 10 3 0 ∷ [])
       × (ids_after example ≡ id 0 5 1 ∷ id 1 5 0 ∷ [])
       × (total_after example ≡ 5)
       × (ids_after cut ≡ id 0 5 1 ∷ id 1 0 0 ∷ [])
       × (total_after cut ≡ 4)
+  -- The numbers that the lines name, of the refusals that the rows name.
+  pub numbers :
+      map refusal_number (TooShort ∷ OutOfRange ∷ SumsDiffer ∷ NumberTaken ∷ KnownAlready ∷ []) ≡ 2 ∷ 3 ∷ 5 ∷ 7 ∷ 8 ∷ []
