@@ -1,7 +1,8 @@
 // What is kept in some words, one behind the other: how it is read from them and stored there.
 ghost use Rattle.std.specs.Prelude.{ℕ, List, ◌≡◌, ◌+◌, ◌*◌, ◌%◌, ◌≤◌, ◌<◌};
 ghost use Rattle.model.specs.Answers.{finding_number, pledging_number};
-ghost use Rattle.layout.specs.Layout.{shard_words, token_size, input_size, output_size, found_size, said_in, token_in, input_in, output_in, found_in, array_in, Local, Within};
+ghost use Rattle.layout.specs.Layout.{shard_words, token_size, input_size, output_size, found_size, array_in, Local, Within};
+ghost use Rattle.layout.specs.Layout.{said_in, token_in, input_in, output_in, found_in};
 ghost use Rattle.layout.specs.Reads.{said_local, token_local, input_local, output_local, found_local};
 
 use crate::findings::{finding_from, finding_number, pledging_number};

@@ -34,7 +34,8 @@ joined false false false true = refl
 joined false false false false = refl
 
 -- the shards of one list and those of another
-pub decides-both : (heard : List Said) (shards others : List ℕ) → together (decision_of heard shards) (decision_of heard others) ≡ decision_of heard (shards ++ others)
+pub decides-both : (heard : List Said) (shards others : List ℕ)
+    → together (decision_of heard shards) (decision_of heard others) ≡ decision_of heard (shards ++ others)
 decides-both heard shards others =
     joined (any (is_no heard) shards) (all (is_yes heard) shards) (any (is_no heard) others) (all (is_yes heard) others)
     ∙ rw (any_append (is_no heard) shards others, all_append (is_yes heard) shards others) refl

@@ -7,4 +7,6 @@ use Rattle.layout.proofs.Slots.{findings_array}
 use Rattle.layout.proofs.entries.findings_at.Goals as goal
 
 pub returns : goal.returns
-returns c = c.read_all.ensures ∙ findings_array c.args.s.now (entry_place c.args.k + findings_offset) ∙ sym (ap (λ (k : Known). k.findings) (known_get c.args.s.now c.args.k c.requires))
+returns c =
+    c.read_all.ensures ∙ findings_array c.args.s.now (entry_place c.args.k + findings_offset)
+    ∙ sym (ap (λ (k : Known). k.findings) (known_get c.args.s.now c.args.k c.requires))
