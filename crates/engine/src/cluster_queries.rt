@@ -10,7 +10,6 @@ ghost use Rattle.model.specs.Totals.{held_in, total_held};
 ghost use Rattle.words.specs.Words.{yes, byte_of};
 ghost use Rattle.engine.specs.Queries.{known_code, TellsToken, TellsKnown, TellsFindings};
 
-use crate::codes::flag;
 use crate::findings::tell;
 use crate::ledgers::{held_code, known_code, known_words, token_words};
 use cluster::{Cluster, queries};
@@ -102,7 +101,7 @@ pub extern "C" fn plankeeper_is_turned(c: &Cluster, shard: u32) -> u32
     requires { Sound c.now }
     ensures { result ≡ yes (ledger_at house (view c.now) (byte_of shard)).turned }
 {
-    flag(queries::is_turned(c, narrow(shard)))
+    u32::from(queries::is_turned(c, narrow(shard)))
 }
 
 // The sum of the amounts that it holds (document 01: the portions held in a pantry).

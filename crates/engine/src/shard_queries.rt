@@ -8,7 +8,6 @@ ghost use Rattle.shard.specs.Queries.{outcome_of_number};
 ghost use Rattle.words.specs.Words.{yes, byte_of};
 ghost use Rattle.engine.specs.Queries.{known_code, TellsToken, TellsKnown, TellsFindings};
 
-use crate::codes::flag;
 use crate::findings::tell;
 use crate::ledgers::{held_code, known_code, known_words, token_words};
 use layout::Words;
@@ -87,7 +86,7 @@ pub extern "C" fn plankeeper_shard_is_turned(s: &Words) -> u32
     requires { Sound s.now }
     ensures { result ≡ yes (view s.now).turned }
 {
-    flag(queries::is_turned(s))
+    u32::from(queries::is_turned(s))
 }
 
 // The sum of the amounts that it holds (document 01: of the portions).

@@ -23,7 +23,7 @@ take_record-number-requires c =
 pub returns-then-number-ne0 : goal.returns-then-number-ne0
 returns-then-number-ne0 c =
     let passes = head (goal.at.returns-then-number-ne0 c).Else-head_cause-ne0 in
-    fills-refused c.args.bytes.now passes c.take_record-number.ensures c.if-number-ne0.true c.wide.ensures.0
+    fills-refused c.args.bytes.now passes c.take_record-number.ensures c.if-number-ne0.true c.from.ensures
 
 pub returns : goal.returns
 returns c =
