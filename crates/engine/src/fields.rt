@@ -17,13 +17,29 @@ pub(crate) fn record_words(fields: Record) -> [u32; 7]
             receiver,
             sender,
             verdict,
-        } => [2, u32::from(receiver), u32::from(sender), u32::from(verdict), 0, 0, 0],
+        } => [
+            2,
+            u32::from(receiver),
+            u32::from(sender),
+            u32::from(verdict),
+            0,
+            0,
+            0,
+        ],
         Record::Mint {
             receiver,
             index,
             owner,
             amount,
-        } => [3, u32::from(receiver), 0, 0, u32::from(index), owner, amount],
+        } => [
+            3,
+            u32::from(receiver),
+            0,
+            0,
+            u32::from(index),
+            owner,
+            amount,
+        ],
         Record::Turn { receiver } => [4, u32::from(receiver), 0, 0, 0, 0, 0],
     }
 }

@@ -16,7 +16,10 @@ fn pair_at(count: u8, found: &[Found; 4], k: usize) -> [u32; 2]
         (0 ∷ 0 ∷ []) }
 {
     match found.get(k) {
-        Some(x) if k < usize::from(count) => [finding_number(x.finding), pledging_number(x.finding)],
+        Some(x) if k < usize::from(count) => [
+            finding_number(x.finding),
+            pledging_number(x.finding),
+        ],
         _ => [0, 0],
     }
 }

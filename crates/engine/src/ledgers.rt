@@ -9,7 +9,7 @@ use shard::queries::{HeldToken, KnownOutcome};
 use words::words_of;
 
 // 1 for a token that is held, 0 for none.
-pub(crate) fn held_code(token: HeldToken) -> u32
+fn held_code(token: HeldToken) -> u32
     ensures { result ≡ held_code token }
 {
     match token {
@@ -19,7 +19,7 @@ pub(crate) fn held_code(token: HeldToken) -> u32
 }
 
 // Creator, index, owner, amount and pledge; zeros for none.
-pub(crate) fn token_words(token: HeldToken) -> [u32; 5]
+fn token_words(token: HeldToken) -> [u32; 5]
     ensures { result ≡ token_words token }
 {
     match token {
@@ -39,8 +39,24 @@ pub(crate) fn known_code(outcome: KnownOutcome) -> u32
 }
 
 // The transaction's words with the verdicts heard behind them.
-pub(crate) fn known_words(known: Known) -> [u32; 43]
+fn known_words(known: Known) -> [u32; 43]
     ensures { result ≡ known_words known }
 {
     joined(words_of(known.transaction), known.heard.map(u32::from))
+}
+
+// What a query for the token at a place answers: the number, and the words into the lent ones.
+pub(crate) fn tell_token(held: HeldToken, words: &mut [u32; 5]) -> u32
+    ensures { (result ≡ held_code held) × (words.new ≡ token_words held) }
+{
+    *words = token_words(held);
+    held_code(held)
+}
+
+// And what one for the known transaction at a place answers.
+pub(crate) fn tell_known(known: Known, outcome: KnownOutcome, words: &mut [u32; 43]) -> u32
+    ensures { (result ≡ known_code outcome) × (words.new ≡ known_words known) }
+{
+    *words = known_words(known);
+    known_code(outcome)
 }

@@ -8,13 +8,12 @@ ghost use Rattle.reader.specs.declared.Record.TheVariants.{Register, Vote};
 ghost use Rattle.engine.specs.Fields.{record_words};
 ghost use Rattle.engine.specs.Taking.{LastOf, TakesTransaction, TakesRecord};
 
-use std::array;
-
 use crate::fields::record_words;
 use crate::slots::take_slots;
 use reader::Record;
 use reader::bodies::front_fits;
 use reader::layout::{input_at, output_at, word_at};
+use std::array;
 use transaction::checks::{input_total, named_twice, output_total};
 use transaction::fields::counts_fit;
 use transaction::{Input, Output};

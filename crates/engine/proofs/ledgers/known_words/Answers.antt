@@ -1,4 +1,4 @@
-use Rattle.std.proofs.Common.{rules, ◌≡◌, ◌∙◌, sym, get_or}
+use Rattle.std.proofs.Common.{rules}
 use Rattle.std.proofs.lemmas.List.{same_lists}
 use Rattle.engine.specs.Queries.{known_words}
 use Rattle.engine.proofs.ledgers.known_words.Goals as goal

@@ -1,5 +1,5 @@
 -- The slot's words stand in the part of the lent words that they were copied to.
-use Rattle.std.proofs.Common.{◌≡◌, ◌∙◌, ap, length, arith, ◌-◌, ◌+◌}
+use Rattle.std.proofs.Common.{◌∙◌, ap, arith, ◌-◌, ◌+◌}
 use Rattle.engine.proofs.Taken.{part-sets}
 use Rattle.engine.proofs.slots.take_slot.Goals as goal
 

@@ -1,5 +1,5 @@
 -- Slot by slot: the first that does not fit decides, and where all fit their words stand in one run.
-use Rattle.std.proofs.Common.{◌≡◌, ◌∙◌, Bool, true, false, sym, arith, refl}
+use Rattle.std.proofs.Common.{◌≡◌, ◌∙◌, sym, arith, refl}
 use mathlib.Core.Bool.{false≢true}
 use Rattle.engine.proofs.Taken.{none-passed, one-more, unfit-at, all-fit, next-run, whole-run}
 use Rattle.engine.proofs.slots.take_slots.Goals as goal
