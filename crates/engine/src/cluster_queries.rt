@@ -62,7 +62,11 @@ pub extern "C" fn plankeeper_known_at(
         (ledger_at house (view c.now) (byte_of shard)).known place result known.new }
 {
     let at = narrow(shard);
-    tell_known(queries::known_at(c, at, place), queries::outcome_at(c, at, place), known)
+    tell_known(
+        queries::known_at(c, at, place),
+        queries::outcome_at(c, at, place),
+        known,
+    )
 }
 
 // The outcome there of the transaction that it knows by that number; 3 for none.

@@ -8,7 +8,7 @@ ghost use Rattle.engine.specs.Fields.{Fills};
 ghost use Rattle.engine.specs.Writing.{code_of, Encodes};
 
 use crate::fields::{fields_of, number_of};
-use crate::taking::take_record;
+use crate::taking::{VOTE, take_record};
 use words::{narrow, transaction_from};
 use writer::Written;
 
@@ -30,7 +30,7 @@ pub extern "C" fn plankeeper_read(bytes: &[u8], fields: &mut [u32; 42]) -> u32
     if reader::head_cause(bytes) != 0 {
         return read_any(bytes, fields);
     }
-    if 2 < bytes[0] {
+    if VOTE < bytes[0] {
         return read_any(bytes, fields);
     }
     let number = take_record(bytes, fields);

@@ -48,7 +48,11 @@ pub extern "C" fn plankeeper_shard_known_at(s: &Words, place: usize, known: &mut
     requires { Sound s.now }
     ensures { TellsKnown (view s.now).known place result known.new }
 {
-    tell_known(queries::known_at(s, place), queries::outcome_at(s, place), known)
+    tell_known(
+        queries::known_at(s, place),
+        queries::outcome_at(s, place),
+        known,
+    )
 }
 
 // The outcome here of the transaction that it knows by that number; 3 for none.

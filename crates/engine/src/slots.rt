@@ -15,16 +15,20 @@ use transaction::fields::{input_slot_fits, output_slot_fits};
 use transaction::{Input, Output};
 use words::Slot;
 
+pub(crate) const INPUT: usize = 14; // the bytes of an input
+
+pub(crate) const OUTPUT: usize = 9; // the bytes of an output
+
 // A slot that a record has: so many bytes, which are N words.
 pub(crate) trait Taken<const N: usize>: Slot<N> {
     ghost SIZE: { ℕ };
 
     const SIZE: usize; // its bytes
 
-    // the slot at a place of the bytes
+    // The slot at a place of the bytes.
     ghost read_at: { List ℕ → ℕ → Self };
 
-    // what it has to pass where it is used, and where it is not
+    // What it has to pass where it is used, and where it is not.
     ghost used_fits: { Self → Bool };
 
     ghost unused_fits: { Self → Bool };
@@ -41,7 +45,7 @@ pub(crate) trait Taken<const N: usize>: Slot<N> {
 impl Taken<5> for Input {
     ghost SIZE = { 14 };
 
-    const SIZE: usize = 14;
+    const SIZE: usize = INPUT;
 
     ghost read_at = { input_at };
 
@@ -61,7 +65,7 @@ impl Taken<5> for Input {
 impl Taken<3> for Output {
     ghost SIZE = { 9 };
 
-    const SIZE: usize = 9;
+    const SIZE: usize = OUTPUT;
 
     ghost read_at = { output_at };
 

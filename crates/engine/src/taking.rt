@@ -9,7 +9,7 @@ ghost use Rattle.engine.specs.Fields.{record_words};
 ghost use Rattle.engine.specs.Taking.{LastOf, TakesTransaction, TakesRecord};
 
 use crate::fields::record_words;
-use crate::slots::take_slots;
+use crate::slots::{INPUT, OUTPUT, take_slots};
 use reader::Record;
 use reader::bodies::front_fits;
 use reader::layout::{input_at, output_at, word_at};
@@ -19,6 +19,8 @@ use transaction::fields::counts_fit;
 use transaction::{Input, Output};
 
 const REGISTER: u8 = 1; // the kind of a registration
+
+pub(crate) const VOTE: u8 = 2; // and that of a vote
 
 const FRONT: usize = 7; // the words in front of the transaction
 
@@ -32,11 +34,11 @@ fn last_cause(bytes: &[u8], inputs: usize, outputs: usize, count: u8) -> u8
     requires { (inputs + 56 ≤ length bytes.now) × (outputs + 36 ≤ length bytes.now) }
     ensures { LastOf (inputs_at bytes.now inputs) (outputs_at bytes.now outputs) count result }
 {
-    let x = array::from_fn(|k| input_at(bytes, inputs + k * 14));
+    let x = array::from_fn(|k| input_at(bytes, inputs + k * INPUT));
     if named_twice(count, x) {
         return 4;
     }
-    let y = array::from_fn(|k| output_at(bytes, outputs + k * 9));
+    let y = array::from_fn(|k| output_at(bytes, outputs + k * OUTPUT));
     if input_total(x) != output_total(y) {
         return 5;
     }

@@ -18,7 +18,7 @@ bounds-bytes-0 c =
 pub take_record-number-requires : goal.take_record-number-requires
 take_record-number-requires c =
     let passes = head (goal.at.take_record-number-requires c).Else-head_cause-ne0 in
-    (passes, first_kinds c.args.bytes.now passes c.if-bytes-gt2.false)
+    (passes, first_kinds c.args.bytes.now passes c.if-bytes-gt-VOTE.false)
 
 pub returns-then-number-ne0 : goal.returns-then-number-ne0
 returns-then-number-ne0 c =
