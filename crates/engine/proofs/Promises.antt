@@ -11,20 +11,14 @@ use Rattle.reader.specs.Reading.{number_of, taken_of, rest_of, Reads}
 use Rattle.reader.proofs.Cases.{taken-within}
 use Rattle.writer.specs.declared.Written.{Written}
 use Rattle.writer.specs.Writing.{Writes}
-use Rattle.model.specs.declared.Token.{Token}
-use Rattle.model.specs.declared.Known.{Known}
 use Rattle.model.specs.declared.Answer.{Answer}
 use Rattle.model.specs.Shard.{Call}
-use Rattle.shard.specs.declared.queries.HeldToken.{HeldToken}
-use Rattle.shard.specs.declared.queries.KnownOutcome.{KnownOutcome}
 use Rattle.shard.specs.View as shard
-use Rattle.shard.specs.Queries.{token_at, known_at, outcome_at}
 use Rattle.cluster.specs.View as cluster
 use Rattle.calls.specs.Calls.{call_of}
 use Rattle.engine.specs.Codes.{answer_code}
 use Rattle.engine.specs.Fields.{reading_words, Fills}
 use Rattle.engine.specs.Writing.{code_of, Encodes}
-use Rattle.engine.specs.Queries.{held_code, token_words, known_code, known_words, TellsToken, TellsKnown}
 use Rattle.engine.specs.Calls.{cluster_called, shard_called, applied_as, applied, ClusterDoes, ShardDoes}
 
 pub fills : {bytes : List ℕ} {r : Reading} {number : ℕ} {after : List ℕ} → Reads bytes r → number ≡ number_of r.answer
@@ -39,19 +33,6 @@ encodes writes e = record { answered = e ∙ ap code_of writes.answered; lent = 
 pub rest-length : (l : List ℕ) {rest : List ℕ} → rest ≡ rest_of l → taken_of l + length rest ≡ length l
 unfolding rest_of
 rest-length l e = omega (arith, ap length e, length-drop (taken_of l) l, taken-within l)
-
--- ---- Queries
-
-pub tells_token : {tokens : List Token} {place : ℕ} {held : HeldToken} {answer : ℕ} {after : List ℕ}
-    → held ≡ token_at tokens place
-    → answer ≡ held_code held → after ≡ token_words held → TellsToken tokens place answer after
-tells_token e ea ef = record { answered = ea ∙ ap held_code e; filled = ef ∙ ap token_words e }
-
-pub tells_known : {known : List Known} {place : ℕ} {found : Known} {outcome : KnownOutcome} {answer : ℕ} {after : List ℕ}
-    → found ≡ known_at known place → outcome ≡ outcome_at known place → answer ≡ known_code outcome
-    → after ≡ known_words found
-    → TellsKnown known place answer after
-tells_known e eo ea ef = record { answered = ea ∙ ap known_code eo; filled = ef ∙ ap known_words e }
 
 -- ---- Calls
 

@@ -6,7 +6,9 @@ use mathlib.Core.List.{List, [], ◌∷◌, map}
 use native.Mathlib.Omega.{arith}
 use lib.Dec.{ltb}
 use lib.ListN.{length, get_or, take}
+use Rattle.std.specs.List.{flat_map}
 use Rattle.transaction.proofs.Slots.{above, four}
+use Rattle.words.proofs.Fours.{by_four}
 use Rattle.model.specs.declared.Found.{Found}
 use Rattle.model.specs.declared.Told.{Told}
 use Rattle.model.specs.declared.Told.TheVariants.{Refused, Findings}
@@ -18,15 +20,12 @@ use Rattle.engine.specs.Codes.{told_code}
 use Rattle.engine.specs.Queries.{findings_words, findings_after, TellsFindings}
 
 -- the two words of a place, of so many findings
-abbrev number_at : ℕ → ℕ → Found → ℕ
-number_at n i found = cond (ltb i n) (finding_number found.finding) 0
+abbrev pub pair_at : ℕ → ℕ → Found → List ℕ
+pair_at n i found = cond (ltb i n) (finding_number found.finding ∷ pledging_number found.finding ∷ []) (0 ∷ 0 ∷ [])
 
-abbrev pledge-at : ℕ → ℕ → Found → ℕ
-pledge-at n i found = cond (ltb i n) (pledging_number found.finding) 0
-
--- those of four places
+-- those of four places, one behind the other
 places : (n : ℕ) (a b c e : Found)
-    → number_at n 0 a ∷ pledge-at n 0 a ∷ number_at n 1 b ∷ pledge-at n 1 b ∷ number_at n 2 c ∷ pledge-at n 2 c ∷ number_at n 3 e ∷ pledge-at n 3 e ∷ []
+    → flat_map (λ l. l) (pair_at n 0 a ∷ pair_at n 1 b ∷ pair_at n 2 c ∷ pair_at n 3 e ∷ [])
     ≡ findings_words 4 (take n (map finding_of (a ∷ b ∷ c ∷ e ∷ [])))
 places zero a b c e = refl
 places (suc zero) a b c e = refl
@@ -39,12 +38,12 @@ module _ (n : ℕ) (found : List Found) (long : length found ≡ 4) where
   abbrev at : ℕ → Found
   at i = get_or found i no_finding
 
-  pub words-by : {x₀ y₀ x₁ y₁ x₂ y₂ x₃ y₃ : ℕ} → x₀ ≡ number_at n 0 (at 0) → y₀ ≡ pledge-at n 0 (at 0)
-      → x₁ ≡ number_at n 1 (at 1) → y₁ ≡ pledge-at n 1 (at 1) → x₂ ≡ number_at n 2 (at 2) → y₂ ≡ pledge-at n 2 (at 2)
-      → x₃ ≡ number_at n 3 (at 3) → y₃ ≡ pledge-at n 3 (at 3)
-      → x₀ ∷ y₀ ∷ x₁ ∷ y₁ ∷ x₂ ∷ y₂ ∷ x₃ ∷ y₃ ∷ [] ≡ findings_words 4 (take n (map finding_of found))
-  words-by a b c d e f g h =
-      (λ i. a i ∷ b i ∷ c i ∷ d i ∷ e i ∷ f i ∷ g i ∷ h i ∷ [])
+  pub words-by : (pairs : List (List ℕ)) → length pairs ≡ 4
+      → get_or pairs 0 [] ≡ pair_at n 0 (at 0) → get_or pairs 1 [] ≡ pair_at n 1 (at 1)
+      → get_or pairs 2 [] ≡ pair_at n 2 (at 2) → get_or pairs 3 [] ≡ pair_at n 3 (at 3)
+      → flat_map (λ l. l) pairs ≡ findings_words 4 (take n (map finding_of found))
+  words-by pairs four-pairs p q r s =
+      ap (flat_map (λ l. l)) (by_four [] pairs (λ (i : ℕ). pair_at n i (at i)) four-pairs p q r s)
       ∙ places n (at 0) (at 1) (at 2) (at 3) ∙ ap (λ (l : List Found). findings_words 4 (take n (map finding_of l))) (four no_finding found long)
 
 -- refused, or told

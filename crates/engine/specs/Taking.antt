@@ -1,26 +1,23 @@
 -- What the parts of the reader promise that put the fields straight from the bytes into the lent words and check them on the way. A part that
 -- says no has left some words there: then the record is refused, and all of them are set to 0. All of this is internal: no contract of the interface cites it.
-use Rattle.std.specs.Prelude.{ℕ, ◌+◌, ◌≡◌, Bool, true, List, ◌++◌}
+use Rattle.std.specs.Prelude.{ℕ, ◌+◌, ◌*◌, ◌≡◌, Bool, true, List, [], ◌∷◌, ◌++◌}
 use Rattle.std.proofs.lemmas.List.Edits.{sets}
-use Rattle.reader.specs.Layout.{input_at, output_at, transaction_at}
+use Rattle.reader.specs.Layout.{transaction_at}
 use Rattle.reader.specs.Reading.{read_cause, record_at, transaction_in}
 use Rattle.transaction.specs.declared.Input.{Input}
 use Rattle.transaction.specs.declared.Output.{Output}
 use Rattle.transaction.specs.declared.Transaction.{Transaction}
 use Rattle.transaction.specs.Checks.{house_genesis, fields_fit, cause_of}
-use Rattle.words.specs.Words.{input_words, output_words, words_of}
+use Rattle.words.specs.Words.{words_of}
 use Rattle.engine.specs.Fields.{record_words}
 
--- the words of four inputs and of four outputs that stand in the bytes from a place on
-abbrev pub inputs_words : List ℕ → ℕ → List ℕ
-inputs_words l at =
-    input_words (input_at l at) ++ input_words (input_at l (at + 14))
-    ++ input_words (input_at l (at + 28)) ++ input_words (input_at l (at + 42))
+-- four slots one behind the other, of so many bytes each, and their words
+abbrev pub four_slots : {S : Type 0} → ℕ → (ℕ → S) → ℕ → List S
+four_slots size read at = read at ∷ read (at + size) ∷ read (at + 2 * size) ∷ read (at + 3 * size) ∷ []
 
-abbrev pub outputs_words : List ℕ → ℕ → List ℕ
-outputs_words l at =
-    output_words (output_at l at) ++ output_words (output_at l (at + 9))
-    ++ output_words (output_at l (at + 18)) ++ output_words (output_at l (at + 27))
+abbrev pub four_words : {S : Type 0} → (S → List ℕ) → ℕ → (ℕ → S) → ℕ → List ℕ
+four_words words size read at =
+    words (read at) ++ words (read (at + size)) ++ words (read (at + 2 * size)) ++ words (read (at + 3 * size))
 
 -- slots: they fit or not, and where they do their words stand from a place on
 pub record TakesSlots (fit : Bool) (words before : List ℕ) (to : ℕ) (answer : Bool) (after : List ℕ) : Type 0 where

@@ -11,7 +11,7 @@ use calls::call;
 use cluster::Cluster;
 use layout::SHARD_WORDS;
 use reader::Answer;
-use words::{narrow, transaction_from, wide};
+use words::{narrow, transaction_from};
 
 // How many words a cluster has.
 #[unsafe(no_mangle)]
@@ -40,7 +40,7 @@ pub extern "C" fn plankeeper_apply(c: &mut Cluster, bytes: &[u8]) -> u32
     let t = reading.transaction;
     match answer {
         Answer::Read(fields) => answer_code(call(c, fields, t)),
-        Answer::Refused(number) => wide(number),
+        Answer::Refused(number) => u32::from(number),
     }
 }
 

@@ -1,17 +1,8 @@
 // An answer as one number.
 ghost use Rattle.std.specs.Prelude.{◌≡◌, ◌≤◌};
-ghost use Rattle.words.specs.Words.{yes};
 ghost use Rattle.engine.specs.Codes.{outcome_code, voted_code, answer_code};
 
 use model::{Answer, Outcome};
-use words::wide;
-
-// 1 for yes, 0 for no.
-pub(crate) fn flag(b: bool) -> u32
-    ensures { result ≡ yes b }
-{
-    if b { 1 } else { 0 }
-}
 
 pub(crate) fn outcome_code(o: Outcome) -> u32
     ensures { (result ≡ outcome_code o) × (result ≤ 2) }
@@ -26,15 +17,14 @@ pub(crate) fn outcome_code(o: Outcome) -> u32
 fn voted_code(verdict: bool, o: Outcome) -> u32
     ensures { (result ≡ voted_code verdict o) × (result ≤ 12) }
 {
-    let n = outcome_code(o);
-    if verdict { 10 + n } else { n }
+    10 * u32::from(verdict) + outcome_code(o)
 }
 
 pub(crate) fn answer_code(answer: Answer) -> u32
     ensures { result ≡ answer_code answer }
 {
     match answer {
-        Answer::Refused(number) => wide(number),
+        Answer::Refused(number) => u32::from(number),
         Answer::Minted => 100,
         Answer::Registered(verdict, o) => 200 + voted_code(verdict, o),
         Answer::Heard(o) => 300 + outcome_code(o),

@@ -3,12 +3,13 @@ ghost use Rattle.std.specs.Prelude.{◌≡◌, ◌++◌};
 ghost use Rattle.engine.specs.Queries.{held_code, token_words, known_code, known_words};
 
 use crate::codes::outcome_code;
+use crate::fields::joined;
 use model::Known;
 use shard::queries::{HeldToken, KnownOutcome};
-use words::{wide, words_of};
+use words::words_of;
 
 // 1 for a token that is held, 0 for none.
-pub(crate) fn held_code(token: HeldToken) -> u32
+fn held_code(token: HeldToken) -> u32
     ensures { result ≡ held_code token }
 {
     match token {
@@ -18,11 +19,11 @@ pub(crate) fn held_code(token: HeldToken) -> u32
 }
 
 // Creator, index, owner, amount and pledge; zeros for none.
-pub(crate) fn token_words(token: HeldToken) -> [u32; 5]
+fn token_words(token: HeldToken) -> [u32; 5]
     ensures { result ≡ token_words token }
 {
     match token {
-        HeldToken::Held(t) => [t.creator, wide(t.index), t.owner, t.amount, t.pledge],
+        HeldToken::Held(t) => [t.creator, u32::from(t.index), t.owner, t.amount, t.pledge],
         HeldToken::NotHeld => [0; 5],
     }
 }
@@ -38,27 +39,24 @@ pub(crate) fn known_code(outcome: KnownOutcome) -> u32
 }
 
 // The transaction's words with the verdicts heard behind them.
-fn with_heard(words: [u32; 35], heard: [u8; 8]) -> [u32; 43]
-    ensures { result ≡ words ++ heard }
-{
-    let mut all = [0; 43];
-    let mut i = 0;
-    while i < 43 {
-        let at = i;
-        i += 1;
-        if at < 35 {
-            all[at] = words[at];
-        } else {
-            all[at] = wide(heard[at - 35]);
-        }
-    }
-    all
-}
-
-pub(crate) fn known_words(known: Known) -> [u32; 43]
+fn known_words(known: Known) -> [u32; 43]
     ensures { result ≡ known_words known }
 {
-    let t = known.transaction;
-    let heard = known.heard;
-    with_heard(words_of(t), heard)
+    joined(words_of(known.transaction), known.heard.map(u32::from))
+}
+
+// What a query for the token at a place answers: the number, and the words into the lent ones.
+pub(crate) fn tell_token(held: HeldToken, words: &mut [u32; 5]) -> u32
+    ensures { (result ≡ held_code held) × (words.new ≡ token_words held) }
+{
+    *words = token_words(held);
+    held_code(held)
+}
+
+// And what one for the known transaction at a place answers.
+pub(crate) fn tell_known(known: Known, outcome: KnownOutcome, words: &mut [u32; 43]) -> u32
+    ensures { (result ≡ known_code outcome) × (words.new ≡ known_words known) }
+{
+    *words = known_words(known);
+    known_code(outcome)
 }

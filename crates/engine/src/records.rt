@@ -8,8 +8,8 @@ ghost use Rattle.engine.specs.Fields.{Fills};
 ghost use Rattle.engine.specs.Writing.{code_of, Encodes};
 
 use crate::fields::{fields_of, number_of};
-use crate::taking::take_record;
-use words::{narrow, transaction_from, wide};
+use crate::taking::{VOTE, take_record};
+use words::{narrow, transaction_from};
 use writer::Written;
 
 // The record at the front of the bytes, of any kind, by way of what the reader hands back.
@@ -17,10 +17,8 @@ fn read_any(bytes: &[u8], fields: &mut [u32; 42]) -> u32
     ensures { Fills bytes.now result fields.new }
 {
     let reading = reader::read(bytes);
-    let answer = reading.answer;
-    let words = fields_of(reading);
-    *fields = words;
-    number_of(answer)
+    *fields = fields_of(reading);
+    number_of(reading.answer)
 }
 
 // The record at the front of the bytes: 0 and its fields, or the refusal's number and zeros. Registrations and votes go
@@ -32,13 +30,13 @@ pub extern "C" fn plankeeper_read(bytes: &[u8], fields: &mut [u32; 42]) -> u32
     if reader::head_cause(bytes) != 0 {
         return read_any(bytes, fields);
     }
-    if 2 < bytes[0] {
+    if VOTE < bytes[0] {
         return read_any(bytes, fields);
     }
     let number = take_record(bytes, fields);
     if number != 0 {
         *fields = [0; 42];
-        return wide(number);
+        return u32::from(number);
     }
     0
 }
@@ -58,7 +56,7 @@ fn code(answer: Written) -> u64
 {
     match answer {
         Written::Bytes(size) => size as u64,
-        Written::Refused(number) => (1000 * wide(number)) as u64,
+        Written::Refused(number) => 1000 * u64::from(number),
     }
 }
 

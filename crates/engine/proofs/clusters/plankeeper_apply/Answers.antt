@@ -10,4 +10,4 @@ returns-in-Read c =
 -- the record is refused, and the cluster stays as it was
 pub returns-in-Refused : goal.returns-in-Refused
 returns-in-Refused c =
-    does_refused c.args.c.now c.read-reading.ensures c.requires c.in-Refused.is c.wide.ensures.0
+    does_refused c.args.c.now c.read-reading.ensures c.requires c.in-Refused.is c.from.ensures

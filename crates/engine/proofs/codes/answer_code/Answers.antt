@@ -5,7 +5,7 @@ use Rattle.engine.proofs.codes.answer_code.Goals as goal
 
 pub returns-in-Refused : goal.returns-in-Refused
 unfolding answer_code
-returns-in-Refused c = rw c.in-Refused.is c.wide.ensures.0
+returns-in-Refused c = rw c.in-Refused.is c.from.ensures
 
 pub returns-in-Minted : goal.returns-in-Minted
 unfolding answer_code

@@ -5,7 +5,7 @@ use Rattle.engine.proofs.ledgers.token_words.Goals as goal
 -- the index is told as a word
 pub returns-in-Held : goal.returns-in-Held
 unfolding token_words
-returns-in-Held c = rw (c.in-Held.is, c.wide.ensures.0) refl
+returns-in-Held c = rw (c.in-Held.is, c.from.ensures) refl
 
 pub returns-in-NotHeld : goal.returns-in-NotHeld
 unfolding token_words

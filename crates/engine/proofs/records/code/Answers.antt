@@ -9,4 +9,4 @@ returns-in-Bytes c = rw c.in-Bytes.is refl
 
 pub returns-in-Refused : goal.returns-in-Refused
 unfolding code_of
-returns-in-Refused c = rw (c.in-Refused.is, c.wide.ensures.0) refl
+returns-in-Refused c = rw (c.in-Refused.is, c.from.ensures) refl

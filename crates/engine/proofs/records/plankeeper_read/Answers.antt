@@ -18,12 +18,12 @@ bounds-bytes-0 c =
 pub take_record-number-requires : goal.take_record-number-requires
 take_record-number-requires c =
     let passes = head (goal.at.take_record-number-requires c).Else-head_cause-ne0 in
-    (passes, first_kinds c.args.bytes.now passes c.if-bytes-gt2.false)
+    (passes, first_kinds c.args.bytes.now passes c.if-bytes-gt-VOTE.false)
 
 pub returns-then-number-ne0 : goal.returns-then-number-ne0
 returns-then-number-ne0 c =
     let passes = head (goal.at.returns-then-number-ne0 c).Else-head_cause-ne0 in
-    fills-refused c.args.bytes.now passes c.take_record-number.ensures c.if-number-ne0.true c.wide.ensures.0
+    fills-refused c.args.bytes.now passes c.take_record-number.ensures c.if-number-ne0.true c.from.ensures
 
 pub returns : goal.returns
 returns c =

@@ -1,7 +1,7 @@
-use Rattle.std.proofs.Common.{refl, arith}
+use Rattle.std.proofs.Common.{refl}
 use Rattle.probes.specs.Votes.{transaction_worth}
 use Rattle.probes.proofs.votes.transaction_worth.Goals as goal
 
-pub returns : goal.returns
+pub returns-clause-value : goal.returns-clause-value
 unfolding transaction_worth
-returns c = (rw (c.long.ensures.0, c.long-2.ensures.0, c.long-3.ensures.0) refl, omega arith)
+returns-clause-value c = rw (c.from.ensures, c.from-2.ensures, c.from-3.ensures) refl

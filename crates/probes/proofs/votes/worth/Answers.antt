@@ -8,4 +8,4 @@ returns-in-Read c = rw c.in-Read.is c.record_worth.ensures
 
 pub returns-in-Refused : goal.returns-in-Refused
 unfolding worth_of
-returns-in-Refused c = rw (c.in-Refused.is, c.long.ensures.0, c.wide.ensures.0) refl
+returns-in-Refused c = rw (c.in-Refused.is, c.from.ensures) refl
