@@ -33,6 +33,8 @@ unfoldable pub destroying : List Input → List Token → List Token
 destroying inputs tokens = keep (stays inputs) tokens
 
 -- the words are a shard's, and the tokens held are within their slots
+-- Stays: a record of the words and no invariant of a type, since they are lent by C as an array, and the loan of a struct over
+-- them would be unsafe. `long` stands in it for laws over plain lists of words.
 pub record Room (ws : List ℕ) : Type 0 where
   pub long : length ws ≡ shard_words
   pub held : (shard_of ws).held ≤ token_slots

@@ -10,9 +10,11 @@ use Rattle.transaction.specs.declared.Input.{Input}
 use Rattle.transaction.specs.declared.Output.{Output}
 use Rattle.transaction.specs.declared.Transaction.{Transaction}
 use Rattle.transaction.specs.Tokens.{zero_input, zero_output}
+use Rattle.std.specs.Prelude.{None}
+use Rattle.model.specs.Said.{Said}
 use Rattle.model.specs.declared.Finding.{Finding}
-use Rattle.layout.specs.Layout.{token_slots, known_slots, genesis_slots, input_size, output_size, inputs_offset, outputs_offset, heard_offset, found_size, findings_offset, known_size, entry_place, word, byte, tab, input_in, output_in, inputs_in, outputs_in, transaction_in, heard_in, found_in, findings_in, known_in, token_at, known_at, given_at, tokens_of, transactions_of, given_of, no_token, slot_token, slot_known, array_in, Same, Local}
-use Rattle.layout.specs.Reads.{tab-at, known_get, byte_local, input_local, output_local, found_local}
+use Rattle.layout.specs.Layout.{token_slots, known_slots, genesis_slots, input_size, output_size, inputs_offset, outputs_offset, heard_offset, found_size, findings_offset, known_size, entry_place, word, byte, tab, input_in, output_in, inputs_in, outputs_in, transaction_in, said_from, said_in, heard_in, found_in, findings_in, known_in, token_at, known_at, given_at, tokens_of, transactions_of, given_of, no_token, slot_token, slot_known, array_in, Same, Local}
+use Rattle.layout.specs.Reads.{tab-at, known_get, said_local, input_local, output_local, found_local}
 use Rattle.layout.proofs.Regions.{length-tab, array_local}
 
 -- ---- What a read gives
@@ -26,15 +28,15 @@ module _ (ws : List ℕ) (k : ℕ) where
   unfolding given_of
   given_get h = tab-at genesis_slots (given_at ws) k false h
 
-pub heard_get : (ws : List ℕ) (b k : ℕ) → k < 8 → get_or (heard_in ws b) k 0 ≡ byte ws (b + k)
+pub heard_get : (ws : List ℕ) (b k : ℕ) → k < 8 → get_or (heard_in ws b) k None ≡ said_in ws (b + k)
 unfolding heard_in
-heard_get ws b k h = tab-at 8 (λ (i : ℕ). byte ws (b + i)) k 0 h
+heard_get ws b k h = tab-at 8 (λ (i : ℕ). said_in ws (b + i)) k None h
 
-pub heard-none : (ws : List ℕ) (b k : ℕ) → 8 ≤ k → get_or (heard_in ws b) k 0 ≡ 0
+pub heard-none : (ws : List ℕ) (b k : ℕ) → 8 ≤ k → get_or (heard_in ws b) k None ≡ None
 unfolding heard_in
 heard-none ws b k h =
-    get_or-eq_default (tab 8 (λ (i : ℕ). byte ws (b + i))) 0 {n = k}
-    (rw (length-tab 8 (λ (i : ℕ). byte ws (b + i))) h)
+    get_or-eq_default (tab 8 (λ (i : ℕ). said_in ws (b + i))) None {n = k}
+    (rw (length-tab 8 (λ (i : ℕ). said_in ws (b + i))) h)
 
 pub input_get : (ws : List ℕ) (b i : ℕ) → i < 4 → get_or (inputs_in ws b) i zero_input ≡ input_in ws (b + i * input_size)
 unfolding inputs_in
@@ -67,16 +69,17 @@ unfolding output_in
 output-shard ws k i h l =
     rw (known_get ws k h) (ap (λ (y : Output). y.shard) (output_get ws (entry_place k + outputs_offset) i l))
 
--- what is noted of a sender on a known transaction
+-- what is heard from a sender on a known transaction
 pub heard-at : (ws : List ℕ) (k sender : ℕ) → k < known_slots → sender < 8
-    → get_or (slot_known ws k).heard sender 0 ≡ byte ws (entry_place k + heard_offset + sender)
+    → get_or (slot_known ws k).heard sender None ≡ said_from (byte ws (entry_place k + heard_offset + sender))
+unfolding said_in
 heard-at ws k sender h l = rw (known_get ws k h) (heard_get ws (entry_place k + heard_offset) sender l)
 
-pub heard-above : (ws : List ℕ) (k sender : ℕ) → k < known_slots → 8 ≤ sender → get_or (slot_known ws k).heard sender 0 ≡ 0
+pub heard-above : (ws : List ℕ) (k sender : ℕ) → k < known_slots → 8 ≤ sender → get_or (slot_known ws k).heard sender None ≡ None
 heard-above ws k sender h l = rw (known_get ws k h) (heard-none ws (entry_place k + heard_offset) sender l)
 
 -- from its three parts
-pub known-parts : (ws : List ℕ) (k : ℕ) → k < known_slots → {t : Transaction} {heard : List ℕ} {findings : List Finding}
+pub known-parts : (ws : List ℕ) (k : ℕ) → k < known_slots → {t : Transaction} {heard : List Said} {findings : List Finding}
     → t ≡ (slot_known ws k).transaction → heard ≡ heard_in ws (entry_place k + heard_offset) → findings ≡ (slot_known ws k).findings
     → record { transaction = t; heard = heard; findings = findings } ≡ slot_known ws k
 known-parts ws k h et eh ef = rw (et, eh, ef, known_get ws k h) refl
@@ -108,7 +111,7 @@ pub findings_array : (ws : List ℕ) (b : ℕ) → array_in 4 found_in found_siz
 unfolding findings_in
 findings_array ws b = ap (λ (i : ℕ). found_in ws i ∷ tab 3 (λ (j : ℕ). found_in ws (b + suc j * found_size))) (add-zero b)
 
-pub heard_array : (ws : List ℕ) (b : ℕ) → array_in 8 byte 1 ws b ≡ heard_in ws b
+pub heard_array : (ws : List ℕ) (b : ℕ) → array_in 8 said_in 1 ws b ≡ heard_in ws b
 unfolding heard_in
 heard_array ws b = refl
 
@@ -133,7 +136,7 @@ module _ (ws vs : List ℕ) where
         ∙ outputs_array ws i
 
     pub heard-same : (i : ℕ) → b ≤ i → i + 8 ≤ f → heard_in vs i ≡ heard_in ws i
-    heard-same i l h = sym (heard_array vs i) ∙ array_local byte 1 byte_local 8 ws vs i (part i 8 l h) ∙ heard_array ws i
+    heard-same i l h = sym (heard_array vs i) ∙ array_local said_in 1 said_local 8 ws vs i (part i 8 l h) ∙ heard_array ws i
 
     pub findings-same : (i : ℕ) → b ≤ i → i + 4 * found_size ≤ f → findings_in vs i ≡ findings_in ws i
     findings-same i l h =

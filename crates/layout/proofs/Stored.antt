@@ -16,70 +16,12 @@ use Rattle.model.specs.declared.Finding.{Finding}
 use Rattle.model.specs.declared.Finding.TheVariants.{Available, NotHeld, OtherOwner, OtherAmount, Pledged}
 use Rattle.model.specs.declared.Known.{Known}
 use Rattle.model.specs.Answers.{finding_number, pledging_number}
+use Rattle.std.specs.Prelude.{Some, None}
+use Rattle.model.specs.Said.{Said, said_number}
 use Rattle.model.specs.Steps.{pledged_to, with_said}
-use Rattle.layout.specs.Layout.{
-  token_slots,
-  known_slots,
-  genesis_slots,
-  token_size,
-  input_size,
-  output_size,
-  inputs_offset,
-  outputs_offset,
-  heard_offset,
-  found_size,
-  findings_offset,
-  known_size,
-  number_place,
-  held_place,
-  known_place,
-  given_place,
-  tokens_place,
-  transactions_place,
-  shard_words,
-  token_place,
-  entry_place,
-  word,
-  byte,
-  tab,
-  token_in,
-  input_in,
-  output_in,
-  inputs_in,
-  outputs_in,
-  transaction_in,
-  heard_in,
-  finding_from,
-  found_in,
-  findings_in,
-  known_in,
-  token_at,
-  known_at,
-  given_at,
-  tokens_of,
-  transactions_of,
-  given_of,
-  shard_of,
-  with_tokens,
-  with_held,
-  with_known,
-  with_transactions,
-  with_given,
-  Within,
-  Headed,
-  Becomes,
-  Cleared,
-  slot_token,
-  slot_known,
-  PutsToken,
-  PutsKnown,
-  turned_place,
-  with_turned,
-  flag,
-  array_in,
-}
+use Rattle.layout.specs.Layout.{token_slots, known_slots, genesis_slots, token_size, input_size, output_size, inputs_offset, outputs_offset, heard_offset, found_size, findings_offset, known_size, number_place, held_place, known_place, given_place, tokens_place, transactions_place, shard_words, token_place, entry_place, word, byte, token_in, input_in, output_in, inputs_in, outputs_in, transaction_in, said_from, said_in, heard_in, finding_from, found_in, findings_in, known_in, token_at, known_at, given_at, tokens_of, transactions_of, given_of, shard_of, with_tokens, with_held, with_known, with_transactions, with_given, Within, Headed, Becomes, Cleared, slot_token, slot_known, PutsToken, PutsKnown, turned_place, with_turned, flag, array_in}
 use Rattle.layout.proofs.Regions.{tab-same, tab_change, stored, and_then, wider, Apart, apart, region_kept, region_set}
-use Rattle.layout.specs.Reads.{known_get, token_local}
+use Rattle.layout.specs.Reads.{known_get, token_local, said_local}
 use Rattle.layout.proofs.Slots.{
   token_get,
   inputs-same,
@@ -267,30 +209,46 @@ pledge_put ws k number h long =
       long = p.long ∙ long;
     }
 
+-- what is heard is that of its number
+said-back : (c : Said) → said_from (said_number c % 256) ≡ c
+unfolding said_from
+said-back None = refl
+said-back (Some true) = refl
+said-back (Some false) = refl
+
+-- its word
+pub said-put : (ws : List ℕ) (b : ℕ) (c : Said) {number : ℕ} → b + 1 ≤ length ws → number ≡ said_number c
+    → Within b (b + 1) ws (set ws b number) × (said_in (set ws b number) b ≡ c)
+unfolding said_in
+said-put ws b c {number} h e = (
+  stored b (b + 1) b number ws (omega arith) (omega arith),
+  ap (λ (w : ℕ). said_from (w % 256)) (get_or-set_same ws b number 0 (omega arith) ∙ e) ∙ said-back c,
+)
+
 -- a verdict noted
-pub heard-put : (ws : List ℕ) (k sender said : ℕ) → k < known_slots → sender < 8 → said < 256 → length ws ≡ shard_words
-    → PutsKnown ws k (with_said sender said (slot_known ws k)) (set ws (entry_place k + heard_offset + sender) said)
+pub heard-put : (ws : List ℕ) (k sender : ℕ) (verdict : Bool) {number : ℕ} → number ≡ said_number (Some verdict) → k < known_slots → sender < 8
+    → length ws ≡ shard_words → PutsKnown ws k (with_said sender verdict (slot_known ws k)) (set ws (entry_place k + heard_offset + sender) number)
 unfolding heard_in
-heard-put ws k sender said h m q long =
+heard-put ws k sender verdict {number} e h m long =
     let b = entry_place k in
     let i = b + heard_offset + sender in
-    let vs = set ws i said in
-    let one : Within i (i + 1) ws vs = stored i (i + 1) i said ws (omega arith) (omega arith) in
-    let there : word vs i ≡ said = get_or-set_same ws i said 0 (omega arith) in
+    let vs = set ws i number in
+    let said = said-put ws i (Some verdict) (omega arith) e in
+    let one : Within i (i + 1) ws vs = said.0 in
     let same : transaction_in vs b ≡ transaction_in ws b =
     transaction-same ws vs b (b + heard_offset) (apart one b (b + heard_offset) (λ j x y z w. omega arith)) b (omega arith) (omega arith) in
-    let noted : tab 8 (λ (j : ℕ). byte vs (b + heard_offset + j)) ≡ set (tab 8 (λ (j : ℕ). byte ws (b + heard_offset + j))) sender said =
-    tab_change 8 sender (λ (j : ℕ). byte ws (b + heard_offset + j)) (λ (j : ℕ). byte vs (b + heard_offset + j)) m
-    (λ j x ne. ap (λ (w : ℕ). w % 256) (one.rest (b + heard_offset + j) (λ y z. ne (omega arith))))
-    ∙ ap (set (tab 8 (λ (j : ℕ). byte ws (b + heard_offset + j))) sender) (ap (λ (w : ℕ). w % 256) there ∙ mod-eq_of_lt q) in
+    let noted : heard_in vs (b + heard_offset) ≡ set (heard_in ws (b + heard_offset)) sender (Some verdict) =
+    tab_change 8 sender (λ (j : ℕ). said_in ws (b + heard_offset + j)) (λ (j : ℕ). said_in vs (b + heard_offset + j)) m
+    (λ j x ne. said_local ws vs (b + heard_offset + j) (λ a y z. one.rest a (λ u v. ne (omega arith))))
+    ∙ ap (set (heard_in ws (b + heard_offset)) sender) said.1 in
     let found : findings_in vs (b + findings_offset) ≡ findings_in ws (b + findings_offset) =
     findings-same ws vs (b + findings_offset) (b + known_size) (apart one (b + findings_offset) (b + known_size) (λ j x y z w. omega arith))
     (b + findings_offset) (omega arith) (omega arith) in
-    let entry : known_at vs k ≡ with_said sender said (known_at ws k) = rw (same, noted, found) refl in
+    let entry : known_at vs k ≡ with_said sender verdict (known_at ws k) = rw (same, noted, found) refl in
     record {
       is =
           known-stored ws vs k h (wider i (i + 1) b (b + known_size) (omega arith) (omega arith) one)
-          (entry ∙ ap (with_said sender said) (sym (known_get ws k h)));
+          (entry ∙ ap (with_said sender verdict) (sym (known_get ws k h)));
       long = one.long ∙ long;
     }
 
@@ -440,7 +398,7 @@ module _ (k : ℕ) (v w x y z u : List ℕ) (t : Known) (h : k < known_slots) (l
       × (array_in 4 input_in input_size x (b + inputs_offset) ≡ t.transaction.inputs)
       → Within (b + outputs_offset) (b + outputs_offset + 12) x y
       × (array_in 4 output_in output_size y (b + outputs_offset) ≡ t.transaction.outputs)
-      → Within (b + heard_offset) (b + heard_offset + 8) y z × (array_in 8 byte 1 z (b + heard_offset) ≡ t.heard)
+      → Within (b + heard_offset) (b + heard_offset + 8) y z × (array_in 8 said_in 1 z (b + heard_offset) ≡ t.heard)
       → Within (b + findings_offset) (b + findings_offset + 8) z u × (array_in 4 found_in found_size u (b + findings_offset) ≡ t.findings)
       → PutsKnown v k t u)
   known-put hp hq hr hs hf =

@@ -1,6 +1,6 @@
 -- What stands where in a shard's words, and the shard that the words stand for. A word more is one line among the
 -- places; a field more is one line there and one in the reading.
-use Rattle.std.specs.Prelude.{ℕ, zero, suc, ◌+◌, ◌*◌, ◌%◌, ◌≤◌, ◌<◌, Bool, cond, not, ◌≡◌, List, [], ◌∷◌, eqb, length, get_or, set, take}
+use Rattle.std.specs.Prelude.{ℕ, zero, suc, ◌+◌, ◌*◌, ◌%◌, ◌≤◌, ◌<◌, Bool, true, false, cond, not, ◌≡◌, Some, None, List, [], ◌∷◌, eqb, length, get_or, set, take}
 use Rattle.transaction.specs.declared.Input.{Input}
 use Rattle.transaction.specs.declared.Output.{Output}
 use Rattle.transaction.specs.declared.Transaction.{Transaction}
@@ -8,6 +8,7 @@ use Rattle.model.specs.declared.Token.{Token}
 use Rattle.model.specs.declared.Finding.{Finding}
 use Rattle.model.specs.declared.Finding.TheVariants.{Available, NotHeld, OtherOwner, OtherAmount, Pledged}
 use Rattle.model.specs.declared.Known.{Known}
+use Rattle.model.specs.Said.{Said}
 use Rattle.model.specs.Steps.{Ledger}
 
 -- ---- How many slots there are, and how many words each has
@@ -149,9 +150,16 @@ transaction_in ws b =
       outputs = outputs_in ws (b + outputs_offset);
     }
 
+-- what is heard from a sender: 1 is no and 2 is yes, and any other number is that of one who is not heard
+unfoldable pub said_from : ℕ → Said
+said_from number = cond (eqb number 1) (Some false) (cond (eqb number 2) (Some true) None)
+
+unfoldable pub said_in : List ℕ → ℕ → Said
+said_in ws b = said_from (byte ws b)
+
 -- the verdicts heard
-unfoldable pub heard_in : List ℕ → ℕ → List ℕ
-heard_in ws b = tab 8 (λ (i : ℕ). byte ws (b + i))
+unfoldable pub heard_in : List ℕ → ℕ → List Said
+heard_in ws b = tab 8 (λ (i : ℕ). said_in ws (b + i))
 
 -- the finding of a number (document 02, 2); any other number is that of an input that was available
 unfoldable pub finding_from : ℕ → ℕ → Finding

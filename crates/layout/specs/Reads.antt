@@ -7,7 +7,8 @@ use Rattle.layout.specs.Layout.{
   output_size,
   found_size,
   token_size,
-  byte,
+  said_from,
+  said_in,
   tab,
   token_in,
   input_in,
@@ -39,8 +40,9 @@ pub four-outputs : (ws : List ℕ) (k : ℕ) → k < known_slots → length (slo
 unfolding outputs_in
 four-outputs ws k h = rw (known_get ws k h) refl
 
-pub byte_local : Local byte 1
-byte_local ws vs i s = ap (λ (w : ℕ). w % 256) (s i (omega arith) (omega arith))
+pub said_local : Local said_in 1
+unfolding said_in
+said_local ws vs i s = ap (λ (w : ℕ). said_from (w % 256)) (s i (omega arith) (omega arith))
 
 pub token_local : Local token_in token_size
 token_local ws vs i s =

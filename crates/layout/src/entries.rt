@@ -1,13 +1,14 @@
 // The known transactions, read: whole, or only the words that a question needs.
 // Stays: a slot is its number, and `k < known_slots` stands in each contract. Slots come out of loops over the count and out
 // of searches, whose contracts speak of the number itself: a struct would be made and taken apart at each of these places.
-ghost use Rattle.std.specs.Prelude.{ℕ, List, ◌≡◌, ◌<◌, length, get_or};
+ghost use Rattle.std.specs.Prelude.{ℕ, List, ◌≡◌, ◌<◌, None, length, get_or};
 ghost use Rattle.transaction.specs.declared.Transaction.{Transaction};
 ghost use Rattle.transaction.specs.Tokens.{input_shard, output_shard, zero_input, zero_output};
 ghost use Rattle.layout.specs.Layout.{known_slots, slot_known};
 ghost use Rattle.layout.specs.Reads.{four-inputs, four-outputs};
 
 use crate::kept::{byte, read_all};
+use crate::verdicts::said_from;
 use crate::{
     FINDINGS_OFFSET, HEARD_OFFSET, INPUT_SIZE, INPUTS_OFFSET, KNOWN_SIZE, OUTPUT_SIZE,
     OUTPUTS_OFFSET, TRANSACTIONS_PLACE, Words,
@@ -59,16 +60,16 @@ pub fn number_at(s: &Words, k: usize) -> u32
     s[TRANSACTIONS_PLACE + k * KNOWN_SIZE]
 }
 
-// What is noted of a sender: 0 not heard, 1 no, 2 yes; 0 for a number above 7.
-pub fn heard_at(s: &Words, k: usize, sender: u8) -> u8
+// What is heard from a sender: yes, no or nothing, and nothing for a number above 7.
+pub fn heard_at(s: &Words, k: usize, sender: u8) -> Option<bool>
     requires { k < known_slots }
-    ensures { result ≡ get_or (slot_known s.now k).heard sender 0 }
+    ensures { result ≡ get_or (slot_known s.now k).heard sender None }
 {
     let at = sender as usize;
     if at < 8 {
-        return byte(s[TRANSACTIONS_PLACE + k * KNOWN_SIZE + HEARD_OFFSET + at]);
+        return said_from(byte(s[TRANSACTIONS_PLACE + k * KNOWN_SIZE + HEARD_OFFSET + at]));
     }
-    0
+    None
 }
 
 // The inputs of a known transaction, or its outputs: what is asked of them without reading the whole transaction.

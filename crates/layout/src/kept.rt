@@ -1,10 +1,11 @@
 // What is kept in some words, one behind the other: how it is read from them and stored there.
 ghost use Rattle.std.specs.Prelude.{ℕ, List, ◌≡◌, ◌+◌, ◌*◌, ◌%◌, ◌≤◌, ◌<◌};
 ghost use Rattle.model.specs.Answers.{finding_number, pledging_number};
-ghost use Rattle.layout.specs.Layout.{shard_words, token_size, input_size, output_size, found_size, byte, token_in, input_in, output_in, found_in, array_in, Local, Within};
-ghost use Rattle.layout.specs.Reads.{byte_local, token_local, input_local, output_local, found_local};
+ghost use Rattle.layout.specs.Layout.{shard_words, token_size, input_size, output_size, found_size, said_in, token_in, input_in, output_in, found_in, array_in, Local, Within};
+ghost use Rattle.layout.specs.Reads.{said_local, token_local, input_local, output_local, found_local};
 
 use crate::findings::{finding_from, finding_number, pledging_number};
+use crate::verdicts::{said_from, said_number};
 use crate::{FOUND_SIZE, INPUT_SIZE, OUTPUT_SIZE, TOKEN_SIZE, Words};
 use model::{Finding, Token};
 use transaction::{Input, Output, TokenId};
@@ -35,22 +36,22 @@ pub(crate) trait Kept: Copy {
     ghost local: { Local read_at SIZE };
 }
 
-impl Kept for u8 {
+impl Kept for Option<bool> {
     ghost SIZE = { 1 };
 
-    ghost read_at = { byte };
+    ghost read_at = { said_in };
 
     const SIZE: usize = 1;
 
-    fn read(s: &Words, b: usize) -> u8 {
-        byte(s[b])
+    fn read(s: &Words, b: usize) -> Option<bool> {
+        said_from(byte(s[b]))
     }
 
     fn put(self, s: &mut Words, b: usize) {
-        s[b] = u32::from(self);
+        s[b] = said_number(self);
     }
 
-    ghost local = { byte_local };
+    ghost local = { said_local };
 }
 
 impl Kept for Token {

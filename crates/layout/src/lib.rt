@@ -7,6 +7,7 @@ mod kept; // what is kept in some words
 pub mod counts; // the number, the counts, the flags, and an empty shard
 pub mod tokens; // the tokens held
 pub mod entries; // the known transactions, read
+pub mod verdicts; // what is heard from a sender, as a number
 pub mod findings; // what is found about inputs, as numbers
 pub mod stores; // the known transactions, stored
 

@@ -4,6 +4,7 @@ ghost use Rattle.model.specs.Steps.{with_said};
 ghost use Rattle.layout.specs.Layout.{shard_words, known_slots, slot_known, PutsKnown, Within, Headed};
 
 use crate::kept::put_all;
+use crate::verdicts::said_number;
 use crate::{
     FINDINGS_OFFSET, HEARD_OFFSET, INPUTS_OFFSET, KNOWN_SIZE, OUTPUTS_OFFSET, TRANSACTIONS_PLACE,
     Words,
@@ -11,11 +12,11 @@ use crate::{
 use model::Known;
 
 // Notes a verdict of a sender on a known transaction.
-pub fn put_heard(s: &mut Words, k: usize, sender: usize, said: u8)
+pub fn put_heard(s: &mut Words, k: usize, sender: usize, said: bool)
     requires { (k < known_slots) × (sender < 8) }
     ensures { PutsKnown s.old k (with_said sender said (slot_known s.old k)) s.new }
 {
-    s[TRANSACTIONS_PLACE + k * KNOWN_SIZE + HEARD_OFFSET + sender] = u32::from(said);
+    s[TRANSACTIONS_PLACE + k * KNOWN_SIZE + HEARD_OFFSET + sender] = said_number(Some(said));
 }
 
 // A number and two counts.

@@ -1,5 +1,6 @@
 -- The place of the first element that passes: the standard library's `position`, beside `find` and `any` of the model.
-use Rattle.std.proofs.Common.{ℕ, ◌≡◌, ◌<◌, ◌≤◌, Bool, true, false, cond, List, length, take, get_or, position, Option, Some, None, ltb, suc, [], ◌∷◌, ◌||◌, refl, sym, ap, ◌∙◌, arith}
+use Rattle.std.proofs.Common.{ℕ, ◌≡◌, ◌<◌, ◌≤◌, Bool, true, false, cond, List, length, take, get_or, position}
+use Rattle.std.proofs.Common.{Option, Some, None, ltb, suc, [], ◌∷◌, ◌||◌, refl, sym, ap, ◌∙◌, arith}
 use Rattle.std.specs.List.{position_or_len}
 use Rattle.std.proofs.lemmas.List.Recursion.{is_position_or_len}
 use Rattle.std.proofs.lemmas.List.Quantifiers.{position-Some}

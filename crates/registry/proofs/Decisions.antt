@@ -14,6 +14,8 @@ use Rattle.model.specs.declared.Known.{Known}
 use Rattle.model.specs.declared.Outcome.{Outcome}
 use Rattle.model.specs.declared.Outcome.TheVariants.{Wait, Commit, Abort}
 use Rattle.model.specs.Lists.{keep}
+use Rattle.std.specs.Prelude.{Some, None}
+use Rattle.model.specs.Said.{Said, is_said_yes, is_said_no}
 use Rattle.model.specs.Steps.{is_yes, is_no, decide, outcome_of, output_here, outputs_here}
 use Rattle.model.specs.Shard.{is_undecided, if_undecided, reserved_by, reserved}
 use Rattle.model.proofs.Basics.{all_append, keep-length}
@@ -32,21 +34,27 @@ joined false false false true = refl
 joined false false false false = refl
 
 -- the shards of one list and those of another
-pub decides-both : (heard shards others : List ℕ) → together (decision_of heard shards) (decision_of heard others) ≡ decision_of heard (shards ++ others)
+pub decides-both : (heard : List Said) (shards others : List ℕ) → together (decision_of heard shards) (decision_of heard others) ≡ decision_of heard (shards ++ others)
 decides-both heard shards others =
     joined (any (is_no heard) shards) (all (is_yes heard) shards) (any (is_no heard) others) (all (is_yes heard) others)
     ∙ rw (any_append (is_no heard) shards others, all_append (is_yes heard) shards others) refl
 
 -- one shard more
-decides-one : (heard : List ℕ) (shard : ℕ) → by_said (get_or heard shard 0) ≡ decision_of heard (shard ∷ [])
-decides-one heard shard = rw (or-false (is_no heard shard), and-true (is_yes heard shard)) refl
+decides-one : (heard : List Said) (shard : ℕ) → by_said (get_or heard shard None) ≡ decision_of heard (shard ∷ [])
+decides-one heard shard =
+    rw (or-false (is_no heard shard), and-true (is_yes heard shard)) (one (get_or heard shard None))
+  where
+    one : (said : Said) → by_said said ≡ cond (is_said_no said) Abort (cond (is_said_yes said) Commit Wait)
+    one None = refl
+    one (Some true) = refl
+    one (Some false) = refl
 
-pub decides-next : {A : Type 0} (heard : List ℕ) (shard_of : A → ℕ) (xs : List A) (i : ℕ) (d : A) → i < length xs
-    → {so_far vote decided : Outcome} {said shard : ℕ} → so_far ≡ decision_of heard (map shard_of (take i xs))
-    → shard ≡ shard_of (get_or xs i d) → said ≡ get_or heard shard 0 → vote ≡ by_said said → decided ≡ together so_far vote
+pub decides-next : {A : Type 0} (heard : List Said) (shard_of : A → ℕ) (xs : List A) (i : ℕ) (d : A) → i < length xs
+    → {so_far vote decided : Outcome} {said : Said} {shard : ℕ} → so_far ≡ decision_of heard (map shard_of (take i xs))
+    → shard ≡ shard_of (get_or xs i d) → said ≡ get_or heard shard None → vote ≡ by_said said → decided ≡ together so_far vote
     → decided ≡ decision_of heard (map shard_of (take (i + 1) xs))
 decides-next heard shard_of xs i d h {shard = shard} es ea ed ev e =
-    let one = ev ∙ ap by_said (ed ∙ ap (λ (k : ℕ). get_or heard k 0) ea) ∙ decides-one heard (shard_of (get_or xs i d)) in
+    let one = ev ∙ ap by_said (ed ∙ ap (λ (k : ℕ). get_or heard k None) ea) ∙ decides-one heard (shard_of (get_or xs i d)) in
     rw (e, es, one, map_more shard_of xs i d h) (decides-both heard (map shard_of (take i xs)) (shard_of (get_or xs i d) ∷ []))
 
 -- the decision, by the shards of the inputs and those of the outputs

@@ -1,11 +1,10 @@
 -- One search by number answers every question about a transaction, because a number is known for one transaction only.
-use Prim.Native.Nat.{ℕ, zero, suc, ◌+◌, ◌≤◌, ◌<◌}
+use Prim.Native.Nat.{ℕ, zero, suc, ◌≤◌, ◌<◌}
 use mathlib.Core.Path.{◌≡◌, refl, sym, ap, ◌∙◌}
 use mathlib.Core.Bool.{Bool, true, false, not, ◌||◌, and-true, and-false, true≢false, false≢true}
 use mathlib.Core.List.{List, [], ◌∷◌}
 use native.Mathlib.Omega.{arith}
-use borrow.Author.Tests.{eqb-true, eq-eqb, ne_eqb}
-use lib.Dec.{eqb}
+use borrow.Author.Tests.{eqb-true}
 use lib.ListN.{length, get_or}
 use Rattle.transaction.specs.declared.Transaction.{Transaction}
 use Rattle.transaction.specs.Lists.{any}
@@ -13,6 +12,8 @@ use Rattle.transaction.specs.Tokens.{same_transaction}
 use Rattle.transaction.proofs.Slots.{and_left}
 use Rattle.model.specs.declared.Known.{Known}
 use Rattle.model.specs.Lists.{find}
+use Rattle.std.specs.Prelude.{None}
+use Rattle.model.specs.Said.{Said, says}
 use Rattle.model.specs.Steps.{is_for, nothing_known, heard_from}
 use Rattle.model.specs.Shard.{is_numbered, has_number, is_other}
 use Rattle.model.specs.Cluster.{has_given, gave}
@@ -97,7 +98,7 @@ pub asks-other : (t : Transaction) → AsksNumber t.number (is_other t)
 asks-other t k e = and_left (has_number t k) (not (is_for t k)) e
 
 asks-given : (sender verdict : ℕ) (t : Transaction) → AsksNumber t.number (has_given sender verdict t)
-asks-given sender verdict t k e = asks_for t k (and_left (is_for t k) (eqb (heard_from sender k) (verdict + 1)) e)
+asks-given sender verdict t k e = asks_for t k (and_left (is_for t k) (says (heard_from sender k) verdict) e)
 
 -- has the shard given a vote
 module _ (ws : List ℕ) (most : (shard_of ws).known ≤ known_slots) (one : OneEach (ledger_of ws).known)
@@ -110,16 +111,16 @@ module _ (ws : List ℕ) (most : (shard_of ws).known ≤ known_slots) (one : One
   given-none nowhere = sym (none_passes (ledger_of ws).known one t.number nowhere given (asks-given sender verdict t))
 
   module _ {place : ℕ} (at : Stands (is_numbered t.number) (ledger_of ws).known place)
-      {said : ℕ} (es : said ≡ get_or (slot_known ws place).heard sender 0) where
+      {heard : Said} (eh : heard ≡ get_or (slot_known ws place).heard sender None) {said : Bool} (es : said ≡ says heard verdict) where
     there-is : gave (ledger_of ws) sender verdict t ≡ given (slot_known ws place)
     unfolding gave
     there-is =
         passes-there (ledger_of ws).known one t.number at given (asks-given sender verdict t)
         ∙ ap given (sym (known-entry ws place (rw (known-length ws most) at at.below) most nothing_known))
 
-    pub given_if : {same : Bool} → said ≡ verdict + 1 → same ≡ is_for t (slot_known ws place)
+    pub given_if : {same : Bool} → said ≡ true → same ≡ is_for t (slot_known ws place)
         → same ≡ gave (ledger_of ws) sender verdict t
-    given_if {same} e f = rw (there-is, ← es, eq-eqb said (verdict + 1) e, ← f) (sym (and-true same))
+    given_if {same} e f = rw (there-is, ← eh, ← es, e, ← f) (sym (and-true same))
 
-    pub given-other : (said ≡ verdict + 1 → ⊥) → false ≡ gave (ledger_of ws) sender verdict t
-    given-other e = rw (there-is, ← es, ne_eqb said (verdict + 1) e) (sym (and-false (is_for t (slot_known ws place))))
+    pub given-other : said ≡ false → false ≡ gave (ledger_of ws) sender verdict t
+    given-other e = rw (there-is, ← eh, ← es, e) (sym (and-false (is_for t (slot_known ws place))))

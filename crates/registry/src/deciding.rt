@@ -12,13 +12,13 @@ use model::Outcome;
 use transaction::{Input, Output};
 
 // What one shard decides by what it has said.
-fn by_vote(said: u8) -> Outcome
+fn by_vote(said: Option<bool>) -> Outcome
     ensures { result ≡ by_said said }
 {
     match said {
-        1 => Outcome::Abort,
-        2 => Outcome::Commit,
-        _ => Outcome::Wait,
+        None => Outcome::Wait,
+        Some(true) => Outcome::Commit,
+        Some(false) => Outcome::Abort,
     }
 }
 

@@ -2,6 +2,7 @@
 // search answers every question.
 ghost use Rattle.std.specs.Prelude.{◌≡◌, ◌≤◌, ◌<◌, position, IfSome};
 ghost use Rattle.model.specs.Shard.{is_numbered};
+ghost use Rattle.model.specs.Said.{says};
 ghost use Rattle.model.specs.Steps.{is_for};
 ghost use Rattle.model.specs.Cluster.{gave};
 ghost use Rattle.layout.specs.Layout.{known_slots, shard_of, ledger_of, slot_known};
@@ -37,6 +38,17 @@ pub fn same_at(s: &Words, k: usize, t: Transaction) -> bool
     same_transaction(stored, t)
 }
 
+// The raw verdict, 1 for yes and 0 for no, is the one heard.
+pub fn says(heard: Option<bool>, verdict: u8) -> bool
+    ensures { result ≡ says heard verdict }
+{
+    match heard {
+        None => false,
+        Some(true) => verdict == 1,
+        Some(false) => verdict == 0,
+    }
+}
+
 // The shard has given this vote on this transaction.
 pub fn has_given(s: &Words, sender: u8, verdict: u8, t: Transaction) -> bool
     requires { ((shard_of s.now).known ≤ known_slots) × OneEach (ledger_of s.now).known }
@@ -45,7 +57,5 @@ pub fn has_given(s: &Words, sender: u8, verdict: u8, t: Transaction) -> bool
     let Some(place) = place_of_number(s, t.number) else {
         return false;
     };
-    let said = heard_at(s, place, sender);
-    let noted = u16::from(verdict) + 1;
-    u16::from(said) == noted && same_at(s, place, t)
+    says(heard_at(s, place, sender), verdict) && same_at(s, place, t)
 }

@@ -4,9 +4,8 @@ use mathlib.Core.Path.{◌≡◌, refl, sym, ap, ◌∙◌, subst}
 use mathlib.Core.Bool.{Bool, true, false, cond, not}
 use mathlib.Core.List.{List, [], ◌∷◌}
 use native.Mathlib.Omega.{arith}
-use borrow.Author.Tests.{ne_eqb}
 use lib.Dec.{eqb}
-use Rattle.std.specs.Prelude.{Ok, Err}
+use Rattle.std.specs.Prelude.{Some, None, is_some, Ok, Err}
 use lib.ListN.{length, get_or, length-append}
 use Rattle.transaction.specs.declared.Transaction.{Transaction}
 use Rattle.transaction.specs.declared.refusal.Refusal.{Refusal}
@@ -19,6 +18,7 @@ use Rattle.model.specs.declared.Done.{Done}
 use Rattle.model.specs.declared.Done.TheVariants.{Minted, Registered, Heard, Again, Turned, Brought}
 use Rattle.model.specs.Answers.{Answer}
 use Rattle.model.specs.Lists.{find}
+use Rattle.model.specs.Said.{Said}
 use Rattle.model.specs.Steps.{
   house,
   Ledger,
@@ -89,7 +89,7 @@ use Rattle.shard.specs.declared.local.Own.{Own}
 use Rattle.shard.specs.Parts.{Leaves, Pledges, entry_for, entered_ledger, Entering, Entered, heard_ledger, FreshVote, FreshDone, TurnedOver}
 use Rattle.shard.proofs.Ledgers.{leaves-then, holds-leaves}
 use Rattle.shard.proofs.Once.{once-step}
-use Rattle.shard.proofs.Tables.{place-below, place-slot, place_is, entry-there, verdict_there, Table, Verdict}
+use Rattle.shard.proofs.Tables.{place-below, place_is, entry-there, verdict_there, Table, Verdict}
 
 -- what a call that is carried out answers
 abbrev answered : Done → Answer
@@ -288,12 +288,12 @@ module _ {ws : List ℕ} (sound : Sound ws) (sender verdict : ℕ) (t : Transact
       (delivered here (view ws) sender verdict t) pass
       ∙ ap (λ (b : Bool). cond b (bring here (view ws) sender verdict t) (hear here (view ws) sender verdict t)) known
 
-  module _ {heard : ℕ} (eh : heard ≡ get_or (slot_known ws place).heard sender 0) where
+  module _ {heard : Said} (eh : heard ≡ get_or (slot_known ws place).heard sender None) where
     pub heard-is : heard ≡ heard_from sender (entry_of t (view ws).known)
     heard-is = verdict_there sound t at vote-passes.is_known sender eh
 
     -- the sender was not heard before
-    module _ (z : heard ≡ 0) where
+    module _ (z : heard ≡ None) where
       after_is : heard_ledger place sender verdict ws ≡ after_vote here (view ws) sender verdict t
       unfolding after_vote
       after_is = rw (entry_at, stands_at) refl
@@ -312,7 +312,6 @@ module _ {ws : List ℕ} (sound : Sound ws) (sender verdict : ℕ) (t : Transact
         known = sound.known;
         entry = place-below sound t at;
         from = shard-below sender vote-passes.passes.sender-fits;
-        says = vote-passes.passes.verdict_fits;
         fits =
             subst (λ (l : Ledger). length l.tokens ≤ token_slots) (sym after_is)
             (room-left sound (deliver here sender verdict t) fresh_step);
@@ -328,11 +327,11 @@ module _ {ws : List ℕ} (sound : Sound ws) (sender verdict : ℕ) (t : Transact
           carries_on sound call (step ∙ ap (λ (l : Ledger). (l, Ok (Heard decided))) (sym after_is)) sound.known d.leaves
 
     -- the same vote was heard before
-    pub again-carried : {decided : Outcome} → (heard ≡ 0 → ⊥) → decided ≡ outcome_of (slot_known ws place)
+    pub again-carried : {decided : Outcome} {verdict_heard : Bool} → heard ≡ Some verdict_heard → decided ≡ outcome_of (slot_known ws place)
         → Steps ws (deliver here sender verdict t) (Ok (Again decided)) ws
     unfolding hear
     again-carried n ed =
-        let z = ne_eqb (heard_from sender (entry_of t (view ws).known)) 0 (λ q. n (heard-is ∙ q)) in
+        let z = ap is_some (sym heard-is ∙ n) in
         stays_put sound (deliver here sender verdict t) (hear-step ∙ rw (z, ed, entry_at) refl)
 
 -- ---- A vote that passes on an unknown number: the registration, and then the vote on the transaction that it has entered
@@ -387,7 +386,7 @@ module _ {ws : List ℕ} (sound : Sound ws) (sender verdict : ℕ) (t : Transact
           let below = rw (← place-then) at (find-below (is_numbered t.number) among some) in
           stands (is_numbered t.number) among place (sym (position_hit (is_numbered t.number) among (sym place-then) below))
 
-      unheard-then : get_or (slot_known us place).heard sender 0 ≡ 0
+      unheard-then : get_or (slot_known us place).heard sender None ≡ None
       unheard-then =
           heard-is before.sound sender verdict t stands-then passes_then refl
           ∙ ap (λ (l : Ledger). heard_from sender (entry_of t l.known)) left_is ∙ brought-fresh brought

@@ -5,6 +5,7 @@ use mathlib.Core.Bool.{Bool, true, false}
 use mathlib.Core.List.{List, [], ◌∷◌, ◌++◌}
 use native.Mathlib.Omega.{arith}
 use native.Mathlib.Nat.{not-suc-le-zero}
+use lib.Dec.{eqb}
 use lib.ListN.{length, get_or, take, set, replicate, length-append}
 use lib.Seq.{get_or-set_same, take-set-lt}
 use Rattle.transaction.specs.declared.Input.{Input}
@@ -204,7 +205,7 @@ module _ {own : Own} {t : Transaction} {ws : List ℕ} (pre : Entering own t ws)
 
 -- a vote noted
 module _ {place sender verdict : ℕ} {ws : List ℕ} (pre : FreshVote place sender verdict ws) {vs : List ℕ}
-    (p : PutsKnown ws place (with_said sender (verdict + 1) (slot_known ws place)) vs) where
+    (p : PutsKnown ws place (with_said sender (eqb verdict 1) (slot_known ws place)) vs) where
   hears : Leaves ws (holding (view ws) (view ws).tokens (set (view ws).known place (heard_in place sender verdict ws)))
       (shard_of ws).known vs
   hears = changed_leaves ws vs place (heard_in place sender verdict ws) p pre.room.held pre.entry pre.known

@@ -7,14 +7,15 @@ use native.Mathlib.Omega.{arith}
 use borrow.Author.Tests.{eq-eqb, ne_eqb, le-ltb}
 use lib.Dec.{eqb, leb, ltb}
 use lib.ListN.{length, get_or}
-use Rattle.std.specs.Prelude.{Result, Ok, Err, IsErrAnd}
+use Rattle.std.specs.Prelude.{None, Result, Ok, Err, IsErrAnd}
 use Rattle.std.proofs.lemmas.Result.{err_from_is_err_and}
 use Rattle.transaction.specs.declared.Transaction.{Transaction}
 use Rattle.transaction.specs.declared.refusal.Refusal.{Refusal}
-use Rattle.transaction.specs.declared.refusal.Refusal.TheVariants.{OutOfRange, NumberUnknown, NumberTaken, KnownAlready}
+use Rattle.transaction.specs.declared.refusal.Refusal.TheVariants.{OutOfRange, NumberTaken, KnownAlready}
 use Rattle.transaction.specs.Lists.{any, first_of}
 use Rattle.transaction.proofs.Tables.{table_stands, table_behind}
 use Rattle.model.specs.declared.Known.{Known}
+use Rattle.model.specs.Said.{Said}
 use Rattle.model.specs.Steps.{house, is_for, place_of, entry_of, nothing_known, heard_from, outputs_here}
 use Rattle.model.specs.Shard.{is_numbered, is_other, other_verdict, too_full, reserved}
 use Rattle.layout.specs.Layout.{token_slots, known_slots, shard_of, slot_known}
@@ -146,14 +147,14 @@ module _ {ws : List ℕ} (sound : Sound ws) (t : Transaction) where
       unfolding entry_of
       entry-there = entry ∙ rw place_is refl
 
-      module _ (sender : ℕ) {heard : ℕ} (e : heard ≡ get_or (slot_known ws place).heard sender 0) where
+      module _ (sender : ℕ) {heard : Said} (e : heard ≡ get_or (slot_known ws place).heard sender None) where
         pub verdict_there : heard ≡ heard_from sender (entry_of t known)
         verdict_there = e ∙ ap (heard_from sender) entry-there
 
         -- 12
         pub other-there : (verdict : ℕ) {told : Bool} → told ≡ other_verdict heard verdict
             → told ≡ other_verdict (heard_from sender (entry_of t known)) verdict
-        other-there verdict o = o ∙ ap (λ (h : ℕ). other_verdict h verdict) verdict_there
+        other-there verdict o = o ∙ ap (λ (h : Said). other_verdict h verdict) verdict_there
 
 -- ---- 10, by the counts
 module _ {ws : List ℕ} (sound : Sound ws) (t : Transaction) {me held more : ℕ}

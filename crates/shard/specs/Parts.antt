@@ -93,7 +93,6 @@ pub record FreshVote (place sender verdict : ℕ) (ws : List ℕ) : Type 0 where
   pub known : (shard_of ws).known ≤ known_slots
   pub entry : place < (shard_of ws).known
   pub from : sender < 8
-  pub says : verdict ≤ 1
   pub fits : length (heard_ledger place sender verdict ws).tokens ≤ token_slots
 
 -- it is carried out

@@ -11,7 +11,7 @@ use layout::counts::{held, is_given, is_turned, known_count, own_number};
 use layout::entries::heard_at;
 use layout::{GENESIS_SLOTS, KNOWN_SLOTS, TOKEN_SLOTS, Words};
 use registry::awaiting;
-use registry::finding::same_at;
+use registry::finding::{same_at, says};
 use registry::reserving::{count_here, reserved_here};
 use transaction::Transaction;
 
@@ -73,11 +73,11 @@ pub(crate) fn is_held_off(s: &Words, t: Transaction) -> bool
     awaiting::is_held_off(s, me, t)
 }
 
-fn is_other_verdict(heard: u8, verdict: u8) -> bool
+// A verdict is heard, and it is the other one.
+fn is_other_verdict(heard: Option<bool>, verdict: u8) -> bool
     ensures { result ≡ other_verdict heard verdict }
 {
-    let noted = u16::from(verdict) + 1;
-    heard != 0 && u16::from(heard) != noted
+    heard.is_some() && !says(heard, verdict)
 }
 
 // 12: the other verdict is heard from this sender. Asked where the transaction stands at the place.

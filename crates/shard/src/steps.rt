@@ -1,7 +1,7 @@
 // The steps of a call that passes: document 01's. Those of a registration are the local step, and then its entry.
 ghost use Rattle.std.specs.Prelude.{◌≡◌, ◌<◌, true, length, position};
 ghost use Rattle.transaction.specs.Lists.{first_of};
-ghost use Rattle.model.specs.Steps.{house, noted, known_with, outcome_of};
+ghost use Rattle.model.specs.Steps.{house, known_with, outcome_of};
 ghost use Rattle.model.specs.Shard.{is_numbered, register_refusals, is_unknown, deliver_refusals, register, deliver};
 ghost use Rattle.layout.specs.Layout.{shard_words, token_slots, known_slots, genesis_slots, shard_of, slot_known};
 ghost use Rattle.holdings.specs.Held.{Settling, Settles};
@@ -39,21 +39,14 @@ pub(crate) fn after_mint(s: &mut Words, index: u8, owner: u32, amount: u32)
     give(s, at);
 }
 
-// A verdict as it is noted.
-fn note(verdict: bool) -> u8
-    ensures { result ≡ noted verdict }
-{
-    if verdict { 2 } else { 1 }
-}
-
 // The transaction as it becomes known: the own vote counts as heard.
 fn newly_known(me: u8, own: Own, t: Transaction) -> Known
     requires { me < 8 }
     ensures { result ≡ known_with me own.findings own.verdict t }
 {
     let at = usize::from(me);
-    let mut heard = [0u8; 8];
-    heard[at] = note(own.verdict);
+    let mut heard = [None; 8];
+    heard[at] = Some(own.verdict);
     let findings = own.findings;
     Known {
         transaction: t,
@@ -113,7 +106,7 @@ fn fresh_vote(s: &mut Words, place: usize, vote: Vote) -> Outcome
     ensures { FreshDone place vote.sender vote.verdict s.old result s.new }
 {
     let at = usize::from(vote.sender);
-    put_heard(s, place, at, vote.verdict + 1);
+    put_heard(s, place, at, vote.verdict == 1);
     decide_at(s, place)
 }
 
@@ -124,10 +117,9 @@ pub(crate) fn carry_vote(s: &mut Words, place: usize, vote: Vote) -> Done
     requires passed { first_of (deliver_refusals house (number s.old) (view s.old) (number s.old) vote.sender vote.verdict vote.transaction) ≡ Ok tt }
     ensures { Steps s.old (deliver (number s.old) vote.sender vote.verdict vote.transaction) (Ok result) s.new }
 {
-    if heard_at(s, place, vote.sender) == 0 {
-        Done::Heard(fresh_vote(s, place, vote))
-    } else {
-        Done::Again(outcome_at(s, place))
+    match heard_at(s, place, vote.sender) {
+        None => Done::Heard(fresh_vote(s, place, vote)),
+        Some(_) => Done::Again(outcome_at(s, place)),
     }
 }
 

@@ -1,12 +1,13 @@
--- A verdict is noted for each of eight senders, and none for a number above 7.
-use Rattle.std.proofs.Common.{◌<◌, ◌≤◌, sym, ◌∙◌, rules}
+-- A verdict is heard from each of eight senders, and none from a number above 7.
+use Rattle.std.proofs.Common.{◌<◌, ◌≤◌, ap, sym, ◌∙◌, rules}
+use Rattle.layout.specs.Layout.{said_from}
 use Rattle.layout.proofs.Slots.{heard-at, heard-above}
 use Rattle.layout.proofs.entries.heard_at.Goals as goal
 
 pub returns-then-at-lt8 : goal.returns-then-at-lt8
 returns-then-at-lt8 c =
     let sender : c.args.sender < 8 = search rules in
-    c.byte.ensures ∙ sym (heard-at c.args.s.now c.args.k c.args.sender c.requires sender)
+    c.said_from.ensures ∙ ap said_from c.byte.ensures ∙ sym (heard-at c.args.s.now c.args.k c.args.sender c.requires sender)
 
 pub returns : goal.returns
 returns c =

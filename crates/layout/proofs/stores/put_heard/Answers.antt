@@ -1,5 +1,4 @@
 -- One word of the slot is stored, and the verdict is noted there.
-use Rattle.std.proofs.Common.{◌<◌, rules}
 use Rattle.layout.proofs.Stored.{heard-put}
 use Rattle.layout.proofs.stores.put_heard.Goals as goal
 
@@ -8,5 +7,4 @@ returns c =
     let within = c.requires.0 in
     let sender = c.requires.1 in
     let long = c.told-s in
-    let byte : c.args.said < 256 = search rules in
-    rw c.from.ensures (heard-put c.args.s.now c.args.k c.args.sender c.args.said within sender byte long)
+    heard-put c.args.s.now c.args.k c.args.sender c.args.said c.said_number.ensures within sender long

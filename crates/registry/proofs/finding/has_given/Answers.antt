@@ -1,6 +1,5 @@
 -- Only the known transaction of that number can pass: it is found and asked, or there is none.
-use Rattle.std.proofs.Common.{sym, ◌∙◌, rules}
-use borrow.Author.Tests.{ne_eqb}
+use Rattle.std.proofs.Common.{sym, ◌∙◌}
 use Rattle.model.specs.Shard.{is_numbered}
 use Rattle.loops.proofs.Positions.{stands, nowhere}
 use Rattle.layout.specs.Layout.{ledger_of}
@@ -12,15 +11,14 @@ returns-in_default c =
     let none = nowhere (is_numbered c.args.t.number) (ledger_of c.args.s.now).known (sym c.in_default.ensures.found) in
     given-none c.args.s.now c.requires.0 c.requires.1 c.args.sender c.args.verdict c.args.t none
 
-pub returns-then-from-noted : goal.returns-then-from-noted
-returns-then-from-noted c =
+pub returns-then-says : goal.returns-then-says
+returns-then-says c =
     let at = stands (is_numbered c.args.t.number) (ledger_of c.args.s.now).known c.in-Some.place (sym c.in-Some.ensures.found) in
     given_if c.args.s.now c.requires.0 c.requires.1 c.args.sender c.args.verdict c.args.t at
-    c.heard_at-said.ensures (search rules) c.same_at.ensures
+    c.heard_at.ensures c.says.ensures c.if-says.true c.same_at.ensures
 
-pub returns-else-from-noted : goal.returns-else-from-noted
-returns-else-from-noted c =
+pub returns-else-says : goal.returns-else-says
+returns-else-says c =
     let at = stands (is_numbered c.args.t.number) (ledger_of c.args.s.now).known c.in-Some.place (sym c.in-Some.ensures.found) in
-    ne_eqb _ _ c.if-from-noted.false
-    ∙ given-other c.args.s.now c.requires.0 c.requires.1 c.args.sender c.args.verdict c.args.t at
-    c.heard_at-said.ensures (search rules)
+    c.if-says.false ∙ given-other c.args.s.now c.requires.0 c.requires.1 c.args.sender c.args.verdict c.args.t at
+    c.heard_at.ensures c.says.ensures c.if-says.false

@@ -17,15 +17,15 @@ fresh_vote-requires c =
     let vote = c.args.vote in
     let t = vote.transaction in
     let at = stands (is_numbered t.number) (view c.args.s.now).known c.args.place c.requires.there in
-    fresh_ready c.requires.sound vote.sender vote.verdict t at c.requires.passed c.heard_at.ensures c.if-heard_at-eq0.true
+    fresh_ready c.requires.sound vote.sender vote.verdict t at c.requires.passed c.heard_at.ensures c.in-None.is
 
-pub returns-then-heard_at-eq0 : goal.returns-then-heard_at-eq0
-returns-then-heard_at-eq0 c =
+pub returns-in-None : goal.returns-in-None
+returns-in-None c =
     let vote = c.args.vote in
     let t = vote.transaction in
     let at = stands (is_numbered t.number) (view c.args.s.now).known c.args.place c.requires.there in
     fresh-carried c.requires.sound vote.sender vote.verdict t at c.requires.passed c.heard_at.ensures
-    c.if-heard_at-eq0.true c.fresh_vote.ensures
+    c.in-None.is c.fresh_vote.ensures
 
 -- It was heard before.
 pub outcome_at-requires : goal.outcome_at-requires
@@ -33,10 +33,10 @@ outcome_at-requires c =
     let t = c.args.vote.transaction in
     place-slot c.requires.sound t (stands (is_numbered t.number) (view c.args.s.now).known c.args.place c.requires.there)
 
-pub returns-else-heard_at-eq0 : goal.returns-else-heard_at-eq0
-returns-else-heard_at-eq0 c =
+pub returns-in-Some : goal.returns-in-Some
+returns-in-Some c =
     let vote = c.args.vote in
     let t = vote.transaction in
     let at = stands (is_numbered t.number) (view c.args.s.now).known c.args.place c.requires.there in
     again-carried c.requires.sound vote.sender vote.verdict t at c.requires.passed c.heard_at.ensures
-    c.if-heard_at-eq0.false c.outcome_at.ensures
+    c.in-Some.is c.outcome_at.ensures
