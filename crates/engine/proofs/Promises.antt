@@ -4,14 +4,15 @@ use mathlib.Core.Path.{◌≡◌, refl, sym, ap, ◌∙◌}
 use mathlib.Core.List.{List}
 use native.Mathlib.Omega.{arith}
 use lib.ListN.{length, length-drop}
+use Rattle.std.proofs.Common.{Result, Ok, Err}
+use Rattle.transaction.specs.declared.refusal.Refusal.{Refusal}
+use Rattle.transaction.specs.Refusals.{refusal_number, number_of}
 use Rattle.reader.specs.declared.Record.{Record}
-use Rattle.reader.specs.declared.Answer.TheVariants.{Read, Refused}
 use Rattle.reader.specs.declared.Reading.{Reading}
-use Rattle.reader.specs.Reading.{number_of, taken_of, rest_of, Reads}
+use Rattle.reader.specs.Reading.{taken_of, rest_of, Reads}
 use Rattle.reader.proofs.Cases.{taken-within}
-use Rattle.writer.specs.declared.Written.{Written}
 use Rattle.writer.specs.Writing.{Writes}
-use Rattle.model.specs.declared.Answer.{Answer}
+use Rattle.model.specs.Answers.{Answer}
 use Rattle.model.specs.Shard.{Call}
 use Rattle.shard.specs.View as shard
 use Rattle.cluster.specs.View as cluster
@@ -25,7 +26,7 @@ pub fills : {bytes : List ℕ} {r : Reading} {number : ℕ} {after : List ℕ} �
     → after ≡ reading_words r → Fills bytes number after
 fills reads en ea = record { answered = en ∙ reads.number; filled = ea ∙ ap reading_words reads.whole }
 
-pub encodes : {cause : ℕ} {bytes before : List ℕ} {answer : Written} {code : ℕ} {after : List ℕ}
+pub encodes : {cause : Result Unit Refusal} {bytes before : List ℕ} {answer : Result ℕ Refusal} {code : ℕ} {after : List ℕ}
     → Writes cause bytes before answer after → code ≡ code_of answer → Encodes cause bytes before code after
 encodes writes e = record { answered = e ∙ ap code_of writes.answered; lent = writes.lent }
 
@@ -60,13 +61,13 @@ module _ (c : List (List ℕ)) {bytes : List ℕ} {r : Reading} (reads : Reads b
   unfolding applied
   applied-is = sym (ap (λ (x : Reading). applied_as c x.answer x.transaction) reads.whole)
 
-  pub does_read : {fields : Record} {code : ℕ} {after : List (List ℕ)} → r.answer ≡ Read fields
+  pub does_read : {fields : Record} {code : ℕ} {after : List (List ℕ)} → r.answer ≡ Ok fields
       → ClusterDoes (cluster_called c (call_of fields r.transaction)) code after
       → ClusterDoes (applied c bytes) code after
   unfolding applied_as
   does_read e does = rw (applied-is, e) does
 
-  pub does_refused : cluster.Sound c → {number code : ℕ} → r.answer ≡ Refused number → code ≡ number
+  pub does_refused : cluster.Sound c → {cause : Refusal} {code : ℕ} → r.answer ≡ Err cause → code ≡ refusal_number cause
       → ClusterDoes (applied c bytes) code c
   unfolding applied_as answer_code
   does_refused sound e coded = rw (applied-is, e) (record { answered = coded; ledgers = refl; sound = sound })

@@ -16,6 +16,10 @@ use Rattle.std.proofs.lemmas.Slice.{put_mid-paste}
 use Rattle.transaction.specs.declared.Input.{Input}
 use Rattle.transaction.specs.declared.Output.{Output}
 use Rattle.transaction.specs.declared.Transaction.{Transaction}
+use Rattle.std.proofs.Common.{Result, Ok, Err, is_err}
+use Rattle.transaction.specs.declared.refusal.Refusal.{Refusal}
+use Rattle.transaction.specs.declared.refusal.Refusal.TheVariants.{TokenTwice, SumsDiffer}
+use Rattle.transaction.specs.Refusals.{refusal_number, number_of}
 use Rattle.transaction.specs.Lists.{repeats, total, slots_fit}
 use Rattle.transaction.specs.Tokens.{same_input, same_output, zero_input, zero_output}
 use Rattle.transaction.specs.Checks.{
@@ -134,21 +138,21 @@ unfolding named_twice
 named t ef ex ec = ef ∙ rw (sym ec, sym ex) refl
 
 module _ {x : List Input} {y : List Output} {count : ℕ} where
-  pub last_4 : {found : Bool} → found ≡ repeats same_name (take count x) → found ≡ true → LastOf x y count 4
+  pub last_4 : {found : Bool} → found ≡ repeats same_name (take count x) → found ≡ true → LastOf x y count (Err TokenTwice)
   last_4 ef twice = record {
     answered = λ t ex ey ec fit. cause_4 house_genesis t fit (sym twice ∙ named t ef ex ec);
   }
 
   module _ {found : Bool} (ef : found ≡ repeats same_name (take count x)) (once : found ≡ false) {m n : ℕ}
       (em : m ≡ total input_amount x) (en : n ≡ total output_amount y) where
-    pub last_5 : (m ≡ n → ⊥) → LastOf x y count 5
+    pub last_5 : (m ≡ n → ⊥) → LastOf x y count (Err SumsDiffer)
     last_5 differ = record {
       answered = λ t ex ey ec fit.
           cause_5 house_genesis t fit (sym once ∙ named t ef ex ec) (em ∙ ap (total input_amount) (sym ex))
           (en ∙ ap (total output_amount) (sym ey)) differ;
     }
 
-    pub last_0 : m ≡ n → LastOf x y count 0
+    pub last_0 : m ≡ n → LastOf x y count (Ok tt)
     last_0 agree = record {
       answered = λ t ex ey ec fit.
           cause_0 house_genesis t fit (sym once ∙ named t ef ex ec) (em ∙ ap (total input_amount) (sym ex))
@@ -179,9 +183,9 @@ module _ (l : List ℕ) (at : ℕ) where
 
   module _ (before : List ℕ) where
     -- a transaction that is refused promises nothing of the words
-    pub refuses : {answer : ℕ} {after : List ℕ} → answer ≡ cause_of house_genesis (transaction_at l at) → (answer ≡ 0 → ⊥)
-        → TakesTransaction l at before answer after
-    refuses e some = record { answered = e; stored = λ none. absurd (some none) }
+    pub refuses : {cause : Refusal} {after : List ℕ} → Err cause ≡ cause_of house_genesis (transaction_at l at)
+        → TakesTransaction l at before (Err cause) after
+    refuses e = record { answered = e; stored = λ none. absurd cc }
 
     -- its words, put one part behind the other
     pub transaction-run : {number : ℕ} {a b c : List ℕ} → number ≡ word_at l at
@@ -219,26 +223,31 @@ record_run before fields t long em ea =
     ∙ ap (λ (z : List ℕ). words ++ z) (drop_of_length-le before {i = 42} (omega (arith, long)))
     ∙ append-nil words
 
-module _ (l : List ℕ) (h : head_cause l ≡ 0) {answer : ℕ} {taken : List ℕ} (takes : TakesRecord l answer taken) where
-  pub fills-taken : answer ≡ 0 → Fills l 0 taken
+-- an answer that is no error is ok
+pub no-error : (found : Result Unit Refusal) → is_err found ≡ false → found ≡ Ok tt
+no-error (Ok passed) e = refl
+no-error (Err cause) e = absurd cc
+
+module _ (l : List ℕ) (h : head_cause l ≡ Ok tt) {answer : Result Unit Refusal} {taken : List ℕ} (takes : TakesRecord l answer taken) where
+  pub fills-taken : answer ≡ Ok tt → Fills l 0 taken
   unfolding answer_words reading_words
   fills-taken none =
-      let good = reading_good l h {fields = record_at l} {t = transaction_in l} takes.answered none refl refl refl in
-      record { answered = sym none ∙ takes.answered; filled = takes.stored none ∙ ap reading_words good }
+      let good = reading_good l h {fields = record_at l} {t = transaction_in l} (sym takes.answered ∙ none) refl refl refl in
+      record { answered = ap (λ (x : Result Unit Refusal). number_of x) (sym none ∙ takes.answered); filled = takes.stored none ∙ ap reading_words good }
 
-  pub fills-refused : (answer ≡ 0 → ⊥) → {number : ℕ} → number ≡ answer → Fills l number (replicate 42 0)
+  pub fills-refused : {cause : Refusal} → answer ≡ Err cause → {number : ℕ} → number ≡ refusal_number cause → Fills l number (replicate 42 0)
   unfolding answer_words reading_words words_of
-  fills-refused some en =
-      let bad = reading_bad l h takes.answered some refl in
-      record { answered = en ∙ takes.answered; filled = ap reading_words bad }
+  fills-refused e en =
+      let bad = reading_bad l h (sym takes.answered ∙ e) refl in
+      record { answered = en ∙ ap (λ (x : Result Unit Refusal). number_of x) (sym e ∙ takes.answered); filled = ap reading_words bad }
 
 -- the front passes, and its words and the transaction's are put one behind the other
-module _ (l : List ℕ) (h : head_cause l ≡ 0) (k : (kind_of l ≡ 1) ⊎ (kind_of l ≡ 2)) {fit : Bool} (fits : fit ≡ front-fit l) (pass : fit ≡ true)
+module _ (l : List ℕ) (h : head_cause l ≡ Ok tt) (k : (kind_of l ≡ 1) ⊎ (kind_of l ≡ 2)) {fit : Bool} (fits : fit ≡ front-fit l) (pass : fit ≡ true)
     (before : List ℕ) (long : length before ≡ 42) where
-  pub takes_record : (at : ℕ) (fields : Record) {answer : ℕ} {mid after : List ℕ}
+  pub takes_record : (at : ℕ) (fields : Record) {answer : Result Unit Refusal} {mid after : List ℕ}
       → transaction_at l at ≡ transaction_in l → fields ≡ record_at l
       → mid ≡ sets before 0 (record_words fields) → TakesTransaction l at mid answer after → TakesRecord l answer after
   takes_record at fields et ef em takes = record {
-    answered = front-passes l h k fits pass et takes.answered;
+    answered = sym (front-passes l h k fits pass et takes.answered);
     stored = λ none. record_run before fields (transaction_at l at) long em (takes.stored none) ∙ rw (ef, et) refl;
   }

@@ -1,13 +1,16 @@
 // What was read of a record, as 42 words: kind, receiver, sender, verdict, index, owner, amount, and the transaction's
 // 35.
 ghost use Rattle.std.specs.Prelude.{◌≡◌, ◌+◌, ◌++◌};
-ghost use Rattle.reader.specs.Reading.{number_of};
+ghost use Rattle.transaction.specs.Refusals.{number_of};
 ghost use Rattle.engine.specs.Fields.{record_words, answer_words, reading_words};
 
-use reader::{Answer, Reading, Record};
+use crate::codes::refusal_number;
+use reader::{Reading, Record};
+use transaction::refusal::Refusal;
 use words::words_of;
 
 // The fields beside the transaction; those that a kind does not have are 0.
+#[tactic(auto, unfolding(crate::specs::Fields::record_words))]
 pub(crate) fn record_words(fields: Record) -> [u32; 7]
     ensures { result ≡ record_words fields }
 {
@@ -44,22 +47,23 @@ pub(crate) fn record_words(fields: Record) -> [u32; 7]
     }
 }
 
-fn answer_words(answer: Answer) -> [u32; 7]
+#[tactic(auto, unfolding(crate::specs::Fields::answer_words))]
+fn answer_words(answer: Result<Record, Refusal>) -> [u32; 7]
     ensures { result ≡ answer_words answer }
 {
     match answer {
-        Answer::Read(fields) => record_words(fields),
-        Answer::Refused(_) => [0; 7],
+        Ok(fields) => record_words(fields),
+        Err(_) => [0; 7],
     }
 }
 
 // The refusal's number; 0 where a record was read.
-pub(crate) fn number_of(answer: Answer) -> u32
+pub(crate) fn number_of(answer: Result<Record, Refusal>) -> u32
     ensures { result ≡ number_of answer }
 {
     match answer {
-        Answer::Read(_) => 0,
-        Answer::Refused(number) => u32::from(number),
+        Ok(_) => 0,
+        Err(refusal) => refusal_number(refusal),
     }
 }
 

@@ -1,31 +1,28 @@
 // What was found about the inputs of a known transaction (document 02, 2), as eight words: for each finding its number and
 // that of the pledging transaction.
-ghost use Rattle.std.specs.Prelude.{◌≡◌, cond, ◌&&◌, ltb, [], ◌∷◌, slice_index_or, map, take};
+ghost use Rattle.std.specs.Prelude.{◌≡◌, cond, ◌&&◌, ltb, [], ◌∷◌, slice_index_or, take};
 ghost use Rattle.model.specs.Answers.{finding_number, pledging_number};
-ghost use Rattle.model.specs.Findings.{finding_of};
-ghost use Rattle.layout.specs.Layout.{no_finding};
+ghost use Rattle.model.specs.declared.Finding.TheVariants.{Available};
 ghost use Rattle.engine.specs.Queries.{findings_words, TellsFindings};
 
+use crate::codes::refusal_number;
 use layout::findings::{finding_number, pledging_number};
-use model::{Found, Report, Told};
+use model::{Finding, Report};
 
 // The two words of a place, 0 where there is no finding.
-fn pair_at(count: u8, found: &[Found; 4], k: usize) -> [u32; 2]
+fn pair_at(count: u8, found: &[Finding; 4], k: usize) -> [u32; 2]
     ensures { result ≡ cond (ltb k 4 && ltb k count)
-        (finding_number (slice_index_or found.now k no_finding).finding ∷ pledging_number (slice_index_or found.now k no_finding).finding ∷ [])
+        (finding_number (slice_index_or found.now k Available) ∷ pledging_number (slice_index_or found.now k Available) ∷ [])
         (0 ∷ 0 ∷ []) }
 {
     match found.get(k) {
-        Some(x) if k < usize::from(count) => [
-            finding_number(x.finding),
-            pledging_number(x.finding),
-        ],
+        Some(&x) if k < usize::from(count) => [finding_number(x), pledging_number(x)],
         _ => [0, 0],
     }
 }
 
-fn findings_words(count: u8, found: [Found; 4]) -> [u32; 8]
-    ensures { result ≡ findings_words 4 (take count (map finding_of found)) }
+fn findings_words(count: u8, found: [Finding; 4]) -> [u32; 8]
+    ensures { result ≡ findings_words 4 (take count found) }
 {
     // Stays: the four are written out, since the proof did not close for `array::from_fn`: of a closure that hands back an array nothing is known.
     let pairs = [
@@ -43,13 +40,11 @@ fn findings_words(count: u8, found: [Found; 4]) -> [u32; 8]
 pub(crate) fn tell(report: Report, words: &mut [u32; 8]) -> u32
     ensures { TellsFindings report words.old result words.new }
 {
-    let answer = report.answer;
-    match answer {
-        Told::Refused(number) => u32::from(number),
-        Told::Findings(count) => {
-            let found = report.findings;
-            *words = findings_words(count, found);
-            700 + u32::from(count)
+    match report {
+        Err(refusal) => refusal_number(refusal),
+        Ok(found) => {
+            *words = findings_words(found.count, found.list);
+            700 + u32::from(found.count)
         }
     }
 }

@@ -1,6 +1,6 @@
 // A record with a transaction, put straight from the bytes into the lent words and checked on the way. Where it is refused, some words
 // have been written.
-ghost use Rattle.std.specs.Prelude.{◌≡◌, ◌⊎◌, [], ◌∷◌, ◌+◌, ◌≤◌, length};
+ghost use Rattle.std.specs.Prelude.{◌≡◌, Ok, ◌⊎◌, [], ◌∷◌, ◌+◌, ◌≤◌, length};
 ghost use Rattle.std.proofs.lemmas.List.Edits.{sets};
 ghost use Rattle.reader.specs.Layout.{inputs_at, outputs_at};
 ghost use Rattle.reader.specs.Reading.{kind_of, head_cause};
@@ -16,6 +16,7 @@ use reader::layout::{input_at, output_at, word_at};
 use std::array;
 use transaction::checks::{input_total, named_twice, output_total};
 use transaction::fields::counts_fit;
+use transaction::refusal::Refusal;
 use transaction::{Input, Output};
 
 const REGISTER: u8 = 1; // the kind of a registration
@@ -30,22 +31,22 @@ const OUTPUTS: usize = FRONT + words::OUTPUTS;
 
 // Checks 4 and 5 of a transaction that has passed check 3, by the places of its inputs and of its outputs. The slots are read here, one by one, and not
 // by the reader's functions for four of them, which are too large for the compiler to make them part of this one as well.
-fn last_cause(bytes: &[u8], inputs: usize, outputs: usize, count: u8) -> u8
+fn last_cause(bytes: &[u8], inputs: usize, outputs: usize, count: u8) -> Result<(), Refusal>
     requires { (inputs + 56 ≤ length bytes.now) × (outputs + 36 ≤ length bytes.now) }
     ensures { LastOf (inputs_at bytes.now inputs) (outputs_at bytes.now outputs) count result }
 {
     let x = array::from_fn(|k| input_at(bytes, inputs + k * INPUT));
     if named_twice(count, x) {
-        return 4;
+        return Err(Refusal::TokenTwice);
     }
     let y = array::from_fn(|k| output_at(bytes, outputs + k * OUTPUT));
     if input_total(x) != output_total(y) {
-        return 5;
+        return Err(Refusal::SumsDiffer);
     }
-    0
+    Ok(())
 }
 
-fn take_transaction(bytes: &[u8], at: usize, fields: &mut [u32; 42]) -> u8
+fn take_transaction(bytes: &[u8], at: usize, fields: &mut [u32; 42]) -> Result<(), Refusal>
     requires { at + 98 ≤ length bytes.now }
     ensures { TakesTransaction bytes.now at fields.old result fields.new }
 {
@@ -53,25 +54,25 @@ fn take_transaction(bytes: &[u8], at: usize, fields: &mut [u32; 42]) -> u8
     let inputs = bytes[at + 4];
     let outputs = bytes[at + 5];
     if !counts_fit(number, inputs, outputs) {
-        return 3;
+        return Err(Refusal::OutOfRange);
     }
     fields[FRONT..INPUTS].copy_from_slice(&[number, u32::from(inputs), u32::from(outputs)]);
     if !take_slots::<Input, 5>(bytes, at + 6, inputs, fields, INPUTS) {
-        return 3;
+        return Err(Refusal::OutOfRange);
     }
     if !take_slots::<Output, 3>(bytes, at + 62, outputs, fields, OUTPUTS) {
-        return 3;
+        return Err(Refusal::OutOfRange);
     }
     last_cause(bytes, at + 6, at + 62, inputs)
 }
 
 // The record at the front of the bytes, of kind 1 or 2.
-pub(crate) fn take_record(bytes: &[u8], fields: &mut [u32; 42]) -> u8
-    requires { (head_cause bytes.now ≡ 0) × ((kind_of bytes.now ≡ 1) ⊎ (kind_of bytes.now ≡ 2)) }
+pub(crate) fn take_record(bytes: &[u8], fields: &mut [u32; 42]) -> Result<(), Refusal>
+    requires { (head_cause bytes.now ≡ Ok tt) × ((kind_of bytes.now ≡ 1) ⊎ (kind_of bytes.now ≡ 2)) }
     ensures { TakesRecord bytes.now result fields.new }
 {
     if !front_fits(bytes) {
-        return 3;
+        return Err(Refusal::OutOfRange);
     }
     if bytes[0] == REGISTER {
         let front = Record::Register { receiver: bytes[1] };

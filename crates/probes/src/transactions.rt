@@ -1,6 +1,7 @@
 // What the engine says of a transaction: the first fitting of the checks 3 to 5, who takes part, equality.
 ghost use Rattle.std.specs.Prelude.{◌≡◌};
 ghost use Rattle.transaction.specs.Tokens.{takes_part, same_transaction};
+ghost use Rattle.transaction.specs.Refusals.{number_of};
 ghost use Rattle.transaction.specs.Checks.{cause_of};
 ghost use Rattle.words.specs.Words.{yes, byte_of, transaction_from};
 
@@ -10,11 +11,14 @@ use words::{narrow, transaction_from};
 // none.
 #[unsafe(no_mangle)]
 pub extern "C" fn probe_cause(genesis: u32, transaction: &[u32; 35]) -> u32
-    ensures { result ≡ cause_of (byte_of genesis) (transaction_from transaction.now) }
+    ensures { result ≡ number_of (cause_of (byte_of genesis) (transaction_from transaction.now)) }
 {
     let limit = narrow(genesis);
     let t = transaction_from(transaction);
-    u32::from(transaction::checks::cause(limit, t))
+    match transaction::checks::cause(limit, t) {
+        Ok(()) => 0,
+        Err(refusal) => u32::from(u8::from(refusal)),
+    }
 }
 
 // 1 where the shard (document 01: the pantry) takes part in the transaction, 0 where it does not.

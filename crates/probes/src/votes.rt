@@ -2,10 +2,12 @@
 ghost use Rattle.std.specs.Prelude.{◌≡◌, ◌+◌, ◌%◌, ◌^◌, ◌<◌, ◌≤◌, if◌then◌else◌, nat_eq};
 ghost use Rattle.probes.specs.Votes.{transaction_worth, record_worth, worth_of, sum_of};
 
-use reader::{Answer, Record};
+use reader::Record;
 use transaction::Transaction;
+use transaction::refusal::Refusal;
 
 // What a vote's transaction adds to the sum.
+#[tactic(auto, unfolding(crate::specs::Votes::transaction_worth))]
 fn transaction_worth(t: Transaction) -> u64
     ensures value { result ≡ transaction_worth t }
     ensures bound { result < 12884901888 }
@@ -13,6 +15,7 @@ fn transaction_worth(t: Transaction) -> u64
     u64::from(t.number) + u64::from(t.outputs[1].owner) + u64::from(t.inputs[1].amount)
 }
 
+#[tactic(auto, unfolding(crate::specs::Votes::record_worth))]
 fn record_worth(fields: Record, t: Transaction) -> u64
     ensures { result ≡ record_worth fields t }
 {
@@ -33,12 +36,13 @@ fn record_worth(fields: Record, t: Transaction) -> u64
     }
 }
 
-fn worth(answer: Answer, t: Transaction) -> u64
+#[tactic(auto, unfolding(crate::specs::Votes::worth_of))]
+fn worth(answer: Result<Record, Refusal>, t: Transaction) -> u64
     ensures { result ≡ worth_of answer t }
 {
     match answer {
-        Answer::Read(fields) => record_worth(fields, t),
-        Answer::Refused(number) => 1000000 + u64::from(number),
+        Ok(fields) => record_worth(fields, t),
+        Err(refusal) => 1000000 + u64::from(u8::from(refusal)),
     }
 }
 

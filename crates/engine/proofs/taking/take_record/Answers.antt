@@ -10,7 +10,7 @@ use Rattle.engine.proofs.taking.take_record.Goals as goal
 pub returns-then-not-front_fits : goal.returns-then-not-front_fits
 returns-then-not-front_fits c =
     let three = front_fails c.args.bytes.now c.requires.0 c.requires.1 c.front_fits.ensures c.if-not-front_fits.true in
-    record { answered = three; stored = λ none. absurd (omega (arith, none)) }
+    record { answered = sym three; stored = λ none. absurd cc }
 
 pub bounds-bytes-1 : goal.bounds-bytes-1
 bounds-bytes-1 c = omega (arith, front_long c.args.bytes.now c.requires.0 c.requires.1)

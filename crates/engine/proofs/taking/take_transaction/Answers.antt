@@ -24,7 +24,7 @@ returns-then-not-counts_fit c =
     let at = c.args.at in
     let t = transaction_at l at in
     let fails = sym c.if-not-counts_fit.true ∙ counts_of l at c.word_at-number.ensures c.counts_fit.ensures in
-    refuses l at c.args.fields.now (cause_3 house_genesis t (fit-counts house_genesis t fails)) (λ z. omega arith)
+    refuses l at c.args.fields.now (cause_3 house_genesis t (fit-counts house_genesis t fails))
 
 pub returns-then-not-take_slots : goal.returns-then-not-take_slots
 returns-then-not-take_slots c =
@@ -33,7 +33,7 @@ returns-then-not-take_slots c =
     let t = transaction_at l at in
     let within = sym c.if-not-counts_fit.false ∙ counts_of l at c.word_at-number.ensures c.counts_fit.ensures in
     let fails = sym c.if-not-take_slots.true ∙ inputs-of l at c.take_slots.ensures.answered in
-    refuses l at c.args.fields.now (cause_3 house_genesis t (fit-inputs house_genesis t within fails)) (λ z. omega arith)
+    refuses l at c.args.fields.now (cause_3 house_genesis t (fit-inputs house_genesis t within fails))
 
 pub returns-then-not-take_slots-2 : goal.returns-then-not-take_slots-2
 returns-then-not-take_slots-2 c =
@@ -41,7 +41,7 @@ returns-then-not-take_slots-2 c =
     let at = c.args.at in
     let outs = (goal.at.returns-then-not-take_slots-2 c).After-take_slots-2 in
     let three = cause_3 house_genesis (transaction_at l at) (sym c.if-not-take_slots-2.true ∙ fields outs) in
-    refuses l at c.args.fields.now three (λ z. omega arith)
+    refuses l at c.args.fields.now three
 
 pub returns : goal.returns
 unfolding transaction_at
