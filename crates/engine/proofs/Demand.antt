@@ -16,29 +16,48 @@ use lib.Dec.{eqb}
 use lib.ListN.{length}
 use contract.Lifetimes.{Lfts}
 use Rattle.transaction.specs.declared.Transaction.{Transaction}
-use Rattle.reader.specs.declared.Answer as reader
-use Rattle.reader.specs.declared.Answer.TheVariants as reader-answer
+use Rattle.std.proofs.Common.{Result, Ok, Err}
+use Rattle.transaction.specs.declared.refusal.Refusal.{Refusal}
+use Rattle.transaction.specs.declared.refusal.Refusal.TheVariants.{
+  UnknownKind,
+  TooShort,
+  OutOfRange,
+  TokenTwice,
+  SumsDiffer,
+  NotTakingPart,
+  NumberTaken,
+  KnownAlready,
+  TransactionsFull,
+  TokensFull,
+  NumberUnknown,
+  OtherVerdict,
+  MintTooLate,
+  IndexGiven,
+  BufferTooShort,
+  VoteNotGiven,
+  HeldOff,
+  NoSuchNumber,
+  TurnedAlready,
+}
+use Rattle.transaction.specs.Refusals.{refusal_number, answer_of}
+use Rattle.reader.specs.declared.Record.{Record}
 use Rattle.transaction.specs.Lists.{first_of}
 use Rattle.transaction.specs.Checks.{house_genesis, register_checks, vote_checks, mint_checks, turn_checks}
 use Rattle.reader.specs.Layout.{byte_at, word_at, transaction_at}
 use Rattle.reader.specs.Reading.{kind_of, head_checks, body_checks, read_cause, record_at, reading_of}
 use Rattle.model.specs.declared.Finding.{Finding}
-use Rattle.model.specs.declared.Told.{Told}
-use Rattle.model.specs.declared.Told.TheVariants as told
-use Rattle.model.specs.declared.Report.{Report}
-use Rattle.model.specs.declared.Answer.{Answer}
-use Rattle.model.specs.declared.Answer.TheVariants.{Refused, Minted, Registered, Heard, Again, Turned, Brought}
+use Rattle.model.specs.declared.Done.TheVariants.{Minted, Registered, Heard, Again, Turned, Brought}
 use Rattle.model.specs.declared.Outcome.TheVariants.{Wait}
 use Rattle.model.specs.Steps.{Ledger, house}
 use Rattle.model.specs.Shard.{Call}
-use Rattle.model.specs.Answers.{told_number}
+use Rattle.model.specs.Answers.{Answer, Report, told_number}
 use Rattle.model.specs.Cluster.{ledger_at, cluster_step}
 use Rattle.model.specs.Model.{play}
 use Rattle.model.specs.Demand.{outcome_in}
 use Rattle.model.proofs.Basics.{number_behind, never_answers}
-use Rattle.model.specs.Findings.{report_refusals, report_at, reported, TrueFindings}
+use Rattle.model.specs.Findings.{report_at, reported, TrueFindings}
 use Rattle.model.proofs.Tables.{never_eleven}
-use Rattle.model.proofs.Reported.{report-number, report-small}
+use Rattle.model.proofs.Reported.{report-small}
 use Rattle.model.proofs.TrueFindings.{true_findings, reported-count}
 use Rattle.model.proofs.Bridge as bridge
 use Rattle.model.proofs.Bridge.{reference, RunDemand, run_demand_3}
@@ -124,13 +143,13 @@ pub data Run : Cluster → List Ask → List ℕ → Cluster → Type 0 where
 -- ---- One function: its promise, by what was asked for
 
 abbrev step_of : Cluster → Meant → List Ledger × Answer
-step_of c (refusal number) = (view c, Refused number)
+step_of c (refusal cause) = (view c, Err cause)
 step_of c (asked call) = cluster_called c call
 
-record_step : (c : Cluster) (a : reader.Answer) (t : Transaction) → applied_as c a t ≡ step_of c (record_means a t)
+record_step : (c : Cluster) (a : Result Record Refusal) (t : Transaction) → applied_as c a t ≡ step_of c (record_means a t)
 unfolding applied_as record_means
-record_step c (reader-answer.Read fields) t = refl
-record_step c (reader-answer.Refused number) t = refl
+record_step c (Ok fields) t = refl
+record_step c (Err cause) t = refl
 
 promised : (at : Lent) (c c' : Cluster) (ask : Ask) (code : ℕ) → Sound c → Leaves at c ask c' code
     → ClusterDoes (step_of c (means ask)) code c'
@@ -157,7 +176,7 @@ pub record Follows (c : Cluster) (meant : List Meant) (codes : List ℕ) (c' : C
 one : (c c₁ c' : Cluster) (m : Meant) (code : ℕ) (rest : List Meant) (codes : List ℕ) → ClusterDoes (step_of c m) code c₁
     → Follows c₁ rest codes c' → Follows c (m ∷ rest) (code ∷ codes) c'
 unfolding answer_code
-one c c₁ c' (refusal number) code rest codes does f = record {
+one c c₁ c' (refusal cause) code rest codes does f = record {
   replies = f.replies;
   run = subst (λ (l : List Ledger). ModelRun l (calls_of rest) f.replies (view c')) does.ledgers f.run;
   told = λ j. does.answered j ∷ f.told j;
@@ -212,64 +231,86 @@ planner_demand_3 {c = c} {asks = asks} starts run =
 -- ---- 11 is never returned (document 02, 6)
 
 -- no record is refused with it
-read_eleven : (l : List ℕ) → read_cause l ≡ 11 → ⊥
+read_eleven : (l : List ℕ) → read_cause l ≡ Err NumberUnknown → ⊥
 unfolding read_cause
 read_eleven l e =
-    go (eqb (kind_of l) 1) (eqb (kind_of l) 2) (eqb (kind_of l) 3) (number_behind 11 (head_checks l) (body_checks l) refl e).1
+    go (eqb (kind_of l) 1) (eqb (kind_of l) 2) (eqb (kind_of l) 3) (number_behind NumberUnknown (head_checks l) (body_checks l) refl e).1
   where
-    register : List (Bool × ℕ)
+    register : List (Bool × Refusal)
     register = register_checks house_genesis (byte_at l 1) (transaction_at l 2)
 
-    vote : List (Bool × ℕ)
+    vote : List (Bool × Refusal)
     vote = vote_checks house_genesis (byte_at l 1) (byte_at l 2) (byte_at l 3) (transaction_at l 4)
 
-    mint : List (Bool × ℕ)
+    mint : List (Bool × Refusal)
     mint = mint_checks house_genesis (byte_at l 1) (byte_at l 2) (word_at l 3) (word_at l 7)
 
-    turn : List (Bool × ℕ)
+    turn : List (Bool × Refusal)
     turn = turn_checks (byte_at l 1)
 
-    go : (a b c : Bool) → first_of (cond a register (cond b vote (cond c mint turn))) ≡ 11 → ⊥
-    go true b c e = never_answers 11 (λ z. omega arith) register refl e
-    go false true c e = never_answers 11 (λ z. omega arith) vote refl e
-    go false false true e = never_answers 11 (λ z. omega arith) mint refl e
-    go false false false e = never_answers 11 (λ z. omega arith) turn refl e
+    go : (a b c : Bool) → first_of (cond a register (cond b vote (cond c mint turn))) ≡ Err NumberUnknown → ⊥
+    go true b c e = never_answers NumberUnknown register refl e
+    go false true c e = never_answers NumberUnknown vote refl e
+    go false false true e = never_answers NumberUnknown mint refl e
+    go false false false e = never_answers NumberUnknown turn refl e
 
--- it is the code of the refusal alone
-code_eleven : (answer : Answer) → answer_code answer ≡ 11 → Refused 11 ≡ answer
+-- it is the number of one refusal
+of_eleven : (cause : Refusal) → refusal_number cause ≡ 11 → NumberUnknown ≡ cause
+of_eleven UnknownKind e = absurd (omega arith)
+of_eleven TooShort e = absurd (omega arith)
+of_eleven OutOfRange e = absurd (omega arith)
+of_eleven TokenTwice e = absurd (omega arith)
+of_eleven SumsDiffer e = absurd (omega arith)
+of_eleven NotTakingPart e = absurd (omega arith)
+of_eleven NumberTaken e = absurd (omega arith)
+of_eleven KnownAlready e = absurd (omega arith)
+of_eleven TransactionsFull e = absurd (omega arith)
+of_eleven TokensFull e = absurd (omega arith)
+of_eleven NumberUnknown e = refl
+of_eleven OtherVerdict e = absurd (omega arith)
+of_eleven MintTooLate e = absurd (omega arith)
+of_eleven IndexGiven e = absurd (omega arith)
+of_eleven BufferTooShort e = absurd (omega arith)
+of_eleven VoteNotGiven e = absurd (omega arith)
+of_eleven HeldOff e = absurd (omega arith)
+of_eleven NoSuchNumber e = absurd (omega arith)
+of_eleven TurnedAlready e = absurd (omega arith)
+
+-- and the code of that refusal alone
+code_eleven : (answer : Answer) → answer_code answer ≡ 11 → Err NumberUnknown ≡ answer
 unfolding answer_code
-code_eleven (Refused number) e = ap Refused (sym e)
-code_eleven Minted e = absurd (omega arith)
-code_eleven (Registered verdict outcome) e = absurd (omega arith)
-code_eleven (Heard outcome) e = absurd (omega arith)
-code_eleven (Again outcome) e = absurd (omega arith)
-code_eleven Turned e = absurd (omega arith)
-code_eleven (Brought verdict outcome) e = absurd (omega arith)
+code_eleven (Err cause) e = ap Err (of_eleven cause e)
+code_eleven (Ok Minted) e = absurd (omega arith)
+code_eleven (Ok (Registered verdict outcome)) e = absurd (omega arith)
+code_eleven (Ok (Heard outcome)) e = absurd (omega arith)
+code_eleven (Ok (Again outcome)) e = absurd (omega arith)
+code_eleven (Ok Turned) e = absurd (omega arith)
+code_eleven (Ok (Brought verdict outcome)) e = absurd (omega arith)
 
 -- no function asks for it
-meant_eleven : (ask : Ask) → means ask ≡ refusal 11 → ⊥
+meant_eleven : (ask : Ask) → means ask ≡ refusal NumberUnknown → ⊥
 unfolding means record_means reading_of
 meant_eleven (mints p i o a) e = let z : ◌≡◌ {A = ℕ} 0 1 = cc in omega arith
 meant_eleven (registers p w) e = let z : ◌≡◌ {A = ℕ} 0 1 = cc in omega arith
 meant_eleven (delivers p q v w) e = let z : ◌≡◌ {A = ℕ} 0 1 = cc in omega arith
 meant_eleven (turns p) e = let z : ◌≡◌ {A = ℕ} 0 1 = cc in omega arith
-meant_eleven (applies l) e = go (eqb (read_cause l) 0) e
+meant_eleven (applies l) e = go (read_cause l) refl e
   where
-    go : (b : Bool) → record_means (cond b (reader-answer.Read (record_at l)) (reader-answer.Refused (read_cause l))) (reading_of l).transaction
-        ≡ refusal 11 → ⊥
-    go true e = let z : ◌≡◌ {A = ℕ} 0 1 = cc in omega arith
-    go false e = read_eleven l cc
+    go : (found : Result Unit Refusal) → read_cause l ≡ found
+        → record_means (answer_of found (record_at l)) (reading_of l).transaction ≡ refusal NumberUnknown → ⊥
+    go (Ok passed) z e = let z : ◌≡◌ {A = ℕ} 0 1 = cc in omega arith
+    go (Err cause) z e = read_eleven l cc
 
 -- so that a number returned is it only where an answer is
-told_eleven : (asks : List Ask) (answers : List Answer) → Memᴰ 11 (codes_of (meant_by asks) answers) → Memᴰ (Refused 11) answers
+told_eleven : (asks : List Ask) (answers : List Answer) → Memᴰ 11 (codes_of (meant_by asks) answers) → Memᴰ (Err NumberUnknown) answers
 told_eleven [] answers m = elim m [ ]
 told_eleven (ask ∷ asks) answers m = go (means ask) refl answers (told_eleven asks) m
   where
     go : (meant : Meant) → means ask ≡ meant → (answers : List Answer)
-        → ((l : List Answer) → Memᴰ 11 (codes_of (meant_by asks) l) → Memᴰ (Refused 11) l) → Memᴰ 11 (codes_of (meant ∷ meant_by asks) answers)
-        → Memᴰ (Refused 11) answers
-    go (refusal number) z answers rest (mathlib.Core.List.Memᴰ.head e) = absurd (meant_eleven ask (z ∙ ap refusal (sym e)))
-    go (refusal number) z answers rest (mathlib.Core.List.Memᴰ.tail m) = rest answers m
+        → ((l : List Answer) → Memᴰ 11 (codes_of (meant_by asks) l) → Memᴰ (Err NumberUnknown) l) → Memᴰ 11 (codes_of (meant ∷ meant_by asks) answers)
+        → Memᴰ (Err NumberUnknown) answers
+    go (refusal cause) z answers rest (mathlib.Core.List.Memᴰ.head e) = absurd (meant_eleven ask (z ∙ ap refusal (sym (of_eleven cause (sym e)))))
+    go (refusal cause) z answers rest (mathlib.Core.List.Memᴰ.tail m) = rest answers m
     go (asked call) z [] rest m = elim m [ ]
     go (asked call) z (answer ∷ answers) rest (mathlib.Core.List.Memᴰ.head e) = mathlib.Core.List.Memᴰ.head (code_eleven answer (sym e))
     go (asked call) z (answer ∷ answers) rest (mathlib.Core.List.Memᴰ.tail m) = mathlib.Core.List.Memᴰ.tail (rest answers m)
@@ -278,8 +319,8 @@ told_eleven (ask ∷ asks) answers m = go (means ask) refl answers (told_eleven 
 pub planner_never_eleven : {c₀ c : Cluster} {asks : List Ask} {codes : List ℕ} → Starts c₀ → Run c₀ asks codes c → Memᴰ 11 codes → ⊥
 planner_never_eleven {asks = asks} starts run m =
     let p = planner_demand_3 starts run in
-    let among : Memᴰ (Refused 11) p.replies = told_eleven asks p.replies (subst (λ (l : List ℕ). Memᴰ 11 l) p.told m) in
-    never_eleven house (calls_of (meant_by asks)) (subst (λ (l : List Answer). Memᴰ (Refused 11) l) p.demand.answered among)
+    let among : Memᴰ (Err NumberUnknown) p.replies = told_eleven asks p.replies (subst (λ (l : List ℕ). Memᴰ 11 l) p.told m) in
+    never_eleven house (calls_of (meant_by asks)) (subst (λ (l : List Answer). Memᴰ (Err NumberUnknown) l) p.demand.answered among)
 
 -- ---- The findings are true (document 02, 2)
 
@@ -301,21 +342,24 @@ pub record TrueWords (calls : List Call) (p number code : ℕ) (after : List ℕ
 told_true : (calls : List Call) (p number : ℕ) {before : List ℕ} {code : ℕ} {after : List ℕ}
     → TellsFindings (report_at house (play house calls).shards p number) before code after → 700 ≤ code → TrueWords calls p number code after
 unfolding told_code findings_after
-told_true calls p number {before} {code} {after} tells h = go r.answer refl
+told_true calls p number {before} {code} {after} tells h = go r refl
   where
     r : Report
     r = report_at house (play house calls).shards p number
 
-    go : (answer : Told) → r.answer ≡ answer → TrueWords calls p number code after
-    go (told.Refused cause) e =
-        let ledger = ledger_at house (play house calls).shards p in
-        let first : cause ≡ first_of (report_refusals p ledger p number) = sym (ap told_number e) ∙ report-number p ledger p number in
-        absurd (omega (arith, h, tells.answered ∙ ap told_code e, first, report-small p ledger p number))
-    go (told.Findings count) e = record {
+    go : (answer : Report) → r ≡ answer → TrueWords calls p number code after
+    go (Err cause) e =
+        let is : code ≡ refusal_number cause = tells.answered ∙ ap told_code e in
+        let small : refusal_number cause ≤ 18
+        = subst (λ (n : ℕ). n ≤ 18) (ap told_number e) (report-small p (ledger_at house (play house calls).shards p) p number) in
+        absurd (omega (arith, h, is, small))
+    go (Ok found) e = record {
       found = reported r;
-      true_found = true_findings house calls p number count e;
-      many = tells.answered ∙ ap told_code e ∙ ap (λ (n : ℕ). 700 + n) (sym (reported-count house calls p number count e));
-      words = tells.filled ∙ ap (findings_after r before) e;
+      true_found = true_findings house calls p number found e;
+      many = tells.answered ∙ ap told_code e ∙ ap (λ (n : ℕ). 700 + n) (sym (reported-count house calls p number found e));
+      words =
+          tells.filled ∙ ap (λ (x : Report). findings_after x before) e
+          ∙ ap (λ (x : Report). findings_words 4 (reported x)) (sym e);
     }
 
 -- THEOREM: whatever shard and number are asked for after every such run, where it is not refused the words are those of findings, each the true

@@ -1,4 +1,3 @@
-pub mod Joins
 pub mod Promises
 pub mod Taken
 pub mod Tells

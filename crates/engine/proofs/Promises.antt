@@ -4,34 +4,29 @@ use mathlib.Core.Path.{◌≡◌, refl, sym, ap, ◌∙◌}
 use mathlib.Core.List.{List}
 use native.Mathlib.Omega.{arith}
 use lib.ListN.{length, length-drop}
+use Rattle.std.proofs.Common.{Result, Ok, Err}
+use Rattle.transaction.specs.declared.refusal.Refusal.{Refusal}
+use Rattle.transaction.specs.Refusals.{refusal_number, number_of}
 use Rattle.reader.specs.declared.Record.{Record}
-use Rattle.reader.specs.declared.Answer.TheVariants.{Read, Refused}
 use Rattle.reader.specs.declared.Reading.{Reading}
-use Rattle.reader.specs.Reading.{number_of, taken_of, rest_of, Reads}
+use Rattle.reader.specs.Reading.{taken_of, rest_of, Reads}
 use Rattle.reader.proofs.Cases.{taken-within}
-use Rattle.writer.specs.declared.Written.{Written}
 use Rattle.writer.specs.Writing.{Writes}
-use Rattle.model.specs.declared.Token.{Token}
-use Rattle.model.specs.declared.Known.{Known}
-use Rattle.model.specs.declared.Answer.{Answer}
+use Rattle.model.specs.Answers.{Answer}
 use Rattle.model.specs.Shard.{Call}
-use Rattle.shard.specs.declared.queries.HeldToken.{HeldToken}
-use Rattle.shard.specs.declared.queries.KnownOutcome.{KnownOutcome}
 use Rattle.shard.specs.View as shard
-use Rattle.shard.specs.Queries.{token_at, known_at, outcome_at}
 use Rattle.cluster.specs.View as cluster
 use Rattle.calls.specs.Calls.{call_of}
 use Rattle.engine.specs.Codes.{answer_code}
 use Rattle.engine.specs.Fields.{reading_words, Fills}
 use Rattle.engine.specs.Writing.{code_of, Encodes}
-use Rattle.engine.specs.Queries.{held_code, token_words, known_code, known_words, TellsToken, TellsKnown}
 use Rattle.engine.specs.Calls.{cluster_called, shard_called, applied_as, applied, ClusterDoes, ShardDoes}
 
 pub fills : {bytes : List ℕ} {r : Reading} {number : ℕ} {after : List ℕ} → Reads bytes r → number ≡ number_of r.answer
     → after ≡ reading_words r → Fills bytes number after
 fills reads en ea = record { answered = en ∙ reads.number; filled = ea ∙ ap reading_words reads.whole }
 
-pub encodes : {cause : ℕ} {bytes before : List ℕ} {answer : Written} {code : ℕ} {after : List ℕ}
+pub encodes : {cause : Result Unit Refusal} {bytes before : List ℕ} {answer : Result ℕ Refusal} {code : ℕ} {after : List ℕ}
     → Writes cause bytes before answer after → code ≡ code_of answer → Encodes cause bytes before code after
 encodes writes e = record { answered = e ∙ ap code_of writes.answered; lent = writes.lent }
 
@@ -39,19 +34,6 @@ encodes writes e = record { answered = e ∙ ap code_of writes.answered; lent = 
 pub rest-length : (l : List ℕ) {rest : List ℕ} → rest ≡ rest_of l → taken_of l + length rest ≡ length l
 unfolding rest_of
 rest-length l e = omega (arith, ap length e, length-drop (taken_of l) l, taken-within l)
-
--- ---- Queries
-
-pub tells_token : {tokens : List Token} {place : ℕ} {held : HeldToken} {answer : ℕ} {after : List ℕ}
-    → held ≡ token_at tokens place
-    → answer ≡ held_code held → after ≡ token_words held → TellsToken tokens place answer after
-tells_token e ea ef = record { answered = ea ∙ ap held_code e; filled = ef ∙ ap token_words e }
-
-pub tells_known : {known : List Known} {place : ℕ} {found : Known} {outcome : KnownOutcome} {answer : ℕ} {after : List ℕ}
-    → found ≡ known_at known place → outcome ≡ outcome_at known place → answer ≡ known_code outcome
-    → after ≡ known_words found
-    → TellsKnown known place answer after
-tells_known e eo ea ef = record { answered = ea ∙ ap known_code eo; filled = ef ∙ ap known_words e }
 
 -- ---- Calls
 
@@ -79,13 +61,13 @@ module _ (c : List (List ℕ)) {bytes : List ℕ} {r : Reading} (reads : Reads b
   unfolding applied
   applied-is = sym (ap (λ (x : Reading). applied_as c x.answer x.transaction) reads.whole)
 
-  pub does_read : {fields : Record} {code : ℕ} {after : List (List ℕ)} → r.answer ≡ Read fields
+  pub does_read : {fields : Record} {code : ℕ} {after : List (List ℕ)} → r.answer ≡ Ok fields
       → ClusterDoes (cluster_called c (call_of fields r.transaction)) code after
       → ClusterDoes (applied c bytes) code after
   unfolding applied_as
   does_read e does = rw (applied-is, e) does
 
-  pub does_refused : cluster.Sound c → {number code : ℕ} → r.answer ≡ Refused number → code ≡ number
+  pub does_refused : cluster.Sound c → {cause : Refusal} {code : ℕ} → r.answer ≡ Err cause → code ≡ refusal_number cause
       → ClusterDoes (applied c bytes) code c
   unfolding applied_as answer_code
   does_refused sound e coded = rw (applied-is, e) (record { answered = coded; ledgers = refl; sound = sound })

@@ -1,11 +1,10 @@
 -- What the exported calls on a cluster and on a lone shard promise, by the steps of the reference model.
-use Rattle.std.specs.Prelude.{ℕ, ◌≡◌, List}
+use Rattle.std.specs.Prelude.{ℕ, ◌≡◌, Result, Ok, Err, List}
 use Rattle.transaction.specs.declared.Transaction.{Transaction}
-use Rattle.reader.specs.declared.Answer as reader
-use Rattle.reader.specs.declared.Answer.TheVariants as reader-answer
+use Rattle.transaction.specs.declared.refusal.Refusal.{Refusal}
+use Rattle.reader.specs.declared.Record.{Record}
 use Rattle.reader.specs.Reading.{reading_of}
-use Rattle.model.specs.declared.Answer.{Answer}
-use Rattle.model.specs.declared.Answer.TheVariants.{Refused}
+use Rattle.model.specs.Answers.{Answer}
 use Rattle.model.specs.Steps.{Ledger, house}
 use Rattle.model.specs.Shard.{Call, shard_step}
 use Rattle.model.specs.Cluster.{cluster_step}
@@ -24,9 +23,9 @@ abbrev pub shard_called : List ℕ → Call → Ledger × Answer
 shard_called s call = shard_step house (shard.number s) (shard.view s) call
 
 -- what was read: the call of the record; or refused with 1 to 5, and no ledger is changed
-unfoldable pub applied_as : List (List ℕ) → reader.Answer → Transaction → List Ledger × Answer
-applied_as c (reader-answer.Read fields) t = cluster_called c (call_of fields t)
-applied_as c (reader-answer.Refused number) t = (cluster.view c, Refused number)
+unfoldable pub applied_as : List (List ℕ) → Result Record Refusal → Transaction → List Ledger × Answer
+applied_as c (Ok fields) t = cluster_called c (call_of fields t)
+applied_as c (Err refusal) t = (cluster.view c, Err refusal)
 
 -- the record at the front of the bytes, whatever they are
 unfoldable pub applied : List (List ℕ) → List ℕ → List Ledger × Answer

@@ -1,10 +1,10 @@
 -- What was read of a record, as 42 words: kind, receiver, sender, verdict, index, owner, amount, and the transaction's
 -- 35.
-use Rattle.std.specs.Prelude.{ℕ, ◌≡◌, List, [], ◌∷◌, ◌++◌, replicate}
+use Rattle.std.specs.Prelude.{ℕ, ◌≡◌, Result, Ok, Err, List, [], ◌∷◌, ◌++◌, replicate}
+use Rattle.transaction.specs.declared.refusal.Refusal.{Refusal}
+use Rattle.transaction.specs.Refusals.{number_of}
 use Rattle.reader.specs.declared.Record.{Record}
 use Rattle.reader.specs.declared.Record.TheVariants.{Register, Vote, Mint, Turn}
-use Rattle.reader.specs.declared.Answer.{Answer}
-use Rattle.reader.specs.declared.Answer.TheVariants.{Read, Refused}
 use Rattle.reader.specs.declared.Reading.{Reading}
 use Rattle.reader.specs.Reading.{read_cause, reading_of}
 use Rattle.words.specs.Words.{words_of}
@@ -17,9 +17,9 @@ record_words (Mint receiver index owner amount) = 3 ∷ receiver ∷ 0 ∷ 0 ∷
 record_words (Turn receiver) = 4 ∷ receiver ∷ 0 ∷ 0 ∷ 0 ∷ 0 ∷ 0 ∷ []
 
 -- seven zeros where the record was refused
-unfoldable pub answer_words : Answer → List ℕ
-answer_words (Read fields) = record_words fields
-answer_words (Refused number) = replicate 7 0
+unfoldable pub answer_words : Result Record Refusal → List ℕ
+answer_words (Ok fields) = record_words fields
+answer_words (Err refusal) = replicate 7 0
 
 -- all 42; the transaction beside a refusal, and beside the record of a genesis token (opening) or of a turn, is blank
 unfoldable pub reading_words : Reading → List ℕ
@@ -27,5 +27,5 @@ reading_words r = answer_words r.answer ++ words_of r.transaction
 
 -- what the exported reader promises: the refusal's number, 0 for none, and every word of the lent fields
 pub record Fills (bytes : List ℕ) (answer : ℕ) (after : List ℕ) : Type 0 where
-  pub answered : answer ≡ read_cause bytes
+  pub answered : answer ≡ number_of (read_cause bytes)
   pub filled : after ≡ reading_words (reading_of bytes)

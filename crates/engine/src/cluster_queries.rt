@@ -10,9 +10,8 @@ ghost use Rattle.model.specs.Totals.{held_in, total_held};
 ghost use Rattle.words.specs.Words.{yes, byte_of};
 ghost use Rattle.engine.specs.Queries.{known_code, TellsToken, TellsKnown, TellsFindings};
 
-use crate::codes::flag;
 use crate::findings::tell;
-use crate::ledgers::{held_code, known_code, known_words, token_words};
+use crate::ledgers::{known_code, tell_known, tell_token};
 use cluster::{Cluster, queries};
 use words::narrow;
 
@@ -37,9 +36,7 @@ pub extern "C" fn plankeeper_token_at(
     ensures { TellsToken
         (ledger_at house (view c.now) (byte_of shard)).tokens place result token.new }
 {
-    let held = queries::token_at(c, narrow(shard), place);
-    *token = token_words(held);
-    held_code(held)
+    tell_token(queries::token_at(c, narrow(shard), place), token)
 }
 
 // How many transactions it knows.
@@ -65,8 +62,11 @@ pub extern "C" fn plankeeper_known_at(
         (ledger_at house (view c.now) (byte_of shard)).known place result known.new }
 {
     let at = narrow(shard);
-    *known = known_words(queries::known_at(c, at, place));
-    known_code(queries::outcome_at(c, at, place))
+    tell_known(
+        queries::known_at(c, at, place),
+        queries::outcome_at(c, at, place),
+        known,
+    )
 }
 
 // The outcome there of the transaction that it knows by that number; 3 for none.
@@ -92,8 +92,7 @@ pub extern "C" fn plankeeper_findings(
     ensures { TellsFindings (report_at house (view c.now) (byte_of shard) number)
         findings.old result findings.new }
 {
-    let report = queries::findings_of(c, narrow(shard), number);
-    tell(report, findings)
+    tell(queries::findings_of(c, narrow(shard), number), findings)
 }
 
 // 1 if it has turned, 0 if not.
@@ -102,7 +101,7 @@ pub extern "C" fn plankeeper_is_turned(c: &Cluster, shard: u32) -> u32
     requires { Sound c.now }
     ensures { result ≡ yes (ledger_at house (view c.now) (byte_of shard)).turned }
 {
-    flag(queries::is_turned(c, narrow(shard)))
+    u32::from(queries::is_turned(c, narrow(shard)))
 }
 
 // The sum of the amounts that it holds (document 01: the portions held in a pantry).

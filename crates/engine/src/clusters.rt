@@ -6,12 +6,11 @@ ghost use Rattle.cluster.specs.View.{Sound, Fresh};
 ghost use Rattle.words.specs.Words.{byte_of, transaction_from};
 ghost use Rattle.engine.specs.Calls.{cluster_called, applied, ClusterDoes};
 
-use crate::codes::answer_code;
+use crate::codes::{answer_code, refusal_number};
 use calls::call;
 use cluster::Cluster;
 use layout::SHARD_WORDS;
-use reader::Answer;
-use words::{narrow, transaction_from, wide};
+use words::{narrow, transaction_from};
 
 // How many words a cluster has.
 #[unsafe(no_mangle)]
@@ -39,8 +38,8 @@ pub extern "C" fn plankeeper_apply(c: &mut Cluster, bytes: &[u8]) -> u32
     let answer = reading.answer;
     let t = reading.transaction;
     match answer {
-        Answer::Read(fields) => answer_code(call(c, fields, t)),
-        Answer::Refused(number) => wide(number),
+        Ok(fields) => answer_code(call(c, fields, t)),
+        Err(refusal) => refusal_number(refusal),
     }
 }
 

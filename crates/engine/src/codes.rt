@@ -1,18 +1,19 @@
 // An answer as one number.
 ghost use Rattle.std.specs.Prelude.{◌≡◌, ◌≤◌};
-ghost use Rattle.words.specs.Words.{yes};
+ghost use Rattle.transaction.specs.Refusals.{refusal_number};
 ghost use Rattle.engine.specs.Codes.{outcome_code, voted_code, answer_code};
 
-use model::{Answer, Outcome};
-use words::wide;
+use model::{Answer, Done, Outcome};
+use transaction::refusal::Refusal;
 
-// 1 for yes, 0 for no.
-pub(crate) fn flag(b: bool) -> u32
-    ensures { result ≡ yes b }
+// A refusal's number, as a word.
+pub(crate) fn refusal_number(refusal: Refusal) -> u32
+    ensures { result ≡ refusal_number refusal }
 {
-    if b { 1 } else { 0 }
+    u32::from(u8::from(refusal))
 }
 
+#[tactic(auto, unfolding(crate::specs::Codes::outcome_code))]
 pub(crate) fn outcome_code(o: Outcome) -> u32
     ensures { (result ≡ outcome_code o) × (result ≤ 2) }
 {
@@ -26,20 +27,20 @@ pub(crate) fn outcome_code(o: Outcome) -> u32
 fn voted_code(verdict: bool, o: Outcome) -> u32
     ensures { (result ≡ voted_code verdict o) × (result ≤ 12) }
 {
-    let n = outcome_code(o);
-    if verdict { 10 + n } else { n }
+    10 * u32::from(verdict) + outcome_code(o)
 }
 
+#[tactic(auto, unfolding(crate::specs::Codes::answer_code))]
 pub(crate) fn answer_code(answer: Answer) -> u32
     ensures { result ≡ answer_code answer }
 {
     match answer {
-        Answer::Refused(number) => wide(number),
-        Answer::Minted => 100,
-        Answer::Registered(verdict, o) => 200 + voted_code(verdict, o),
-        Answer::Heard(o) => 300 + outcome_code(o),
-        Answer::Again(o) => 400 + outcome_code(o),
-        Answer::Turned => 500,
-        Answer::Brought(verdict, o) => 600 + voted_code(verdict, o),
+        Err(refusal) => refusal_number(refusal),
+        Ok(Done::Minted) => 100,
+        Ok(Done::Registered(verdict, o)) => 200 + voted_code(verdict, o),
+        Ok(Done::Heard(o)) => 300 + outcome_code(o),
+        Ok(Done::Again(o)) => 400 + outcome_code(o),
+        Ok(Done::Turned) => 500,
+        Ok(Done::Brought(verdict, o)) => 600 + voted_code(verdict, o),
     }
 }

@@ -1,67 +1,50 @@
 // What was found about the inputs of a known transaction (document 02, 2), as eight words: for each finding its number and
 // that of the pledging transaction.
-ghost use Rattle.std.specs.Prelude.{◌≡◌, cond, map, take};
+ghost use Rattle.std.specs.Prelude.{◌≡◌, cond, ◌&&◌, ltb, [], ◌∷◌, slice_index_or, take};
 ghost use Rattle.model.specs.Answers.{finding_number, pledging_number};
-ghost use Rattle.model.specs.Findings.{finding_of};
+ghost use Rattle.model.specs.declared.Finding.TheVariants.{Available};
 ghost use Rattle.engine.specs.Queries.{findings_words, TellsFindings};
 
+use crate::codes::refusal_number;
 use layout::findings::{finding_number, pledging_number};
-use model::{Finding, Found, Report, Told};
-use words::wide;
+use model::{Finding, Report};
 
 // The two words of a place, 0 where there is no finding.
-fn number_word(used: bool, found: Finding) -> u32
-    ensures { result ≡ cond used (finding_number found) 0 }
+fn pair_at(count: u8, found: &[Finding; 4], k: usize) -> [u32; 2]
+    ensures { result ≡ cond (ltb k 4 && ltb k count)
+        (finding_number (slice_index_or found.now k Available) ∷ pledging_number (slice_index_or found.now k Available) ∷ [])
+        (0 ∷ 0 ∷ []) }
 {
-    if used {
-        return finding_number(found);
+    match found.get(k) {
+        Some(&x) if k < usize::from(count) => [finding_number(x), pledging_number(x)],
+        _ => [0, 0],
     }
-    0
 }
 
-fn pledge_word(used: bool, found: Finding) -> u32
-    ensures { result ≡ cond used (pledging_number found) 0 }
+fn findings_words(count: u8, found: [Finding; 4]) -> [u32; 8]
+    ensures { result ≡ findings_words 4 (take count found) }
 {
-    if used {
-        return pledging_number(found);
-    }
-    0
-}
-
-fn findings_words(count: u8, found: [Found; 4]) -> [u32; 8]
-    ensures { result ≡ findings_words 4 (take count (map finding_of found)) }
-{
-    let first = found[0];
-    let second = found[1];
-    let third = found[2];
-    let fourth = found[3];
-    let a = first.finding;
-    let b = second.finding;
-    let c = third.finding;
-    let d = fourth.finding;
-    [
-        number_word(0 < count, a),
-        pledge_word(0 < count, a),
-        number_word(1 < count, b),
-        pledge_word(1 < count, b),
-        number_word(2 < count, c),
-        pledge_word(2 < count, c),
-        number_word(3 < count, d),
-        pledge_word(3 < count, d),
-    ]
+    // Stays: the four are written out, since the proof did not close for `array::from_fn`: of a closure that hands back an array nothing is known.
+    let pairs = [
+        pair_at(count, &found, 0),
+        pair_at(count, &found, 1),
+        pair_at(count, &found, 2),
+        pair_at(count, &found, 3),
+    ];
+    let mut words = [0; 8];
+    words.copy_from_slice(pairs.as_flattened());
+    words
 }
 
 // Into the lent words, which a refusal leaves as they were.
 pub(crate) fn tell(report: Report, words: &mut [u32; 8]) -> u32
     ensures { TellsFindings report words.old result words.new }
 {
-    let answer = report.answer;
-    match answer {
-        Told::Refused(number) => wide(number),
-        Told::Findings(count) => {
-            let found = report.findings;
-            *words = findings_words(count, found);
-            700 + wide(count)
+    match report {
+        Err(refusal) => refusal_number(refusal),
+        Ok(found) => {
+            *words = findings_words(found.count, found.list);
+            700 + u32::from(found.count)
         }
     }
 }

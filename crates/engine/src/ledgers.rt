@@ -3,62 +3,65 @@ ghost use Rattle.std.specs.Prelude.{◌≡◌, ◌++◌};
 ghost use Rattle.engine.specs.Queries.{held_code, token_words, known_code, known_words};
 
 use crate::codes::outcome_code;
-use model::Known;
-use shard::queries::{HeldToken, KnownOutcome};
-use words::{wide, words_of};
+use crate::fields::joined;
+use layout::verdicts::said_number;
+use model::{Known, Outcome, Token};
+use words::words_of;
 
 // 1 for a token that is held, 0 for none.
-pub(crate) fn held_code(token: HeldToken) -> u32
+#[tactic(auto, unfolding(crate::specs::Queries::held_code))]
+fn held_code(token: Option<Token>) -> u32
     ensures { result ≡ held_code token }
 {
-    match token {
-        HeldToken::Held(_) => 1,
-        HeldToken::NotHeld => 0,
-    }
+    u32::from(token.is_some())
 }
 
 // Creator, index, owner, amount and pledge; zeros for none.
-pub(crate) fn token_words(token: HeldToken) -> [u32; 5]
+#[tactic(auto, unfolding(crate::specs::Queries::token_words))]
+fn token_words(token: Option<Token>) -> [u32; 5]
     ensures { result ≡ token_words token }
 {
     match token {
-        HeldToken::Held(t) => [t.creator, wide(t.index), t.owner, t.amount, t.pledge],
-        HeldToken::NotHeld => [0; 5],
+        Some(t) => [t.creator, u32::from(t.index), t.owner, t.amount, t.pledge],
+        None => [0; 5],
     }
 }
 
 // The outcome's number, 3 where the transaction is not known.
-pub(crate) fn known_code(outcome: KnownOutcome) -> u32
+#[tactic(auto, unfolding(crate::specs::Queries::known_code))]
+pub(crate) fn known_code(outcome: Option<Outcome>) -> u32
     ensures { result ≡ known_code outcome }
 {
-    match outcome {
-        KnownOutcome::Known(o) => outcome_code(o),
-        KnownOutcome::Unknown => 3,
-    }
+    outcome.map_or(3, outcome_code)
 }
 
-// The transaction's words with the verdicts heard behind them.
-fn with_heard(words: [u32; 35], heard: [u8; 8]) -> [u32; 43]
-    ensures { result ≡ words ++ heard }
-{
-    let mut all = [0; 43];
-    let mut i = 0;
-    while i < 43 {
-        let at = i;
-        i += 1;
-        if at < 35 {
-            all[at] = words[at];
-        } else {
-            all[at] = wide(heard[at - 35]);
-        }
-    }
-    all
-}
-
-pub(crate) fn known_words(known: Known) -> [u32; 43]
+// The transaction's words with the verdicts heard behind them; zeros for none.
+#[tactic(auto, unfolding(crate::specs::Queries::known_words))]
+fn known_words(known: Option<Known>) -> [u32; 43]
     ensures { result ≡ known_words known }
 {
-    let t = known.transaction;
-    let heard = known.heard;
-    with_heard(words_of(t), heard)
+    match known {
+        Some(k) => joined(words_of(k.transaction), k.heard.map(said_number)),
+        None => [0; 43],
+    }
+}
+
+// What a query for the token at a place answers: the number, and the words into the lent ones.
+pub(crate) fn tell_token(held: Option<Token>, words: &mut [u32; 5]) -> u32
+    ensures { (result ≡ held_code held) × (words.new ≡ token_words held) }
+{
+    *words = token_words(held);
+    held_code(held)
+}
+
+// And what one for the known transaction at a place answers.
+pub(crate) fn tell_known(
+    known: Option<Known>,
+    outcome: Option<Outcome>,
+    words: &mut [u32; 43],
+) -> u32
+    ensures { (result ≡ known_code outcome) × (words.new ≡ known_words known) }
+{
+    *words = known_words(known);
+    known_code(outcome)
 }

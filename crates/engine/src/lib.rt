@@ -25,6 +25,7 @@
 //   300 + outcome                   a vote heard for the first time
 //   400 + outcome                   a vote that was heard before; nothing is changed
 //   500                             the shard is turned: what was pledged to transactions that it has aborted is free
+//   600 + 10 * verdict + outcome    a vote that brought its transaction, which is registered with it; the shard's own verdict as with 200
 // The outcome is what the receiving shard has decided on the transaction: 0 nothing yet, 1 commit, 2 abort.
 //
 // A query changes nothing but the words lent for its answer, and any shard and any place get one; specs/Queries.antt has the definitions:

@@ -7,20 +7,19 @@ ghost use Rattle.words.specs.Words.{byte_of, transaction_from};
 ghost use Rattle.engine.specs.Fields.{Fills};
 ghost use Rattle.engine.specs.Writing.{code_of, Encodes};
 
+use crate::codes::refusal_number;
 use crate::fields::{fields_of, number_of};
-use crate::taking::take_record;
-use words::{narrow, transaction_from, wide};
-use writer::Written;
+use crate::taking::{VOTE, take_record};
+use transaction::refusal::Refusal;
+use words::{narrow, transaction_from};
 
 // The record at the front of the bytes, of any kind, by way of what the reader hands back.
 fn read_any(bytes: &[u8], fields: &mut [u32; 42]) -> u32
     ensures { Fills bytes.now result fields.new }
 {
     let reading = reader::read(bytes);
-    let answer = reading.answer;
-    let words = fields_of(reading);
-    *fields = words;
-    number_of(answer)
+    *fields = fields_of(reading);
+    number_of(reading.answer)
 }
 
 // The record at the front of the bytes: 0 and its fields, or the refusal's number and zeros. Registrations and votes go
@@ -29,16 +28,12 @@ fn read_any(bytes: &[u8], fields: &mut [u32; 42]) -> u32
 pub extern "C" fn plankeeper_read(bytes: &[u8], fields: &mut [u32; 42]) -> u32
     ensures { Fills bytes.now result fields.new }
 {
-    if reader::head_cause(bytes) != 0 {
+    if reader::head_cause(bytes).is_err() || VOTE < bytes[0] {
         return read_any(bytes, fields);
     }
-    if 2 < bytes[0] {
-        return read_any(bytes, fields);
-    }
-    let number = take_record(bytes, fields);
-    if number != 0 {
+    if let Err(refusal) = take_record(bytes, fields) {
         *fields = [0; 42];
-        return wide(number);
+        return refusal_number(refusal);
     }
     0
 }
@@ -53,12 +48,13 @@ pub extern "C" fn plankeeper_taken(bytes: &[u8]) -> usize
 }
 
 // A writer's answer as one number: the bytes written, or 1000 times the refusal's number. No record is that long.
-fn code(answer: Written) -> u64
+#[tactic(auto, unfolding(crate::specs::Writing::code_of))]
+fn code(answer: Result<usize, Refusal>) -> u64
     ensures { result ≡ code_of answer }
 {
     match answer {
-        Written::Bytes(size) => size as u64,
-        Written::Refused(number) => (1000 * wide(number)) as u64,
+        Ok(size) => size as u64,
+        Err(refusal) => 1000 * u64::from(refusal_number(refusal)),
     }
 }
 

@@ -8,9 +8,8 @@ ghost use Rattle.shard.specs.Queries.{outcome_of_number};
 ghost use Rattle.words.specs.Words.{yes, byte_of};
 ghost use Rattle.engine.specs.Queries.{known_code, TellsToken, TellsKnown, TellsFindings};
 
-use crate::codes::flag;
 use crate::findings::tell;
-use crate::ledgers::{held_code, known_code, known_words, token_words};
+use crate::ledgers::{known_code, tell_known, tell_token};
 use layout::Words;
 use shard::{queries, reporting};
 use words::narrow;
@@ -30,9 +29,7 @@ pub extern "C" fn plankeeper_shard_token_at(s: &Words, place: usize, token: &mut
     requires { Sound s.now }
     ensures { TellsToken (view s.now).tokens place result token.new }
 {
-    let held = queries::token_at(s, place);
-    *token = token_words(held);
-    held_code(held)
+    tell_token(queries::token_at(s, place), token)
 }
 
 // How many transactions it knows.
@@ -51,8 +48,11 @@ pub extern "C" fn plankeeper_shard_known_at(s: &Words, place: usize, known: &mut
     requires { Sound s.now }
     ensures { TellsKnown (view s.now).known place result known.new }
 {
-    *known = known_words(queries::known_at(s, place));
-    known_code(queries::outcome_at(s, place))
+    tell_known(
+        queries::known_at(s, place),
+        queries::outcome_at(s, place),
+        known,
+    )
 }
 
 // The outcome here of the transaction that it knows by that number; 3 for none.
@@ -77,8 +77,7 @@ pub extern "C" fn plankeeper_shard_findings(
     ensures { TellsFindings (report (View.number s.now) (view s.now) (byte_of shard) number)
         findings.old result findings.new }
 {
-    let report = reporting::findings_of(s, narrow(shard), number);
-    tell(report, findings)
+    tell(reporting::findings_of(s, narrow(shard), number), findings)
 }
 
 // 1 if it has turned, 0 if not.
@@ -87,7 +86,7 @@ pub extern "C" fn plankeeper_shard_is_turned(s: &Words) -> u32
     requires { Sound s.now }
     ensures { result ≡ yes (view s.now).turned }
 {
-    flag(queries::is_turned(s))
+    u32::from(queries::is_turned(s))
 }
 
 // The sum of the amounts that it holds (document 01: of the portions).

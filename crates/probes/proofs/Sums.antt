@@ -82,8 +82,8 @@ pub record Left (l : List ℕ) (records sum at left : ℕ) : Type 0 where
   pub low : sum < 2 ^ 64
   pub whole : (sum + sum_of l (drop at l) left) % 2 ^ 64 ≡ sum_of l l records % 2 ^ 64
 
-pub start : (l : List ℕ) (records : ℕ) → Left l records 0 0 records
-start l records = record { place = omega arith; low = omega arith; whole = omega arith }
+pub start : (l : List ℕ) (records : ℕ) → Left l records 0 0 (records - 0)
+start l records = let e : records - 0 ≡ records = omega arith in rw e (record { place = omega arith; low = omega arith; whole = omega arith })
 
 one_more : (l p : List ℕ) (left : ℕ) → 0 < left
     → sum_of l p left ≡ worth_of (reading_of p).answer (reading_of p).transaction + sum_of l (next_bytes l p) (left - 1)
@@ -103,13 +103,15 @@ next-within place size h e = rw e (go (eqb place size))
     go true = omega arith
     go false = h
 
-pub turn : (l : List ℕ) (records sum at left : ℕ) {r : Reading} {worth more next : ℕ} → Left l records sum at left
-    → 0 < left
+pub turn : (l : List ℕ) (records sum at read : ℕ) {r : Reading} {worth more next : ℕ} → Left l records sum at (records - read)
+    → read < records
     → Reads (take (length l - at) (drop at l)) r → worth ≡ worth_of r.answer r.transaction
     → more ≡ (sum + worth) % 2 ^ 64
     → next ≡ cond (eqb (at + r.taken) (length l)) 0 (at + r.taken)
-    → Left l records more next (left - 1)
-turn l records sum at left {r} {worth} {more} {next} inv h reads ew em en =
+    → Left l records more next (records - (read + 1))
+turn l records sum at read {r} {worth} {more} {next} inv h reads ew em en =
+    let left = records - read in
+    let fewer : records - (read + 1) ≡ left - 1 = omega arith in
     let er : r ≡ reading_of (drop at l) = reads.whole ∙ ap reading_of (tail l at) in
     let et : r.taken ≡ taken_of (drop at l) = ap (λ (x : Reading). x.taken) er ∙ taken-of (drop at l) in
     let ev : worth ≡ worth_of (reading_of (drop at l)).answer (reading_of (drop at l)).transaction
@@ -117,14 +119,14 @@ turn l records sum at left {r} {worth} {more} {next} inv h reads ew em en =
     let eb : drop next l ≡ next_bytes l (drop at l)
     = ap (λ (n : ℕ). drop n l) (en ∙ ap (λ (n : ℕ). cond (eqb (at + n) (length l)) 0 (at + n)) et) ∙ next-bytes l at inv.place in
     let es : sum_of l (drop at l) left ≡ worth + sum_of l (drop next l) (left - 1)
-    = one_more l (drop at l) left h ∙ rw (← ev, ← eb) refl in
-    record {
+    = one_more l (drop at l) left (omega arith) ∙ rw (← ev, ← eb) refl in
+    rw fewer (record {
       place = next-within (at + r.taken) (length l) (within l at inv.place reads) en;
       low = omega arith;
       whole = omega (arith, es, inv.whole);
-    }
+    })
 
-pub done : (l : List ℕ) (records sum at left : ℕ) → Left l records sum at left → left ≤ 0
+pub done : (l : List ℕ) (records sum at read : ℕ) → Left l records sum at (records - read) → records ≤ read
     → sum ≡ sum_of l l records % 2 ^ 64
-done l records sum at left inv h =
-    omega (arith, inv.whole, inv.low, none_left l (drop at l) left h)
+done l records sum at read inv h =
+    omega (arith, inv.whole, inv.low, none_left l (drop at l) (records - read) (omega arith))

@@ -1,12 +1,12 @@
 -- The sum over many records that are read one behind the other: what a benchmark compares, so that the reading cannot
 -- be left out.
-use Rattle.std.specs.Prelude.{ℕ, zero, suc, ◌+◌, cond, List, length, ◌==◌, slice_index_or}
+use Rattle.std.specs.Prelude.{ℕ, zero, suc, ◌+◌, Result, Ok, Err, cond, List, length, ◌==◌, slice_index_or}
 use Rattle.transaction.specs.declared.Transaction.{Transaction}
+use Rattle.transaction.specs.declared.refusal.Refusal.{Refusal}
+use Rattle.transaction.specs.Refusals.{refusal_number}
 use Rattle.transaction.specs.Tokens.{zero_input, zero_output}
 use Rattle.reader.specs.declared.Record.{Record}
 use Rattle.reader.specs.declared.Record.TheVariants.{Register, Vote, Mint, Turn}
-use Rattle.reader.specs.declared.Answer.{Answer}
-use Rattle.reader.specs.declared.Answer.TheVariants.{Read, Refused}
 use Rattle.reader.specs.Reading.{reading_of, rest_of}
 
 -- of a vote's transaction: its number, the second output's owner and the second input's amount
@@ -21,9 +21,9 @@ record_worth (Mint receiver index owner amount) t = amount
 record_worth (Turn receiver) t = receiver
 
 -- what was read of a record, or a million and the refusal's number
-unfoldable pub worth_of : Answer → Transaction → ℕ
-worth_of (Read fields) t = record_worth fields t
-worth_of (Refused number) t = 1000000 + number
+unfoldable pub worth_of : Result Record Refusal → Transaction → ℕ
+worth_of (Ok fields) t = record_worth fields t
+worth_of (Err refusal) t = 1000000 + refusal_number refusal
 
 -- where the next record is read: behind this one, or at the front again where nothing is left
 unfoldable pub next_bytes : List ℕ → List ℕ → List ℕ

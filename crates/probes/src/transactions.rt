@@ -1,26 +1,24 @@
 // What the engine says of a transaction: the first fitting of the checks 3 to 5, who takes part, equality.
 ghost use Rattle.std.specs.Prelude.{◌≡◌};
 ghost use Rattle.transaction.specs.Tokens.{takes_part, same_transaction};
+ghost use Rattle.transaction.specs.Refusals.{number_of};
 ghost use Rattle.transaction.specs.Checks.{cause_of};
 ghost use Rattle.words.specs.Words.{yes, byte_of, transaction_from};
 
-use words::{narrow, transaction_from, wide};
-
-fn yes_or_no(answer: bool) -> u32
-    ensures { result ≡ yes answer }
-{
-    if answer { 1 } else { 0 }
-}
+use words::{narrow, transaction_from};
 
 // The first of 3, 4, 5 that fits, where a shard has so many genesis indices (document 01: opening positions); 0 for
 // none.
 #[unsafe(no_mangle)]
 pub extern "C" fn probe_cause(genesis: u32, transaction: &[u32; 35]) -> u32
-    ensures { result ≡ cause_of (byte_of genesis) (transaction_from transaction.now) }
+    ensures { result ≡ number_of (cause_of (byte_of genesis) (transaction_from transaction.now)) }
 {
     let limit = narrow(genesis);
     let t = transaction_from(transaction);
-    wide(transaction::checks::cause(limit, t))
+    match transaction::checks::cause(limit, t) {
+        Ok(()) => 0,
+        Err(refusal) => u32::from(u8::from(refusal)),
+    }
 }
 
 // 1 where the shard (document 01: the pantry) takes part in the transaction, 0 where it does not.
@@ -30,7 +28,7 @@ pub extern "C" fn probe_takes_part(shard: u32, transaction: &[u32; 35]) -> u32
 {
     let at = narrow(shard);
     let t = transaction_from(transaction);
-    yes_or_no(transaction::parts::takes_part(at, t))
+    u32::from(transaction::parts::takes_part(at, t))
 }
 
 // 1 where every field of the two agrees, 0 where one does not.
@@ -40,5 +38,5 @@ pub extern "C" fn probe_same(a: &[u32; 35], b: &[u32; 35]) -> u32
 {
     let s = transaction_from(a);
     let t = transaction_from(b);
-    yes_or_no(transaction::equality::same_transaction(s, t))
+    u32::from(transaction::equality::same_transaction(s, t))
 }

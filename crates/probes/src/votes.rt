@@ -2,28 +2,20 @@
 ghost use Rattle.std.specs.Prelude.{◌≡◌, ◌+◌, ◌%◌, ◌^◌, ◌<◌, ◌≤◌, if◌then◌else◌, nat_eq};
 ghost use Rattle.probes.specs.Votes.{transaction_worth, record_worth, worth_of, sum_of};
 
-use reader::{Answer, Record};
+use reader::Record;
 use transaction::Transaction;
-use words::wide;
-
-// A word with room for sums.
-fn long(x: u32) -> u64
-    ensures { (result ≡ x) × (result < 4294967296) }
-{
-    x as u64
-}
+use transaction::refusal::Refusal;
 
 // What a vote's transaction adds to the sum.
+#[tactic(auto, unfolding(crate::specs::Votes::transaction_worth))]
 fn transaction_worth(t: Transaction) -> u64
-    ensures { (result ≡ transaction_worth t) × (result < 12884901888) }
+    ensures value { result ≡ transaction_worth t }
+    ensures bound { result < 12884901888 }
 {
-    let x = t.inputs;
-    let y = t.outputs;
-    let input = x[1];
-    let output = y[1];
-    long(t.number) + long(output.owner) + long(input.amount)
+    u64::from(t.number) + u64::from(t.outputs[1].owner) + u64::from(t.inputs[1].amount)
 }
 
+#[tactic(auto, unfolding(crate::specs::Votes::record_worth))]
 fn record_worth(fields: Record, t: Transaction) -> u64
     ensures { result ≡ record_worth fields t }
 {
@@ -32,24 +24,25 @@ fn record_worth(fields: Record, t: Transaction) -> u64
             receiver,
             sender,
             verdict,
-        } => long(wide(receiver) + wide(sender) + wide(verdict)) + transaction_worth(t),
-        Record::Register { receiver } => long(wide(receiver)),
+        } => u64::from(receiver) + u64::from(sender) + u64::from(verdict) + transaction_worth(t),
+        Record::Register { receiver } => u64::from(receiver),
         Record::Mint {
             receiver: _,
             index: _,
             owner: _,
             amount,
-        } => long(amount),
-        Record::Turn { receiver } => long(wide(receiver)),
+        } => u64::from(amount),
+        Record::Turn { receiver } => u64::from(receiver),
     }
 }
 
-fn worth(answer: Answer, t: Transaction) -> u64
+#[tactic(auto, unfolding(crate::specs::Votes::worth_of))]
+fn worth(answer: Result<Record, Refusal>, t: Transaction) -> u64
     ensures { result ≡ worth_of answer t }
 {
     match answer {
-        Answer::Read(fields) => record_worth(fields, t),
-        Answer::Refused(number) => long(1000000 + wide(number)),
+        Ok(fields) => record_worth(fields, t),
+        Err(refusal) => 1000000 + u64::from(u8::from(refusal)),
     }
 }
 
@@ -67,16 +60,11 @@ pub extern "C" fn probe_read_votes(bytes: &[u8], records: usize) -> u64
     ensures { result ≡ sum_of bytes.now bytes.now records % 2 ^ 64 }
 {
     let mut sum: u64 = 0;
-    let mut at: usize = 0;
-    let mut left = records;
-    while 0 < left {
-        let part = &bytes[at..];
-        let reading = reader::read(part);
-        let answer = reading.answer;
-        let t = reading.transaction;
-        sum = std::num::wrapping_add_u64(sum, worth(answer, t));
+    let mut at = 0;
+    for _ in 0..records {
+        let reading = reader::read(&bytes[at..]);
+        sum = sum.wrapping_add(worth(reading.answer, reading.transaction));
         at = next_place(at, reading.taken, bytes.len());
-        left -= 1;
     }
     sum
 }

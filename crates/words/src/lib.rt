@@ -3,9 +3,10 @@
 // Internal, and a crate of its own only because both static libraries, `engine` and `probes`, are made of it.
 #![tactic(auto)]
 
-ghost use Rattle.std.specs.Prelude.{◌≡◌, ◌<◌};
-ghost use Rattle.words.specs.Words.{byte_of, input_from, output_from, transaction_from, words_of};
+ghost use Rattle.std.specs.Prelude.{◌≡◌, ℕ, ◌+◌, ◌≤◌, List, length, refl};
+ghost use Rattle.words.specs.Words.{byte_of, input_at, output_at, transaction_from, input_words, output_words, words_of};
 
+use std::array;
 use transaction::{Input, Output, TokenId, Transaction};
 
 pub const INPUTS: usize = 3; // where the inputs begin
@@ -21,122 +22,97 @@ pub const OUTPUT: usize = 3; // the words of an output
 pub fn narrow(w: u32) -> u8
     ensures { result ≡ byte_of w }
 {
-    if 255 < w { 255 } else { w as u8 }
+    u8::try_from(w).unwrap_or(255)
 }
 
-// A byte as a word.
-pub fn wide(x: u8) -> u32
-    ensures { (result ≡ x) × (result < 256) }
-{
-    x as u32
+// What a transaction has four of, an input or an output, as N words, both ways.
+pub trait Slot<const N: usize>: Copy {
+    ghost in_words: { Self → List ℕ };
+
+    ghost slot_at: { List ℕ → ℕ → Self };
+
+    fn to_words(self) -> [u32; N]
+        ensures { result ≡ in_words self };
+
+    // The slot whose words begin at that place.
+    fn from_words(words: &[u32; 35], at: usize) -> Self
+        requires { at + N ≤ 35 }
+        ensures { result ≡ slot_at words.now at };
+
+    ghost long: { (x : Self) → length (in_words x) ≡ N };
 }
 
-// The input in a slot, 0 to 3.
-fn input_from(words: &[u32; 35], k: usize) -> Input
-    requires { k < 4 }
-    ensures { result ≡ input_from words.now k }
-{
-    let at = INPUTS + k * INPUT;
-    Input {
-        token: TokenId {
-            shard: narrow(words[at]),
-            creator: words[at + 1],
-            index: narrow(words[at + 2]),
-        },
-        owner: words[at + 3],
-        amount: words[at + 4],
+impl Slot<5> for Input {
+    ghost in_words = { input_words };
+
+    ghost slot_at = { input_at };
+
+    ghost long = { λ _. refl };
+
+    fn to_words(self) -> [u32; 5] {
+        let token = self.token;
+        [
+            u32::from(token.shard),
+            token.creator,
+            u32::from(token.index),
+            self.owner,
+            self.amount,
+        ]
+    }
+
+    fn from_words(words: &[u32; 35], at: usize) -> Input {
+        Input {
+            token: TokenId {
+                shard: narrow(words[at]),
+                creator: words[at + 1],
+                index: narrow(words[at + 2]),
+            },
+            owner: words[at + 3],
+            amount: words[at + 4],
+        }
     }
 }
 
-// The output in a slot, 0 to 3.
-fn output_from(words: &[u32; 35], k: usize) -> Output
-    requires { k < 4 }
-    ensures { result ≡ output_from words.now k }
-{
-    let at = OUTPUTS + k * OUTPUT;
-    Output {
-        shard: narrow(words[at]),
-        owner: words[at + 1],
-        amount: words[at + 2],
+impl Slot<3> for Output {
+    ghost in_words = { output_words };
+
+    ghost slot_at = { output_at };
+
+    ghost long = { λ _. refl };
+
+    fn to_words(self) -> [u32; 3] {
+        [u32::from(self.shard), self.owner, self.amount]
+    }
+
+    fn from_words(words: &[u32; 35], at: usize) -> Output {
+        Output {
+            shard: narrow(words[at]),
+            owner: words[at + 1],
+            amount: words[at + 2],
+        }
     }
 }
 
 pub fn transaction_from(words: &[u32; 35]) -> Transaction
     ensures { result ≡ transaction_from words.now }
 {
-    let inputs = [
-        input_from(words, 0),
-        input_from(words, 1),
-        input_from(words, 2),
-        input_from(words, 3),
-    ];
-    let outputs = [
-        output_from(words, 0),
-        output_from(words, 1),
-        output_from(words, 2),
-        output_from(words, 3),
-    ];
     Transaction {
         number: words[0],
         input_count: narrow(words[1]),
         output_count: narrow(words[2]),
-        inputs: inputs,
-        outputs: outputs,
+        inputs: array::from_fn(|k| Input::from_words(words, INPUTS + k * INPUT)),
+        outputs: array::from_fn(|k| Output::from_words(words, OUTPUTS + k * OUTPUT)),
     }
 }
 
 pub fn words_of(t: Transaction) -> [u32; 35]
     ensures { result ≡ words_of t }
 {
-    let x = t.inputs;
-    let y = t.outputs;
-    let i0 = x[0];
-    let i1 = x[1];
-    let i2 = x[2];
-    let i3 = x[3];
-    let o0 = y[0];
-    let o1 = y[1];
-    let o2 = y[2];
-    let o3 = y[3];
-    let id0 = i0.token;
-    let id1 = i1.token;
-    let id2 = i2.token;
-    let id3 = i3.token;
-    [
-        t.number,
-        t.input_count as u32,
-        t.output_count as u32,
-        id0.shard as u32,
-        id0.creator,
-        id0.index as u32,
-        i0.owner,
-        i0.amount,
-        id1.shard as u32,
-        id1.creator,
-        id1.index as u32,
-        i1.owner,
-        i1.amount,
-        id2.shard as u32,
-        id2.creator,
-        id2.index as u32,
-        i2.owner,
-        i2.amount,
-        id3.shard as u32,
-        id3.creator,
-        id3.index as u32,
-        i3.owner,
-        i3.amount,
-        o0.shard as u32,
-        o0.owner,
-        o0.amount,
-        o1.shard as u32,
-        o1.owner,
-        o1.amount,
-        o2.shard as u32,
-        o2.owner,
-        o2.amount,
-        o3.shard as u32,
-        o3.owner,
-        o3.amount,
-    ]
+    let mut words = [0; 35];
+    words[0] = t.number;
+    words[1] = u32::from(t.input_count);
+    words[2] = u32::from(t.output_count);
+    words[INPUTS..OUTPUTS].copy_from_slice(t.inputs.map(Slot::to_words).as_flattened());
+    words[OUTPUTS..].copy_from_slice(t.outputs.map(Slot::to_words).as_flattened());
+    words
 }

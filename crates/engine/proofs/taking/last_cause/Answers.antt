@@ -1,26 +1,28 @@
 -- The slots read one by one are those in the bytes, so that what is found of them is what checks 4 and 5 say.
-use Rattle.std.proofs.Common.{ℕ, ◌+◌, ◌≡◌, Bool, List, [], ◌∷◌, take, refl, ap, ◌∙◌}
+use Rattle.std.proofs.Common.{ℕ, ◌+◌, ◌*◌, ◌≡◌, Bool, List, length, get_or, take, refl, ap, ◌∙◌, add-zero, rules}
 use Rattle.transaction.specs.declared.Input.{Input}
 use Rattle.transaction.specs.declared.Output.{Output}
 use Rattle.transaction.specs.Lists.{repeats, total}
+use Rattle.transaction.specs.Tokens.{zero_input, zero_output}
 use Rattle.transaction.specs.Checks.{same_name, input_amount, output_amount}
 use Rattle.reader.specs.Layout.{input_at, inputs_at, output_at, outputs_at}
+use Rattle.words.proofs.Fours.{by_four}
 use Rattle.engine.proofs.Taken.{last_4, last_5, last_0}
 use Rattle.engine.proofs.taking.last_cause.Goals as goal
 
+-- the four inputs read, and the four outputs
 module _ (l : List ℕ) (at : ℕ) where
-  -- the four inputs read, and the four outputs
-  ins : {p q r s : Input}
-      → p ≡ input_at l at → q ≡ input_at l (at + 14) → r ≡ input_at l (at + 28) → s ≡ input_at l (at + 42)
-      → p ∷ q ∷ r ∷ s ∷ [] ≡ inputs_at l at
+  ins : (x : List Input) → length x ≡ 4
+      → get_or x 0 zero_input ≡ input_at l (at + 0) → get_or x 1 zero_input ≡ input_at l (at + 14)
+      → get_or x 2 zero_input ≡ input_at l (at + 28) → get_or x 3 zero_input ≡ input_at l (at + 42) → x ≡ inputs_at l at
   unfolding inputs_at
-  ins ep eq er es = rw (ep, eq, er, es) refl
+  ins x long p q r s = by_four zero_input x (λ (k : ℕ). input_at l (at + k * 14)) long p q r s ∙ rw add-zero refl
 
-  outs : {p q r s : Output}
-      → p ≡ output_at l at → q ≡ output_at l (at + 9) → r ≡ output_at l (at + 18) → s ≡ output_at l (at + 27)
-      → p ∷ q ∷ r ∷ s ∷ [] ≡ outputs_at l at
+  outs : (y : List Output) → length y ≡ 4
+      → get_or y 0 zero_output ≡ output_at l (at + 0) → get_or y 1 zero_output ≡ output_at l (at + 9)
+      → get_or y 2 zero_output ≡ output_at l (at + 18) → get_or y 3 zero_output ≡ output_at l (at + 27) → y ≡ outputs_at l at
   unfolding outputs_at
-  outs ep eq er es = rw (ep, eq, er, es) refl
+  outs y long p q r s = by_four zero_output y (λ (k : ℕ). output_at l (at + k * 9)) long p q r s ∙ rw add-zero refl
 
 -- whether a token is named twice among so many of the inputs
 abbrev twice : ℕ → List Input → Bool
@@ -29,18 +31,18 @@ twice count x = repeats same_name (take count x)
 pub returns-then-named_twice : goal.returns-then-named_twice
 returns-then-named_twice c =
     let taken =
-    ins c.args.bytes.now c.args.inputs
-    c.input_at.ensures c.input_at-2.ensures c.input_at-3.ensures c.input_at-4.ensures in
+    ins c.args.bytes.now c.args.inputs c.from_fn-x.result c.from_fn-x.ensures.items.long
+    (search rules) (search rules) (search rules) (search rules) in
     last_4 (c.named_twice.ensures ∙ ap (twice c.args.count) taken) c.if-named_twice.true
 
 pub returns-then-input_total-output_total : goal.returns-then-input_total-output_total
 returns-then-input_total-output_total c =
     let taken =
-    ins c.args.bytes.now c.args.inputs
-    c.input_at.ensures c.input_at-2.ensures c.input_at-3.ensures c.input_at-4.ensures in
+    ins c.args.bytes.now c.args.inputs c.from_fn-x.result c.from_fn-x.ensures.items.long
+    (search rules) (search rules) (search rules) (search rules) in
     let made =
-    outs c.args.bytes.now c.args.outputs
-    c.output_at.ensures c.output_at-2.ensures c.output_at-3.ensures c.output_at-4.ensures in
+    outs c.args.bytes.now c.args.outputs c.from_fn-y.result c.from_fn-y.ensures.items.long
+    (search rules) (search rules) (search rules) (search rules) in
     last_5 (c.named_twice.ensures ∙ ap (twice c.args.count) taken) c.if-named_twice.false
     (c.input_total.ensures ∙ ap (total input_amount) taken) (c.output_total.ensures ∙ ap (total output_amount) made)
     c.if-input_total-output_total.true
@@ -48,11 +50,11 @@ returns-then-input_total-output_total c =
 pub returns : goal.returns
 returns c =
     let taken =
-    ins c.args.bytes.now c.args.inputs
-    c.input_at.ensures c.input_at-2.ensures c.input_at-3.ensures c.input_at-4.ensures in
+    ins c.args.bytes.now c.args.inputs c.from_fn-x.result c.from_fn-x.ensures.items.long
+    (search rules) (search rules) (search rules) (search rules) in
     let made =
-    outs c.args.bytes.now c.args.outputs
-    c.output_at.ensures c.output_at-2.ensures c.output_at-3.ensures c.output_at-4.ensures in
+    outs c.args.bytes.now c.args.outputs c.from_fn-y.result c.from_fn-y.ensures.items.long
+    (search rules) (search rules) (search rules) (search rules) in
     last_0 (c.named_twice.ensures ∙ ap (twice c.args.count) taken) c.if-named_twice.false
     (c.input_total.ensures ∙ ap (total input_amount) taken) (c.output_total.ensures ∙ ap (total output_amount) made)
     c.if-input_total-output_total.false

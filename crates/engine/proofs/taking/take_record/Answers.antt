@@ -1,15 +1,16 @@
 -- The front of a record and a transaction behind it are there; the front is checked, stored, and the transaction taken behind it.
-use Rattle.std.proofs.Common.{sym, arith}
+use Rattle.std.proofs.Common.{sym, ◌∙◌, arith}
 use Rattle.reader.specs.declared.Record.TheVariants.{Register, Vote}
 use Rattle.reader.specs.Layout.{byte_at}
 use Rattle.reader.proofs.Cases.{front_long, long_2, second-kind, record_1, record_2, transaction_1, transaction_2, front_fails}
-use Rattle.engine.proofs.Taken.{takes_record}
+use Rattle.engine.specs.Fields.{record_words}
+use Rattle.engine.proofs.Taken.{part-sets, length_front, takes_record}
 use Rattle.engine.proofs.taking.take_record.Goals as goal
 
 pub returns-then-not-front_fits : goal.returns-then-not-front_fits
 returns-then-not-front_fits c =
     let three = front_fails c.args.bytes.now c.requires.0 c.requires.1 c.front_fits.ensures c.if-not-front_fits.true in
-    record { answered = three; stored = λ none. absurd (omega (arith, none)) }
+    record { answered = sym three; stored = λ none. absurd cc }
 
 pub bounds-bytes-1 : goal.bounds-bytes-1
 bounds-bytes-1 c = omega (arith, front_long c.args.bytes.now c.requires.0 c.requires.1)
@@ -17,15 +18,17 @@ bounds-bytes-1 c = omega (arith, front_long c.args.bytes.now c.requires.0 c.requ
 pub take_transaction-requires : goal.take_transaction-requires
 take_transaction-requires c = omega (arith, front_long c.args.bytes.now c.requires.0 c.requires.1)
 
-pub returns-then-bytes-eq1 : goal.returns-then-bytes-eq1
-returns-then-bytes-eq1 c =
+pub returns-then-bytes-eq-REGISTER : goal.returns-then-bytes-eq-REGISTER
+returns-then-bytes-eq-REGISTER c =
     let l = c.args.bytes.now in
     let h = c.requires.0 in
-    let one = c.if-bytes-eq1.true in
+    let one = c.if-bytes-eq-REGISTER.true in
+    let front = part-sets c.args.fields.now 0 7 c.copy_from_slice.new.self (record_words (Register (byte_at l 1)))
+    (c.copy_from_slice.ensures.after ∙ c.record_words.ensures) (length_front (Register (byte_at l 1))) (omega (arith, c.told-fields)) in
     takes_record l h c.requires.1 c.front_fits.ensures c.if-not-front_fits.false
-    c.args.fields.now c.all_lent.ensures 2 (Register (byte_at l 1))
+    c.args.fields.now c.told-fields 2 (Register (byte_at l 1))
     (sym (transaction_1 l h one)) (sym (record_1 l h one))
-    c.put_register.ensures c.take_transaction.ensures
+    front c.take_transaction.ensures
 
 pub bounds-bytes-1-2 : goal.bounds-bytes-1-2
 bounds-bytes-1-2 c = omega (arith, front_long c.args.bytes.now c.requires.0 c.requires.1)
@@ -41,14 +44,17 @@ pub take_transaction-requires-2 : goal.take_transaction-requires-2
 take_transaction-requires-2 c =
     let l = c.args.bytes.now in
     let h = c.requires.0 in
-    omega (arith, long_2 l h (second-kind l h c.requires.1 c.if-bytes-eq1.false))
+    omega (arith, long_2 l h (second-kind l h c.requires.1 c.if-bytes-eq-REGISTER.false))
 
 pub returns : goal.returns
 returns c =
     let l = c.args.bytes.now in
     let h = c.requires.0 in
-    let two = second-kind l h c.requires.1 c.if-bytes-eq1.false in
+    let two = second-kind l h c.requires.1 c.if-bytes-eq-REGISTER.false in
+    let vote = Vote (byte_at l 1) (byte_at l 2) (byte_at l 3) in
+    let front = part-sets c.args.fields.now 0 7 c.copy_from_slice-2.new.self (record_words vote)
+    (c.copy_from_slice-2.ensures.after ∙ c.record_words-2.ensures) (length_front vote) (omega (arith, c.told-fields)) in
     takes_record l h c.requires.1 c.front_fits.ensures c.if-not-front_fits.false
-    c.args.fields.now c.all_lent.ensures 4 (Vote (byte_at l 1) (byte_at l 2) (byte_at l 3))
+    c.args.fields.now c.told-fields 4 (Vote (byte_at l 1) (byte_at l 2) (byte_at l 3))
     (sym (transaction_2 l h two)) (sym (record_2 l h two))
-    c.put_vote.ensures c.take_transaction-2.ensures
+    front c.take_transaction-2.ensures
