@@ -76,7 +76,7 @@ pub fn deliver_vote(
         verdict,
         transaction: t,
     };
-    shard::hear_formed(&mut c[usize::from(receiver)], vote)
+    shard::hear_formed(&mut c[usize::from(receiver)], &vote)
 }
 
 // A turn of the receiving shard.

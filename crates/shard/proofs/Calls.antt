@@ -89,7 +89,7 @@ use Rattle.shard.specs.declared.local.Own.{Own}
 use Rattle.shard.specs.Parts.{Leaves, Pledges, entry_for, entered_ledger, Entering, Entered, heard_ledger, FreshVote, FreshDone, TurnedOver}
 use Rattle.shard.proofs.Ledgers.{leaves-then, holds-leaves}
 use Rattle.shard.proofs.Once.{once-step}
-use Rattle.shard.proofs.Tables.{place-below, place-slot, place_is, entry-there, verdict_there, Table, Verdict}
+use Rattle.shard.proofs.Tables.{place-below, place_is, entry-there, verdict_there, Table, Verdict}
 
 -- what a call that is carried out answers
 abbrev answered : Done → Answer

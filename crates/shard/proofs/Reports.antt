@@ -1,5 +1,5 @@
 -- What is told of the findings about a known transaction, from the slot in which it stands.
-use Prim.Native.Nat.{ℕ, ◌<◌}
+use Prim.Native.Nat.{ℕ}
 use mathlib.Core.Path.{◌≡◌, refl, sym, ap, ◌∙◌}
 use mathlib.Core.List.{List}
 use lib.ListN.{length, get_or}
@@ -10,13 +10,12 @@ use Rattle.transaction.specs.Lists.{first_of}
 use Rattle.transaction.proofs.Tables.{first-stands, first-behind}
 use Rattle.model.specs.declared.Finding.{Finding}
 use Rattle.model.specs.declared.Findings.{Findings}
-use Rattle.model.specs.Answers.{Report}
 use Rattle.model.specs.Steps.{inputs_here, nothing_known}
 use Rattle.model.specs.Shard.{is_numbered}
 use Rattle.model.specs.Findings.{report_form, report_rest, report_refusals, told, report}
 use Rattle.model.proofs.Reported.{report-told, report-refused}
 use Rattle.loops.proofs.Positions.{Stands, Nowhere}
-use Rattle.layout.specs.Layout.{shard_of, slot_known}
+use Rattle.layout.specs.Layout.{slot_known}
 use Rattle.layout.proofs.Ledgers.{known-length, known-entry}
 use Rattle.shard.specs.View.{view, Sound}
 use Rattle.shard.specs.View as shard

@@ -11,7 +11,7 @@ use Rattle.std.specs.Prelude.{Result, Ok, Err, IsErrAnd}
 use Rattle.std.proofs.lemmas.Result.{err_from_is_err_and}
 use Rattle.transaction.specs.declared.Transaction.{Transaction}
 use Rattle.transaction.specs.declared.refusal.Refusal.{Refusal}
-use Rattle.transaction.specs.declared.refusal.Refusal.TheVariants.{OutOfRange, NumberUnknown, NumberTaken, KnownAlready}
+use Rattle.transaction.specs.declared.refusal.Refusal.TheVariants.{OutOfRange, NumberTaken, KnownAlready}
 use Rattle.transaction.specs.Lists.{any, first_of}
 use Rattle.transaction.proofs.Tables.{table_stands, table_behind}
 use Rattle.model.specs.declared.Known.{Known}

@@ -70,39 +70,38 @@ pub fn hear_vote(s: &mut Words, receiver: u8, sender: u8, verdict: u8, t: Transa
         verdict,
         transaction: t,
     };
-    hear_formed(s, vote)
+    hear_formed(s, &vote)
 }
 
 // A vote to this shard that has passed 3 to 6. Internal: a cluster, which asks for 16 behind them, calls it so that they are asked for once.
-pub fn hear_formed(s: &mut Words, vote: Vote) -> Answer
+pub fn hear_formed(s: &mut Words, vote: &Vote) -> Answer
     requires sound { Sound s.old }
-    requires formed { first_of (deliver_form house (number s.old) (number s.old) vote.sender vote.verdict vote.transaction) ≡ Ok tt }
-    ensures { Steps s.old (deliver (number s.old) vote.sender vote.verdict vote.transaction) result s.new }
+    requires formed { first_of (deliver_form house (number s.old) (number s.old) vote.now.sender vote.now.verdict vote.now.transaction) ≡ Ok tt }
+    ensures { Steps s.old (deliver (number s.old) vote.now.sender vote.now.verdict vote.now.transaction) result s.new }
 {
-    let t = vote.transaction;
-    match place_of_number(s, t.number) {
+    match place_of_number(s, vote.transaction.number) {
         Some(place) => hear(s, place, vote),
         None => bring(s, vote),
     }
 }
 
 // One on an unknown number.
-fn bring(s: &mut Words, vote: Vote) -> Answer
+fn bring(s: &mut Words, vote: &Vote) -> Answer
     requires sound { Sound s.old }
-    requires formed { first_of (deliver_form house (number s.old) (number s.old) vote.sender vote.verdict vote.transaction) ≡ Ok tt }
-    requires unknown { is_unknown vote.transaction (view s.old).known ≡ true }
-    ensures { Steps s.old (deliver (number s.old) vote.sender vote.verdict vote.transaction) result s.new }
+    requires formed { first_of (deliver_form house (number s.old) (number s.old) vote.now.sender vote.now.verdict vote.now.transaction) ≡ Ok tt }
+    requires unknown { is_unknown vote.now.transaction (view s.old).known ≡ true }
+    ensures { Steps s.old (deliver (number s.old) vote.now.sender vote.now.verdict vote.now.transaction) result s.new }
 {
     refusals::bring_rest(s, vote)?;
     Ok(steps::carry_brought(s, vote))
 }
 
 // One on a known number, which stands at the place.
-fn hear(s: &mut Words, place: usize, vote: Vote) -> Answer
+fn hear(s: &mut Words, place: usize, vote: &Vote) -> Answer
     requires sound { Sound s.old }
-    requires formed { first_of (deliver_form house (number s.old) (number s.old) vote.sender vote.verdict vote.transaction) ≡ Ok tt }
-    requires there { position (is_numbered vote.transaction.number) (view s.old).known ≡ Some place }
-    ensures { Steps s.old (deliver (number s.old) vote.sender vote.verdict vote.transaction) result s.new }
+    requires formed { first_of (deliver_form house (number s.old) (number s.old) vote.now.sender vote.now.verdict vote.now.transaction) ≡ Ok tt }
+    requires there { position (is_numbered vote.now.transaction.number) (view s.old).known ≡ Some place }
+    ensures { Steps s.old (deliver (number s.old) vote.now.sender vote.now.verdict vote.now.transaction) result s.new }
 {
     refusals::hear_rest(s, place, vote)?;
     Ok(steps::carry_vote(s, place, vote))
