@@ -48,16 +48,6 @@ freeing-more known k (t ∷ tokens) = λ i. token i ∷ freeing-more known k tok
 -- ---- The known transaction in a slot
 
 module _ (ws : List ℕ) (place : ℕ) where
-  -- what is freed by its outcome
-  abbrev Freed : Outcome → List ℕ → Type 0
-  Freed decided vs =
-      Changes (freeing (λ (t : Token). is_aborted decided && is_pledged_to (slot_known ws place).transaction.number t)) ws vs
-
-  pub aborted_frees : {decided : Outcome} {number : ℕ} → decided ≡ outcome_of (slot_known ws place) → decided ≡ Abort
-      → number ≡ (slot_known ws place).transaction.number → {vs : List ℕ} → Changes (freeing (is_pledged_to number)) ws vs
-      → Changes (freeing (is_bound_to (slot_known ws place))) ws vs
-  aborted_frees e a en {vs} p = subst (λ (o : Outcome). Freed o vs) (sym a ∙ e) (rw en at p)
-
   pub lives_frees : {decided : Outcome} → decided ≡ outcome_of (slot_known ws place) → is_aborted decided ≡ false → Room ws
       → Changes (freeing (is_bound_to (slot_known ws place))) ws ws
   lives_frees e n r =

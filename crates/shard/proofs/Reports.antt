@@ -20,14 +20,6 @@ use Rattle.layout.proofs.Ledgers.{known-length, known-entry}
 use Rattle.shard.specs.View.{view, Sound}
 use Rattle.shard.specs.View as shard
 
--- the parts that are read
-pub told-slot : (ws : List ℕ) (place : ℕ) {me count : ℕ} {found : List Finding} → me ≡ shard.number ws
-    → count ≡ length (inputs_here me (slot_known ws place).transaction) → found ≡ (slot_known ws place).findings
-    → record { count = count; list = found } ≡ told (shard.number ws) (slot_known ws place)
-told-slot ws place em ec ef =
-    let many = ec ∙ (λ i. length (inputs_here (em i) (slot_known ws place).transaction)) in
-    λ i. record { count = many i; list = ef i }
-
 -- the refusal of what was not found
 pub refusal-of : {A : Type 0} (o : Option A) {refusal other : Refusal} → Err refusal ≡ ok_or o other → refusal ≡ other
 refusal-of None e = cc
