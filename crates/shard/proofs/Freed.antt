@@ -1,6 +1,6 @@
 -- A turn: what comes free, one known transaction after the other, and the ledger that is left.
 use Prim.Native.Nat.{ℕ, ◌+◌, ◌≤◌, ◌<◌}
-use mathlib.Core.Path.{◌≡◌, refl, sym, ap, subst, ◌∙◌}
+use mathlib.Core.Path.{◌≡◌, refl, sym, ap, ◌∙◌}
 use mathlib.Core.Bool.{Bool, true, false, cond, ◌&&◌, ◌||◌, or-false}
 use mathlib.Core.List.{List, [], ◌∷◌, ◌++◌}
 use native.Mathlib.Omega.{arith}
@@ -10,7 +10,6 @@ use Rattle.transaction.proofs.Slots.{any_append}
 use Rattle.model.specs.declared.Token.{Token}
 use Rattle.model.specs.declared.Known.{Known}
 use Rattle.model.specs.declared.Outcome.{Outcome}
-use Rattle.model.specs.declared.Outcome.TheVariants.{Abort}
 use Rattle.model.specs.Steps.{Ledger, outcome_of, pledged_to, pledge_when, is_aborted, is_pledged_to, freeing, is_aborted_for, pledged_to_aborted, after_turn}
 use Rattle.model.proofs.Capacity.{freeing-length}
 use Rattle.model.proofs.Turned.{freeing-none}

@@ -2,15 +2,14 @@
 use Prim.Native.Nat.{ℕ}
 use mathlib.Core.Path.{◌≡◌, refl, sym, ap, ◌∙◌}
 use mathlib.Core.List.{List}
-use lib.ListN.{length, get_or}
+use lib.ListN.{get_or}
 use Rattle.std.specs.Prelude.{Bool, Ok, Err, Option, Some, None, ok_or}
 use Rattle.transaction.specs.declared.refusal.Refusal.{Refusal}
 use Rattle.transaction.specs.declared.refusal.Refusal.TheVariants.{NoSuchNumber}
 use Rattle.transaction.specs.Lists.{first_of}
 use Rattle.transaction.proofs.Tables.{first-stands, first-behind}
-use Rattle.model.specs.declared.Finding.{Finding}
 use Rattle.model.specs.declared.Findings.{Findings}
-use Rattle.model.specs.Steps.{inputs_here, nothing_known}
+use Rattle.model.specs.Steps.{nothing_known}
 use Rattle.model.specs.Shard.{is_numbered}
 use Rattle.model.specs.Findings.{report_form, report_rest, report_refusals, told, report}
 use Rattle.model.proofs.Reported.{report-told, report-refused}

@@ -1,15 +1,8 @@
 use Rattle.model.specs.Shard.{is_numbered}
 use Rattle.loops.proofs.Positions.{stands}
 use Rattle.shard.specs.View.{view}
-use Rattle.shard.proofs.Tables.{place-slot}
 use Rattle.shard.proofs.Calls.{fresh_ready, fresh-carried, again-carried}
 use Rattle.shard.proofs.steps.carry_vote.Goals as goal
-
--- The number stands in one of the slots.
-pub heard_at-requires : goal.heard_at-requires
-heard_at-requires c =
-    let t = c.args.vote.now.transaction in
-    place-slot c.requires.sound t (stands (is_numbered t.number) (view c.args.s.now).known c.args.place c.requires.there)
 
 -- The sender was not heard before.
 pub fresh_vote-requires : goal.fresh_vote-requires
@@ -28,11 +21,6 @@ returns-then-heard_at-eq0 c =
     c.if-heard_at-eq0.true c.fresh_vote.ensures
 
 -- It was heard before.
-pub outcome_at-requires : goal.outcome_at-requires
-outcome_at-requires c =
-    let t = c.args.vote.now.transaction in
-    place-slot c.requires.sound t (stands (is_numbered t.number) (view c.args.s.now).known c.args.place c.requires.there)
-
 pub returns-else-heard_at-eq0 : goal.returns-else-heard_at-eq0
 returns-else-heard_at-eq0 c =
     let vote = c.args.vote.now in
