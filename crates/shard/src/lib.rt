@@ -33,6 +33,9 @@ pub struct Vote {
     pub transaction: Transaction,
 }
 
+// Stays: each call asks for `Sound`. C lends the words as an array, and without unsafe there is no loan of a struct with an invariant over
+// lent words.
+
 // An empty shard of that number, whatever the words were.
 pub fn new(s: &mut Words, me: u8)
     ensures { Fresh me s.new }
@@ -41,6 +44,8 @@ pub fn new(s: &mut Words, me: u8)
 }
 
 // An opening: the shard holds a genesis token.
+// Stays: index, owner and amount go on one by one, as C hands them over; two functions behind this one take them, and a struct would be
+// taken apart at once.
 pub fn mint_token(s: &mut Words, receiver: u8, index: u8, owner: u32, amount: u32) -> Answer
     requires { Sound s.old }
     ensures { Steps s.old (mint receiver index owner amount) result s.new }
@@ -64,12 +69,12 @@ pub fn hear_vote(s: &mut Words, receiver: u8, sender: u8, verdict: u8, t: Transa
     requires { Sound s.old }
     ensures { Steps s.old (deliver receiver sender verdict t) result s.new }
 {
-    refusals::deliver_form(own_number(s), receiver, sender, verdict, t)?;
     let vote = Vote {
         sender,
         verdict,
         transaction: t,
     };
+    refusals::deliver_form(own_number(s), receiver, &vote)?;
     hear_formed(s, &vote)
 }
 

@@ -122,23 +122,17 @@ pub(crate) fn register_refusal(s: &Words, receiver: u8, t: Transaction) -> Resul
 }
 
 // 3 to 6 of a vote. Internal: public because a cluster asks for them before 16.
-pub fn deliver_form(
-    me: u8,
-    receiver: u8,
-    sender: u8,
-    verdict: u8,
-    t: Transaction,
-) -> Result<(), Refusal>
-    ensures { result ≡ first_of (deliver_form house me receiver sender verdict t) }
+pub fn deliver_form(me: u8, receiver: u8, vote: &Vote) -> Result<(), Refusal>
+    ensures { result ≡ first_of (deliver_form house me receiver vote.now.sender vote.now.verdict vote.now.transaction) }
 {
     if receiver != me {
         return Err(Refusal::OutOfRange);
     }
-    vote_cause(128, receiver, sender, verdict, t)?;
-    if !takes_part(receiver, t) {
+    vote_cause(128, receiver, vote.sender, vote.verdict, vote.transaction)?;
+    if !takes_part(receiver, vote.transaction) {
         return Err(Refusal::NotTakingPart);
     }
-    if !takes_part(sender, t) {
+    if !takes_part(vote.sender, vote.transaction) {
         return Err(Refusal::NotTakingPart);
     }
     Ok(())

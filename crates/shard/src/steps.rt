@@ -121,7 +121,8 @@ fn fresh_vote(s: &mut Words, place: usize, vote: &Vote) -> Outcome
 pub(crate) fn carry_vote(s: &mut Words, place: usize, vote: &Vote) -> Done
     requires sound { Sound s.old }
     requires there { position (is_numbered vote.now.transaction.number) (view s.old).known ≡ Some place }
-    requires passed { first_of (deliver_refusals house (number s.old) (view s.old) (number s.old) vote.now.sender vote.now.verdict vote.now.transaction) ≡ Ok tt }
+    requires passed { first_of (deliver_refusals house (number s.old) (view s.old) (number s.old)
+        vote.now.sender vote.now.verdict vote.now.transaction) ≡ Ok tt }
     ensures { Steps s.old (deliver (number s.old) vote.now.sender vote.now.verdict vote.now.transaction) (Ok result) s.new }
 {
     if heard_at(s, place, vote.sender) == 0 {
@@ -135,7 +136,8 @@ pub(crate) fn carry_vote(s: &mut Words, place: usize, vote: &Vote) -> Done
 pub(crate) fn carry_brought(s: &mut Words, vote: &Vote) -> Done
     requires sound { Sound s.old }
     requires unknown { is_unknown vote.now.transaction (view s.old).known ≡ true }
-    requires passed { first_of (deliver_refusals house (number s.old) (view s.old) (number s.old) vote.now.sender vote.now.verdict vote.now.transaction) ≡ Ok tt }
+    requires passed { first_of (deliver_refusals house (number s.old) (view s.old) (number s.old)
+        vote.now.sender vote.now.verdict vote.now.transaction) ≡ Ok tt }
     ensures { Steps s.old (deliver (number s.old) vote.now.sender vote.now.verdict vote.now.transaction) (Ok result) s.new }
 {
     let place = known_count(s);
