@@ -21,11 +21,6 @@ returns-in-None c =
     c.in-None.is c.fresh_vote.ensures
 
 -- It was heard before.
-pub outcome_at-requires : goal.outcome_at-requires
-outcome_at-requires c =
-    let t = c.args.vote.now.transaction in
-    place-slot c.requires.sound t (stands (is_numbered t.number) (view c.args.s.now).known c.args.place c.requires.there)
-
 pub returns-in-Some : goal.returns-in-Some
 returns-in-Some c =
     let vote = c.args.vote.now in
