@@ -123,6 +123,7 @@ pub fn list_records(
         used: 0,
         ends: false,
     };
+    // Stays: a while. It counts nothing; each record says how far it goes.
     while so_far.goes_on(bytes.len() - so_far.taken, wanted, out.len() - so_far.used) {
         let line = step(c, so_far.number, &bytes[so_far.taken..], out, so_far.used);
         so_far = Progress {
