@@ -42,13 +42,22 @@ fn destroy(s: &mut Words, inputs: &Inputs)
     }
 }
 
+// One token more, behind those that are held.
+pub fn push_token(s: &mut Words, token: Token)
+    requires { Left s.old 1 }
+    ensures { Changes (adding (token ∷ [])) s.old s.new }
+{
+    let n = held(s);
+    put_token(s, n, token);
+    set_held(s, n + 1);
+}
+
 // The token of an output, where it is at this shard.
 fn make_one(s: &mut Words, me: u8, number: u32, index: u8, y: Output)
     requires { Left s.old (length (made_from me number index y)) }
     ensures { Changes (adding (made_from me number index y)) s.old s.new }
 {
     if y.shard == me {
-        let n = held(s);
         let token = Token {
             creator: number,
             index,
@@ -56,8 +65,7 @@ fn make_one(s: &mut Words, me: u8, number: u32, index: u8, y: Output)
             amount: y.amount,
             pledge: 0,
         };
-        put_token(s, n, token);
-        set_held(s, n + 1);
+        push_token(s, token);
     }
 }
 
@@ -66,8 +74,7 @@ fn make(s: &mut Words, me: u8, t: Transaction)
     requires { Left s.old (length (made_here me t)) }
     ensures { Changes (adding (made_here me t)) s.old s.new }
 {
-    let n = usize::from(t.output_count).min(t.outputs.len());
-    for (i, y) in t.outputs[..n].iter().enumerate() {
+    for (i, y) in t.used_outputs().iter().enumerate() {
         make_one(s, me, t.number, i as u8, *y);
     }
 }

@@ -50,8 +50,7 @@ fn finding_of(s: &Words, x: Input) -> Finding
     if is_available(s, x) {
         return Finding::Available;
     }
-    let id = x.token;
-    match place_of_token(s, id.creator, id.index) {
+    match place_of_token(s, x.token.creator, x.token.index) {
         Some(place) => obstacle_of(x, token_at(s, place)),
         None => Finding::NotHeld,
     }
