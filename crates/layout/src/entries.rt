@@ -42,13 +42,10 @@ pub fn known_at(s: &Words, k: usize) -> Known
     requires { k < known_slots }
     ensures { result ≡ slot_known s.now k }
 {
-    let t = transaction_at(s, k);
-    let heard = read_all(s, TRANSACTIONS_PLACE + k * KNOWN_SIZE + HEARD_OFFSET);
-    let findings = findings_at(s, k);
     Known {
-        transaction: t,
-        heard,
-        findings,
+        transaction: transaction_at(s, k),
+        heard: read_all(s, TRANSACTIONS_PLACE + k * KNOWN_SIZE + HEARD_OFFSET),
+        findings: findings_at(s, k),
     }
 }
 
@@ -65,7 +62,7 @@ pub fn heard_at(s: &Words, k: usize, sender: u8) -> Option<bool>
     requires { k < known_slots }
     ensures { result ≡ get_or (slot_known s.now k).heard sender None }
 {
-    let at = sender as usize;
+    let at = usize::from(sender);
     if at < 8 {
         return said_from(byte(s[TRANSACTIONS_PLACE + k * KNOWN_SIZE + HEARD_OFFSET + at]));
     }

@@ -103,10 +103,9 @@ impl Kept for Input {
     }
 
     fn put(self, s: &mut Words, b: usize) {
-        let id = self.token;
-        s[b] = u32::from(id.shard);
-        s[b + 1] = id.creator;
-        s[b + 2] = u32::from(id.index);
+        s[b] = u32::from(self.token.shard);
+        s[b + 1] = self.token.creator;
+        s[b + 2] = u32::from(self.token.index);
         s[b + 3] = self.owner;
         s[b + 4] = self.amount;
     }

@@ -32,14 +32,6 @@ pub fn amount_at(s: &Words, k: usize) -> u32
     s[TOKENS_PLACE + k * TOKEN_SIZE + 3]
 }
 
-// Only its pledge, for what comes free.
-pub fn pledge_at(s: &Words, k: usize) -> u32
-    requires { k < token_slots }
-    ensures { result ≡ (slot_token s.now k).pledge }
-{
-    s[TOKENS_PLACE + k * TOKEN_SIZE + 4]
-}
-
 pub fn put_token(s: &mut Words, k: usize, t: Token)
     requires { k < token_slots }
     ensures { PutsToken s.old k t s.new }

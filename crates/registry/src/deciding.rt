@@ -26,14 +26,10 @@ fn by_vote(said: Option<bool>) -> Outcome
 fn both(a: Outcome, b: Outcome) -> Outcome
     ensures { result ≡ together a b }
 {
-    match a {
-        Outcome::Abort => Outcome::Abort,
-        Outcome::Commit => b,
-        Outcome::Wait => match b {
-            Outcome::Abort => Outcome::Abort,
-            Outcome::Commit => Outcome::Wait,
-            Outcome::Wait => Outcome::Wait,
-        },
+    match (a, b) {
+        (Outcome::Abort, _) | (_, Outcome::Abort) => Outcome::Abort,
+        (Outcome::Commit, Outcome::Commit) => Outcome::Commit,
+        _ => Outcome::Wait,
     }
 }
 

@@ -34,19 +34,14 @@ pub fn same_at(s: &Words, k: usize, t: Transaction) -> bool
     requires { k < known_slots }
     ensures { result ≡ is_for t (slot_known s.now k) }
 {
-    let stored = transaction_at(s, k);
-    same_transaction(stored, t)
+    same_transaction(transaction_at(s, k), t)
 }
 
 // The raw verdict, 1 for yes and 0 for no, is the one heard.
 pub fn says(heard: Option<bool>, verdict: u8) -> bool
     ensures { result ≡ says heard verdict }
 {
-    match heard {
-        None => false,
-        Some(true) => verdict == 1,
-        Some(false) => verdict == 0,
-    }
+    heard.is_some_and(|yes| verdict == u8::from(yes))
 }
 
 // The shard has given this vote on this transaction.

@@ -79,8 +79,7 @@ pub fn hear_formed(s: &mut Words, vote: Vote) -> Answer
     requires formed { first_of (deliver_form house (number s.old) (number s.old) vote.sender vote.verdict vote.transaction) ≡ Ok tt }
     ensures { Steps s.old (deliver (number s.old) vote.sender vote.verdict vote.transaction) result s.new }
 {
-    let t = vote.transaction;
-    match place_of_number(s, t.number) {
+    match place_of_number(s, vote.transaction.number) {
         Some(place) => hear(s, place, vote),
         None => bring(s, vote),
     }
