@@ -10,6 +10,7 @@ use model::Answer;
 use reader::Record;
 use transaction::Transaction;
 
+// Stays: `Sound c`, for the reason that the crate `shard` has for its own.
 pub fn call(c: &mut Cluster, fields: Record, t: Transaction) -> Answer
     requires { Sound c.old }
     ensures { Steps c.old (call_of fields t) result c.new }

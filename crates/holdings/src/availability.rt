@@ -15,6 +15,7 @@ use model::{Finding, Token};
 use transaction::{Input, Transaction};
 
 // The input names this token of its shard.
+// Stays: field by field, here and below. An input and a held token are two types, and neither has all that the other has.
 pub(crate) fn names_token(x: Input, token: Token) -> bool
     ensures { result ≡ names x token }
 {

@@ -16,6 +16,7 @@ use model::{Outcome, Token};
 use transaction::{Input, Output, Transaction};
 
 // What one input names goes; the others move together, so that a destroyed token's space is used again.
+// Stays: a loop of its own beside `pledge_where`. It moves tokens and counts them, the other stores a pledge in its place.
 fn destroy_named(s: &mut Words, x: Input)
     requires { Room s.old }
     ensures { Changes (destroying (x ∷ [])) s.old s.new }
@@ -33,6 +34,8 @@ fn destroy_named(s: &mut Words, x: Input)
 }
 
 // The tokens that the inputs name are destroyed.
+// Stays: the loop of `pledge_all` with another step. A call of one function that takes the step as a closure is no shorter than this
+// `for` with its one call.
 fn destroy(s: &mut Words, inputs: &Inputs)
     requires { Room s.old }
     ensures { Changes (destroying inputs.now) s.old s.new }
@@ -75,6 +78,7 @@ fn make(s: &mut Words, me: u8, t: Transaction)
     ensures { Changes (adding (made_here me t)) s.old s.new }
 {
     for (i, y) in t.used_outputs().iter().enumerate() {
+        // Stays: a cast, since there is no From from usize to u8.
         make_one(s, me, t.number, i as u8, *y);
     }
 }

@@ -57,6 +57,7 @@ fn finding_of(s: &Words, x: Input) -> Finding
 }
 
 // None, in four places.
+// Stays: `Available` where no input is, since `keeping` of the specification and the words for C have four findings.
 pub fn nothing_found() -> [Finding; 4]
     ensures { result ≡ keeping [] }
 {

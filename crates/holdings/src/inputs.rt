@@ -22,6 +22,7 @@ impl Model for Inputs {
 
 impl Inputs {
     // None.
+    // Stays: zeros in the slots that are not used. Nothing is allocated here, and no contract speaks of what stands there.
     pub(crate) fn new() -> Self
         ensures { result ≡ [] }
     {

@@ -4,6 +4,7 @@ ghost use Rattle.std.specs.Prelude.{◌≡◌, true, false, ◌≤◌, ◌<◌, 
 ghost use Rattle.layout.specs.Layout.{token_slots, known_slots, genesis_slots, shard_of};
 ghost use Rattle.layout.specs.Layout.{with_held, with_known, with_given, with_turned, Becomes, Cleared};
 
+// Stays: casts between u32 and usize, since there is no From between these two.
 use crate::kept::byte;
 use crate::{GIVEN_PLACE, HELD_PLACE, KNOWN_PLACE, NUMBER_PLACE, SHARD_WORDS, TURNED_PLACE, Words};
 

@@ -16,6 +16,7 @@ use crate::{
 use model::{Finding, Known};
 use transaction::{Input, Output, Transaction};
 
+// Stays: `reader` has a function of this name; that one reads bytes at a place, and this one words of a slot.
 pub fn transaction_at(s: &Words, k: usize) -> Transaction
     requires { k < known_slots }
     ensures { result ≡ (slot_known s.now k).transaction }
@@ -58,6 +59,7 @@ pub fn number_at(s: &Words, k: usize) -> u32
 }
 
 // What is heard from a sender: yes, no or nothing, and nothing for a number above 7.
+// Stays: a test of the index. The words of a shard are one array, so that `get` would need a slice of these eight first.
 pub fn heard_at(s: &Words, k: usize, sender: u8) -> Option<bool>
     requires { k < known_slots }
     ensures { result ≡ get_or (slot_known s.now k).heard sender None }

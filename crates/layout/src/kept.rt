@@ -12,6 +12,7 @@ use model::{Finding, Token};
 use transaction::{Input, Output, TokenId};
 
 // A word of a byte.
+// Stays: a cast and a remainder. There is no From from u32 to u8, and of a word that C lends only the last byte counts.
 pub(crate) fn byte(w: u32) -> u8
     ensures { result ≡ w % 256 }
 {

@@ -1,4 +1,5 @@
 // What is heard from a sender, as a number: 0 nothing, 1 no, 2 yes.
+// Stays: numbers, since C lends a shard as plain words, and PROTOCOL.md says what stands in them.
 // Stays: these are functions: neither `Option` nor `u32` is a type of this crate, so that no impl of From can stand here.
 ghost use Rattle.std.specs.Prelude.{◌≡◌};
 ghost use Rattle.model.specs.Said.{said_number};

@@ -7,6 +7,8 @@ use transaction::refusal::Refusal;
 
 // A held token: its creator (making swap) and index (position), its owner (household) and amount (portions),
 // and the number of the transaction that it is pledged to, 0 for none. Its shard is the one that holds it.
+// Stays: a pledge of 0, since `State`, of which the theorem `true_findings` speaks, and the words for C have it so. No transaction has
+// the number 0: check 3 refuses it.
 #[derive(Clone, Copy)]
 pub struct Token {
     pub creator: u32,

@@ -12,6 +12,7 @@ use model::Outcome;
 use transaction::{Input, Output};
 
 // What one shard decides by what it has said.
+// Stays: a function. `Outcome` is a type of the crate `model`, and an impl of From belongs there.
 fn by_vote(said: Option<bool>) -> Outcome
     ensures { result ≡ by_said said }
 {

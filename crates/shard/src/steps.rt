@@ -52,6 +52,8 @@ fn newly_known(me: u8, own: Own, t: Transaction) -> Known
 }
 
 // A known transaction more.
+// Stays: beside `push_token`, which counts other slots. One function for both would take a trait with a store, two counts and their
+// laws, for two uses of three lines.
 fn add_known(s: &mut Words, k: Known)
     requires { (length s.old ≡ shard_words) × ((shard_of s.old).known < known_slots) }
     ensures { Grows s.old k s.new }
