@@ -17,6 +17,7 @@ use model::{Finding, Token};
 use transaction::Input;
 
 // The place of the token of that creator and index, where it is held.
+// Stays: the two without a `TokenId`, which has a shard too: a shard holds its own tokens alone, and nothing would look at that.
 pub fn place_of_token(s: &Words, creator: u32, index: u8) -> Option<usize>
     requires { (shard_of s.now).held ≤ token_slots }
     ensures found { result ≡ position (has_spot creator index) (ledger_of s.now).tokens }

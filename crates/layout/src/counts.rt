@@ -27,6 +27,8 @@ pub fn known_count(s: &Words) -> usize
 }
 
 // The genesis index was given.
+// Stays: `index < genesis_slots` here and in `give`. `was_given` of the crate `shard` is the one test of it, and what comes behind the
+// table of refusals needs none.
 pub fn is_given(s: &Words, index: usize) -> bool
     requires { index < genesis_slots }
     ensures { result ≡ get_or (shard_of s.now).given index false }

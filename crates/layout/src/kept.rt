@@ -19,6 +19,8 @@ pub(crate) fn byte(w: u32) -> u8
     (w % 256) as u8
 }
 
+// Stays: the words with a place in them. What is kept in them is copied out and in, as C lends all the words of a shard in one array.
+// `read` has a name that `reader` has too: that one reads a record.
 // It takes so many words. Read from b on it is what its words say, and no other word counts.
 pub(crate) trait Kept: Copy {
     ghost SIZE: { ℕ };

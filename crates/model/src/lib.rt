@@ -64,6 +64,8 @@ pub enum Done {
 pub type Answer = Result<Done, Refusal>;
 
 // The findings about the inputs of a known transaction: how many there are, and what they are, in input order.
+// Stays: four in all, with their count here, and in `Known` with that of the transaction, since nothing is allocated (no heap), and
+// `told` and `keeping`, of which the theorem `true_findings` speaks, name count and list.
 #[derive(Clone, Copy)]
 pub struct Findings {
     pub count: u8,
