@@ -9,6 +9,8 @@ use model::Answer;
 use reader::Record;
 use transaction::Transaction;
 
+// Stays: `Sound c`, for the reason that the crate `shard` has for its own; and the fields beside the transaction, as `reader` hands
+// them out and the definition `call_of` has them.
 pub fn call(c: &mut Cluster, fields: Record, t: Transaction) -> Answer
     requires { Sound c.old }
     ensures { Steps c.old (call_of fields t) result c.new }

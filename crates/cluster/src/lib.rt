@@ -1,4 +1,6 @@
 // Eight shards (document 01: a round of eight pantries), in place: each call is lent the cluster's words and lends one shard's on.
+// Stays: `Sound c` in each contract, for the reason that the crate `shard` has for its own, which also says why each of its calls and
+// questions stands here once more, and why their arguments come one by one.
 #![tactic(auto)]
 
 ghost use Rattle.std.specs.Prelude.{◌≡◌, ◌<◌, ◌≤◌, IfOk, IfErr};
@@ -27,6 +29,7 @@ pub fn new(c: &mut Cluster)
 }
 
 // The place of the shard of that number: there are eight. A place, since `get_mut` does not promise what comes back of its loan.
+// Stays: `listing` has a function of this name; that one is the place that a line tells.
 fn place_of(number: u8) -> Result<usize, Refusal>
     ensures within { IfOk result (λ place. (place ≡ number) × (place < 8)) }
     ensures above { IfErr result (λ refusal. (refusal ≡ Refusal.OutOfRange) × (8 ≤ number)) }

@@ -1,5 +1,6 @@
 // What can be asked of a cluster; nothing of it is changed. A shard above 7 is an empty one; where findings are asked for, it
 // is refused.
+// Stays: a shard is its number beside the cluster that C lends, since any number can be asked for. `shard_at` is the one place that looks.
 ghost use Rattle.std.specs.Prelude.{◌≡◌, length, MatchOption};
 ghost use Rattle.model.specs.Steps.{house};
 ghost use Rattle.model.specs.Cluster.{ledger_at};

@@ -15,7 +15,7 @@ use Rattle.transaction.proofs.Slots.{any_append}
 use Rattle.model.specs.declared.Token.{Token}
 use Rattle.model.specs.declared.Outcome.TheVariants.{Commit, Abort}
 use Rattle.model.specs.Lists.{keep}
-use Rattle.model.proofs.Basics.{eqb_yes, eqb_no, keep-length}
+use Rattle.model.proofs.Basics.{keep-length}
 use Rattle.model.specs.Steps.{
   names,
   named_by,
@@ -123,26 +123,28 @@ module _ (ws : List ℕ) where
       long = q.long;
     }
 
--- ---- One input's turn in the loops that pledge and destroy
+-- ---- One token's turn in the loops that pledge and destroy
 
-one-named : (x : Input) (token : Token) → any (named_by token) (x ∷ []) ≡ names x token
+pub one-named : (x : Input) (token : Token) → any (named_by token) (x ∷ []) ≡ names x token
 one-named x token = or-false (names x token)
 
 module _ (x : Input) {token y : Token} {named : Bool} (n : named ≡ names x token) (t : token ≡ y) where
   named-is : any (named_by y) (x ∷ []) ≡ named
   named-is = rw (← t) (one-named x token ∙ sym n)
 
-  pub pledged_if : (number : ℕ) → named ≡ true → pledged_to number y ≡ pledge_if number (x ∷ []) y
-  pledged_if number e = rw (named-is ∙ e) refl
-
-  pub pledged-not : (number : ℕ) → named ≡ false → pledge_if number (x ∷ []) y ≡ y
-  pledged-not number e = rw (named-is ∙ e) refl
-
   pub stays_if : not named ≡ true → stays (x ∷ []) y ≡ true
   stays_if e = rw named-is e
 
   pub stays-not : not named ≡ false → stays (x ∷ []) y ≡ false
   stays-not e = rw named-is e
+
+-- a token's turn in the loop that pledges those that a test picks
+module _ (number : ℕ) (test : Token → Bool) {picked : Bool} {token y : Token} (p : picked ≡ test token) (t : token ≡ y) where
+  pub picked_if : picked ≡ true → pledged_to number y ≡ pledge_when number test y
+  picked_if e = rw (← t, ← p, e) refl
+
+  pub picked-not : picked ≡ false → pledge_when number test y ≡ y
+  picked-not e = rw (← t, ← p, e) refl
 
 pub place-next : (f : Token → Token) (l : List Token) (n : ℕ) (ws vs : List ℕ) (i : ℕ) {y : Token}
     → Placing f l n (tokens_of ws) i
@@ -251,18 +253,22 @@ module _ {f : List Input → List Token → List Token} (turn : InTurn f) where
 pub one-room : {A : Type 0} (wanted : Bool) (x : A) → wanted ≡ true → length (one_if wanted x) ≡ 1
 one-room wanted x e = rw e refl
 
-module _ (ws : List ℕ) (wanted : Bool) (x : Token) where
-  pub one-made : (vs us : List ℕ) (n : ℕ) → wanted ≡ true → n ≡ (shard_of ws).held → n < token_slots
+module _ (ws : List ℕ) (x : Token) where
+  pub pushed : (vs us : List ℕ) (n : ℕ) → n ≡ (shard_of ws).held → n < token_slots
       → PutsToken ws n x vs
       → Becomes (with_held (shard_of vs) (n + 1)) us
-      → Changes (adding (one_if wanted x)) ws us
+      → Changes (adding (x ∷ [])) ws us
   unfolding view
-  one-made vs us n e en h b d =
+  pushed vs us n en h b d =
       let q : tokens_of vs ≡ set (tokens_of ws) n x = tokens-of b in
       let put : Becomes (with_tokens (shard_of ws) (tokens_of vs)) vs =
       record { is = b.is ∙ ap (with_tokens (shard_of ws)) (sym q); long = b.long } in
       let behind = append-one (tokens_of ws) n x (omega (arith, length-tokens ws)) in
-      rw e (counted ws vs put us (n + 1) d (omega arith) (rw (q, ← en) behind))
+      counted ws vs put us (n + 1) d (omega arith) (rw (q, ← en) behind)
+
+module _ (ws : List ℕ) (wanted : Bool) (x : Token) where
+  pub one-made : {us : List ℕ} → wanted ≡ true → Changes (adding (x ∷ [])) ws us → Changes (adding (one_if wanted x)) ws us
+  one-made e p = rw e p
 
   pub none_made : wanted ≡ false → Room ws → Changes (adding (one_if wanted x)) ws ws
   none_made e r = rw (e, append-nil) (holds_same ws r)
@@ -323,14 +329,6 @@ module _ (place : ℕ) (ws : List ℕ) {me : ℕ} {t : Transaction}
   settled {vs} p = rw (em, et) at p
 
 -- ---- Tokens that come free
-
--- a token's turn in the loop that frees
-module _ (number : ℕ) {pledge : ℕ} {y : Token} (is : pledge ≡ y.pledge) where
-  pub freed_if : pledge ≡ number → pledged_to 0 y ≡ pledge_when 0 (is_pledged_to number) y
-  freed_if e = rw (eqb_yes (sym is ∙ e)) refl
-
-  pub freed_not : (pledge ≡ number → ⊥) → pledge_when 0 (is_pledged_to number) y ≡ y
-  freed_not n = rw (eqb_no (λ e. n (is ∙ e))) refl
 
 -- an abort frees the tokens of the transaction in a slot where the shard has turned, and changes nothing else
 module _ (place : ℕ) (ws : List ℕ) where

@@ -1,5 +1,5 @@
 -- A change of the tokens held in a shard's words.
-use Rattle.std.specs.Prelude.{ℕ, ◌+◌, ◌≤◌, ◌<◌, ◌≡◌, List, ◌++◌, length, take}
+use Rattle.std.specs.Prelude.{ℕ, ◌+◌, ◌≤◌, ◌<◌, ◌≡◌, Bool, List, ◌++◌, length, take}
 use Rattle.transaction.specs.declared.Input.{Input}
 use Rattle.transaction.specs.declared.Output.{Output}
 use Rattle.model.specs.declared.Token.{Token}
@@ -52,6 +52,10 @@ pub record Holds (s : Shard) (l : List Token) (ws : List ℕ) : Type 0 where
 -- the tokens held are changed by f, and nothing else is
 abbrev pub Changes : (List Token → List Token) → List ℕ → List ℕ → Type 0
 Changes f ws vs = Holds (shard_of ws) (f (ledger_of ws).tokens) vs
+
+-- whatever a closure answers about a token is what the test says of it
+abbrev pub Tells : (Token → Bool → Type 0) → (Token → Bool) → Type 0
+Tells answers test = (token : Token) (picked : Bool) → answers token picked → picked ≡ test token
 
 -- the tokens after a decision on the known transaction in a slot
 abbrev pub settled_at : Outcome → ℕ → List ℕ → List Token

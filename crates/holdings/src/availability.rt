@@ -15,11 +15,11 @@ use model::{Finding, Token};
 use transaction::{Input, Transaction};
 
 // The input names this token of its shard.
+// Stays: field by field, here and below. An input and a held token are two types, and neither has all that the other has.
 pub(crate) fn names_token(x: Input, token: Token) -> bool
     ensures { result ≡ names x token }
 {
-    let id = x.token;
-    (token.creator == id.creator) & (token.index == id.index)
+    (token.creator == x.token.creator) & (token.index == x.token.index)
 }
 
 // It is that token with that owner and that amount, and it is pledged to no transaction. The name first: most tokens
@@ -27,10 +27,8 @@ pub(crate) fn names_token(x: Input, token: Token) -> bool
 fn is_free_for(x: Input, token: Token) -> bool
     ensures { result ≡ free_for x token }
 {
-    if !names_token(x, token) {
-        return false;
-    }
-    (token.owner == x.owner) & (token.amount == x.amount) & (token.pledge == 0)
+    names_token(x, token)
+        && (token.owner == x.owner) & (token.amount == x.amount) & (token.pledge == 0)
 }
 
 // The shard holds such a token.
@@ -51,8 +49,7 @@ pub fn inputs_here(me: u8, t: Transaction) -> Inputs
     ensures { result ≡ inputs_here me t }
 {
     let mut here = Inputs::new();
-    let n = usize::from(t.input_count).min(t.inputs.len());
-    for x in &t.inputs[..n] {
+    for x in t.used_inputs() {
         if x.token.shard == me {
             here.push(*x);
         }

@@ -16,6 +16,7 @@ use model::{Outcome, Token};
 use transaction::{Input, Output, Transaction};
 
 // What one input names goes; the others move together, so that a destroyed token's space is used again.
+// Stays: a loop of its own beside `pledge_where`. It moves tokens and counts them, the other stores a pledge in its place.
 fn destroy_named(s: &mut Words, x: Input)
     requires { Room s.old }
     ensures { Changes (destroying (x ∷ [])) s.old s.new }
@@ -33,6 +34,8 @@ fn destroy_named(s: &mut Words, x: Input)
 }
 
 // The tokens that the inputs name are destroyed.
+// Stays: the loop of `pledge_all` with another step. A call of one function that takes the step as a closure is no shorter than this
+// `for` with its one call.
 fn destroy(s: &mut Words, inputs: &Inputs)
     requires { Room s.old }
     ensures { Changes (destroying inputs.now) s.old s.new }
@@ -42,13 +45,22 @@ fn destroy(s: &mut Words, inputs: &Inputs)
     }
 }
 
+// One token more, behind those that are held.
+pub fn push_token(s: &mut Words, token: Token)
+    requires { Left s.old 1 }
+    ensures { Changes (adding (token ∷ [])) s.old s.new }
+{
+    let n = held(s);
+    put_token(s, n, token);
+    set_held(s, n + 1);
+}
+
 // The token of an output, where it is at this shard.
 fn make_one(s: &mut Words, me: u8, number: u32, index: u8, y: Output)
     requires { Left s.old (length (made_from me number index y)) }
     ensures { Changes (adding (made_from me number index y)) s.old s.new }
 {
     if y.shard == me {
-        let n = held(s);
         let token = Token {
             creator: number,
             index,
@@ -56,8 +68,7 @@ fn make_one(s: &mut Words, me: u8, number: u32, index: u8, y: Output)
             amount: y.amount,
             pledge: 0,
         };
-        put_token(s, n, token);
-        set_held(s, n + 1);
+        push_token(s, token);
     }
 }
 
@@ -66,8 +77,8 @@ fn make(s: &mut Words, me: u8, t: Transaction)
     requires { Left s.old (length (made_here me t)) }
     ensures { Changes (adding (made_here me t)) s.old s.new }
 {
-    let n = usize::from(t.output_count).min(t.outputs.len());
-    for (i, y) in t.outputs[..n].iter().enumerate() {
+    for (i, y) in t.used_outputs().iter().enumerate() {
+        // Stays: a cast, since there is no From from usize to u8.
         make_one(s, me, t.number, i as u8, *y);
     }
 }

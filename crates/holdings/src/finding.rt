@@ -17,6 +17,7 @@ use model::{Finding, Token};
 use transaction::Input;
 
 // The place of the token of that creator and index, where it is held.
+// Stays: the two without a `TokenId`, which has a shard too: a shard holds its own tokens alone, and nothing would look at that.
 pub fn place_of_token(s: &Words, creator: u32, index: u8) -> Option<usize>
     requires { (shard_of s.now).held ≤ token_slots }
     ensures found { result ≡ position (has_spot creator index) (ledger_of s.now).tokens }
@@ -50,14 +51,14 @@ fn finding_of(s: &Words, x: Input) -> Finding
     if is_available(s, x) {
         return Finding::Available;
     }
-    let id = x.token;
-    match place_of_token(s, id.creator, id.index) {
+    match place_of_token(s, x.token.creator, x.token.index) {
         Some(place) => obstacle_of(x, token_at(s, place)),
         None => Finding::NotHeld,
     }
 }
 
 // None, in four places.
+// Stays: `Available` where no input is, since `keeping` of the specification and the words for C have four findings.
 pub fn nothing_found() -> [Finding; 4]
     ensures { result ≡ keeping [] }
 {

@@ -3,10 +3,10 @@ ghost use Rattle.std.specs.Prelude.{◌≡◌};
 ghost use Rattle.model.specs.Steps.{is_pledged_to, freeing};
 ghost use Rattle.holdings.specs.Held.{Room, Changes, Settling, Settles};
 
+use crate::pledging::pledge_where;
 use layout::Words;
-use layout::counts::{held, is_turned};
+use layout::counts::is_turned;
 use layout::entries::number_at;
-use layout::tokens::{pledge_at, put_pledge};
 use model::Outcome;
 
 // The tokens pledged to the transaction of that number come free.
@@ -14,12 +14,7 @@ pub fn free_pledged_to(s: &mut Words, number: u32)
     requires { Room s.old }
     ensures { Changes (freeing (is_pledged_to number)) s.old s.new }
 {
-    for k in 0..held(s) {
-        let pledge = pledge_at(s, k);
-        if pledge == number {
-            put_pledge(s, k, 0);
-        }
-    }
+    pledge_where(s, 0, |token| token.pledge == number);
 }
 
 // The known transaction in a slot is aborted: no token changes, but where the shard has turned its tokens come free.

@@ -6,6 +6,7 @@ use std::marker::Model;
 use transaction::{Input, TokenId};
 
 // Up to four inputs, in order: a transaction has no more. In contracts it is their list.
+// Stays: an array with a count, and no Vec, since nothing is allocated (no heap).
 #[derive(Drop)]
 pub struct Inputs {
     count: usize,
@@ -22,6 +23,7 @@ impl Model for Inputs {
 
 impl Inputs {
     // None.
+    // Stays: zeros in the slots that are not used. Nothing is allocated here, and no contract speaks of what stands there.
     pub(crate) fn new() -> Self
         ensures { result ≡ [] }
     {

@@ -4,6 +4,7 @@ ghost use Rattle.std.specs.Prelude.{◌≡◌, true, false, ◌≤◌, ◌<◌, 
 ghost use Rattle.layout.specs.Layout.{token_slots, known_slots, genesis_slots, shard_of};
 ghost use Rattle.layout.specs.Layout.{with_held, with_known, with_given, with_turned, Becomes, Cleared};
 
+// Stays: casts between u32 and usize, since there is no From between these two.
 use crate::kept::byte;
 use crate::{GIVEN_PLACE, HELD_PLACE, KNOWN_PLACE, NUMBER_PLACE, SHARD_WORDS, TURNED_PLACE, Words};
 
@@ -26,6 +27,8 @@ pub fn known_count(s: &Words) -> usize
 }
 
 // The genesis index was given.
+// Stays: `index < genesis_slots` here and in `give`. `was_given` of the crate `shard` is the one test of it, and what comes behind the
+// table of refusals needs none.
 pub fn is_given(s: &Words, index: usize) -> bool
     requires { index < genesis_slots }
     ensures { result ≡ get_or (shard_of s.now).given index false }

@@ -16,6 +16,7 @@ use crate::{
 use model::{Finding, Known};
 use transaction::{Input, Output, Transaction};
 
+// Stays: `reader` has a function of this name; that one reads bytes at a place, and this one words of a slot.
 pub fn transaction_at(s: &Words, k: usize) -> Transaction
     requires { k < known_slots }
     ensures { result ≡ (slot_known s.now k).transaction }
@@ -42,13 +43,10 @@ pub fn known_at(s: &Words, k: usize) -> Known
     requires { k < known_slots }
     ensures { result ≡ slot_known s.now k }
 {
-    let t = transaction_at(s, k);
-    let heard = read_all(s, TRANSACTIONS_PLACE + k * KNOWN_SIZE + HEARD_OFFSET);
-    let findings = findings_at(s, k);
     Known {
-        transaction: t,
-        heard,
-        findings,
+        transaction: transaction_at(s, k),
+        heard: read_all(s, TRANSACTIONS_PLACE + k * KNOWN_SIZE + HEARD_OFFSET),
+        findings: findings_at(s, k),
     }
 }
 
@@ -61,11 +59,12 @@ pub fn number_at(s: &Words, k: usize) -> u32
 }
 
 // What is heard from a sender: yes, no or nothing, and nothing for a number above 7.
+// Stays: a test of the index. The words of a shard are one array, so that `get` would need a slice of these eight first.
 pub fn heard_at(s: &Words, k: usize, sender: u8) -> Option<bool>
     requires { k < known_slots }
     ensures { result ≡ get_or (slot_known s.now k).heard sender None }
 {
-    let at = sender as usize;
+    let at = usize::from(sender);
     if at < 8 {
         return said_from(byte(s[TRANSACTIONS_PLACE + k * KNOWN_SIZE + HEARD_OFFSET + at]));
     }

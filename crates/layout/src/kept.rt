@@ -12,12 +12,15 @@ use model::{Finding, Token};
 use transaction::{Input, Output, TokenId};
 
 // A word of a byte.
+// Stays: a cast and a remainder. There is no From from u32 to u8, and of a word that C lends only the last byte counts.
 pub(crate) fn byte(w: u32) -> u8
     ensures { result ≡ w % 256 }
 {
     (w % 256) as u8
 }
 
+// Stays: the words with a place in them. What is kept in them is copied out and in, as C lends all the words of a shard in one array.
+// `read` has a name that `reader` has too: that one reads a record.
 // It takes so many words. Read from b on it is what its words say, and no other word counts.
 pub(crate) trait Kept: Copy {
     ghost SIZE: { ℕ };
@@ -103,10 +106,9 @@ impl Kept for Input {
     }
 
     fn put(self, s: &mut Words, b: usize) {
-        let id = self.token;
-        s[b] = u32::from(id.shard);
-        s[b + 1] = id.creator;
-        s[b + 2] = u32::from(id.index);
+        s[b] = u32::from(self.token.shard);
+        s[b + 1] = self.token.creator;
+        s[b + 2] = u32::from(self.token.index);
         s[b + 3] = self.owner;
         s[b + 4] = self.amount;
     }

@@ -55,4 +55,5 @@ pub const TRANSACTIONS_PLACE: usize = TOKENS_PLACE + TOKEN_SLOTS * TOKEN_SIZE;
 pub const SHARD_WORDS: usize = TRANSACTIONS_PLACE + KNOWN_SLOTS * KNOWN_SIZE;
 
 // A shard's words.
+// Stays: an array of words, and as many slots in it as there can be, since C owns the memory and lends it, and nothing is allocated.
 pub type Words = [u32; SHARD_WORDS];

@@ -34,10 +34,15 @@ pub fn put_known(s: &mut Words, k: usize, x: Known)
     ensures { PutsKnown s.old k x s.new }
 {
     let b = TRANSACTIONS_PLACE + k * KNOWN_SIZE;
-    let t = x.transaction;
-    put_head(s, b, t.number, t.input_count, t.output_count);
-    put_all(s, b + INPUTS_OFFSET, t.inputs);
-    put_all(s, b + OUTPUTS_OFFSET, t.outputs);
+    put_head(
+        s,
+        b,
+        x.transaction.number,
+        x.transaction.input_count,
+        x.transaction.output_count,
+    );
+    put_all(s, b + INPUTS_OFFSET, x.transaction.inputs);
+    put_all(s, b + OUTPUTS_OFFSET, x.transaction.outputs);
     put_all(s, b + HEARD_OFFSET, x.heard);
     put_all(s, b + FINDINGS_OFFSET, x.findings);
 }

@@ -1,4 +1,5 @@
 // The tokens held, one at a time.
+// Stays: a slot is its number, and `k < token_slots` stands in each contract, as in `entries`.
 ghost use Rattle.std.specs.Prelude.{◌≡◌, ◌&&◌, ◌<◌, eqb};
 ghost use Rattle.model.specs.Steps.{pledged_to};
 ghost use Rattle.layout.specs.Layout.{token_slots, slot_token, PutsToken};
@@ -15,6 +16,7 @@ pub fn token_at(s: &Words, k: usize) -> Token
 }
 
 // Only its id, for searches: the token has that creator and index.
+// Stays: compared word by word. A token read first and compared by `==` would be five words at each place of a search.
 pub fn is_token(s: &Words, k: usize, creator: u32, index: u8) -> bool
     requires { k < token_slots }
     ensures { result ≡ (eqb (slot_token s.now k).creator creator
@@ -30,14 +32,6 @@ pub fn amount_at(s: &Words, k: usize) -> u32
     ensures { result ≡ (slot_token s.now k).amount }
 {
     s[TOKENS_PLACE + k * TOKEN_SIZE + 3]
-}
-
-// Only its pledge, for what comes free.
-pub fn pledge_at(s: &Words, k: usize) -> u32
-    requires { k < token_slots }
-    ensures { result ≡ (slot_token s.now k).pledge }
-{
-    s[TOKENS_PLACE + k * TOKEN_SIZE + 4]
 }
 
 pub fn put_token(s: &mut Words, k: usize, t: Token)

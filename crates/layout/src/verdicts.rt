@@ -1,4 +1,5 @@
 // What is heard from a sender, as a number: 0 nothing, 1 no, 2 yes.
+// Stays: numbers, since C lends a shard as plain words, and PROTOCOL.md says what stands in them.
 // Stays: functions are plainer than a From: that would need a type of this crate around the Option, made and taken apart at
 // each word.
 ghost use Rattle.std.specs.Prelude.{◌≡◌};

@@ -18,7 +18,7 @@ use Rattle.model.specs.declared.Done.TheVariants.{Minted, Registered, Heard, Aga
 use Rattle.model.specs.Steps.{Limits, Ledger, empty_ledger, inputs_here}
 use Rattle.model.specs.Shard.{Call, mint, register, deliver, shard_step, turn}
 use Rattle.model.specs.Cluster.{ledger_at, at_shard, cluster_step}
-use Rattle.model.specs.Model.{Entry, Model, entry_for, step, after, answers, play}
+use Rattle.model.specs.Model.{Entry, Model, entry_for, step, after, play}
 use Rattle.model.specs.Demand.{committed, outcome_at}
 use Rattle.model.proofs.Basics.{eqb-eq, eqb_apart, clash}
 use Rattle.model.proofs.Lookups.{alone-repeats}
@@ -239,15 +239,3 @@ after-append limits place model [] more = ap (λ (n : ℕ). after limits n model
 after-append limits place model (call ∷ calls) more =
     after-append limits (suc place) (step limits place model call).0 calls more
     ∙ ap (λ (n : ℕ). after limits n (after limits (suc place) (step limits place model call).0 calls) more) (omega arith)
-
--- and their answers
-pub answers-append : (limits : Limits) (place : ℕ) (model : Model) (calls more : List Call)
-    → answers limits place model (calls ++ more) ≡ answers limits place model calls
-    ++ answers limits (length calls + place) (after limits place model calls) more
-unfolding after answers
-answers-append limits place model [] more = ap (λ (n : ℕ). answers limits n model more) (omega arith)
-answers-append limits place model (call ∷ calls) more =
-    ap (λ (l : List Answer). (step limits place model call).1 ∷ l)
-    (answers-append limits (suc place) (step limits place model call).0 calls more
-    ∙ ap (λ (n : ℕ). answers limits (suc place) (step limits place model call).0 calls
-    ++ answers limits n (after limits (suc place) (step limits place model call).0 calls) more) (omega arith))

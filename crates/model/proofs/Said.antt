@@ -32,11 +32,6 @@ nothing-said (Some verdict) e = absurd (true≢false e)
 pub something-said : (c : Said) → is_some c ≡ true → c ≡ None → ⊥
 something-said c e z = true≢false (sym e ∙ ap is_some z)
 
--- what is not nothing is heard
-pub said-something : (c : Said) → (c ≡ None → ⊥) → is_some c ≡ true
-said-something None h = absurd (h refl)
-said-something (Some verdict) h = refl
-
 -- what is heard, and not no, is yes
 pub yes_of : (c : Said) → is_some c ≡ true → is_said_no c ≡ false → is_said_yes c ≡ true
 yes_of None e n = absurd (false≢true e)

@@ -7,8 +7,8 @@ use transaction::refusal::Refusal;
 
 // A held token: its creator (making swap) and index (position), its owner (household) and amount (portions),
 // and the number of the transaction that it is pledged to, 0 for none. Its shard is the one that holds it.
-// Stays: 0 for none, which check 3 keeps from being a transaction's number: `State`, of which the theorem `true_findings`
-// speaks, says `pledge ≡ 0`, and so do the words that C is told.
+// Stays: a pledge of 0, since `State`, of which the theorem `true_findings` speaks, and the words for C have it so. No transaction has
+// the number 0: check 3 refuses it.
 #[derive(Clone, Copy)]
 pub struct Token {
     pub creator: u32,
@@ -66,7 +66,8 @@ pub enum Done {
 pub type Answer = Result<Done, Refusal>;
 
 // The findings about the inputs of a known transaction: how many there are, and what they are, in input order.
-// Stays: a count beside four places, as in `Known`.
+// Stays: four in all, with their count here, and in `Known` with that of the transaction, since nothing is allocated (no heap), and
+// `told` and `keeping`, of which the theorem `true_findings` speaks, name count and list.
 #[derive(Clone, Copy)]
 pub struct Findings {
     pub count: u8,

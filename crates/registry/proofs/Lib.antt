@@ -1,3 +1,4 @@
+pub mod Awaits
+pub mod Counts
 pub mod Decisions
 pub mod Finds
-pub mod Awaits

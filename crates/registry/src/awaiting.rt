@@ -26,11 +26,10 @@ fn awaits_any(s: &Words, me: u8, x: Input) -> bool
     requires { ((shard_of s.now).known ≤ known_slots) × OneEach (ledger_of s.now).known }
     ensures { result ≡ any (awaits me x) (ledger_of s.now).known }
 {
-    let token = x.token;
-    let Some(place) = place_of_number(s, token.creator) else {
+    let Some(place) = place_of_number(s, x.token.creator) else {
         return false;
     };
-    makes_here(s, place, me, token.index) && is_undecided(s, place)
+    makes_here(s, place, me, x.token.index) && is_undecided(s, place)
 }
 
 // Some input of the transaction that is at this shard does.
@@ -38,8 +37,7 @@ pub fn is_held_off(s: &Words, me: u8, t: Transaction) -> bool
     requires { ((shard_of s.now).known ≤ known_slots) × OneEach (ledger_of s.now).known }
     ensures { result ≡ held_off me (ledger_of s.now).known t }
 {
-    let n = usize::from(t.input_count).min(t.inputs.len());
-    for x in &t.inputs[..n] {
+    for x in t.used_inputs() {
         if x.token.shard == me && awaits_any(s, me, *x) {
             return true;
         }

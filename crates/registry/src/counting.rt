@@ -9,6 +9,7 @@ use layout::entries::Side;
 use transaction::Input;
 
 // Of the known transaction in a slot, without reading it as a whole.
+// Stays: beside `count_here`, which has the transaction and not its words.
 pub(crate) fn here_at<P: Side>(s: &Words, k: usize, me: u8) -> u8
     requires { k < known_slots }
     ensures are { result ≡ length (keep (λ x. eqb (P.shard x) me)

@@ -12,6 +12,7 @@ use model::Outcome;
 use transaction::{Input, Output};
 
 // What one shard decides by what it has said.
+// Stays: a function. `Outcome` is a type of the crate `model`, and an impl of From belongs there.
 fn by_vote(said: Option<bool>) -> Outcome
     ensures { result ≡ by_said said }
 {
@@ -26,14 +27,10 @@ fn by_vote(said: Option<bool>) -> Outcome
 fn both(a: Outcome, b: Outcome) -> Outcome
     ensures { result ≡ together a b }
 {
-    match a {
-        Outcome::Abort => Outcome::Abort,
-        Outcome::Commit => b,
-        Outcome::Wait => match b {
-            Outcome::Abort => Outcome::Abort,
-            Outcome::Commit => Outcome::Wait,
-            Outcome::Wait => Outcome::Wait,
-        },
+    match (a, b) {
+        (Outcome::Abort, _) | (_, Outcome::Abort) => Outcome::Abort,
+        (Outcome::Commit, Outcome::Commit) => Outcome::Commit,
+        _ => Outcome::Wait,
     }
 }
 

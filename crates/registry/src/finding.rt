@@ -30,23 +30,20 @@ pub fn place_of_number(s: &Words, number: u32) -> Option<usize>
 }
 
 // Every field of it agrees.
+// Stays: a function beside `same_transaction`: the one that it compares with stands in a slot, as words.
 pub fn same_at(s: &Words, k: usize, t: Transaction) -> bool
     requires { k < known_slots }
     ensures { result ≡ is_for t (slot_known s.now k) }
 {
-    let stored = transaction_at(s, k);
-    same_transaction(stored, t)
+    same_transaction(transaction_at(s, k), t)
 }
 
 // The raw verdict, 1 for yes and 0 for no, is the one heard.
+// Stays: the verdict as a byte, here and in all calls. Any byte can be handed in, and contracts of calls give 2 its refusal 3.
 pub fn says(heard: Option<bool>, verdict: u8) -> bool
     ensures { result ≡ says heard verdict }
 {
-    match heard {
-        None => false,
-        Some(true) => verdict == 1,
-        Some(false) => verdict == 0,
-    }
+    heard.is_some_and(|yes| verdict == u8::from(yes))
 }
 
 // The shard has given this vote on this transaction.

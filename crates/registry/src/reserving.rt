@@ -14,14 +14,7 @@ use transaction::{Output, Transaction};
 pub fn count_here(me: u8, t: Transaction) -> usize
     ensures { (result ≡ length (outputs_here me t)) × (result ≤ 4) }
 {
-    let n = usize::from(t.output_count).min(t.outputs.len());
-    let mut here: usize = 0;
-    for y in &t.outputs[..n] {
-        if y.shard == me {
-            here += 1;
-        }
-    }
-    here
+    t.used_outputs().iter().filter(|y| y.shard == me).count()
 }
 
 // Outputs here, while it is undecided: those that have none here are not decided anew.

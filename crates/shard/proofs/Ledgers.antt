@@ -6,7 +6,7 @@ use mathlib.Core.List.{List, [], ◌∷◌, ◌++◌}
 use native.Mathlib.Omega.{arith}
 use native.Mathlib.Nat.{not-suc-le-zero}
 use lib.Dec.{eqb}
-use lib.ListN.{length, get_or, take, set, replicate, length-append}
+use lib.ListN.{length, get_or, set, replicate}
 use lib.Seq.{get_or-set_same, take-set-lt}
 use Rattle.transaction.specs.declared.Input.{Input}
 use Rattle.transaction.specs.declared.Transaction.{Transaction}
@@ -66,9 +66,9 @@ use Rattle.layout.specs.Layout.{
   turned_place,
 }
 use Rattle.layout.proofs.Regions.{tab-same}
-use Rattle.layout.proofs.Slots.{length-tokens, length-known}
+use Rattle.layout.proofs.Slots.{length-known}
 use Rattle.layout.proofs.Ledgers.{held-length}
-use Rattle.holdings.specs.Held.{Holds, Changes, Settling, Settles, settled_at}
+use Rattle.holdings.specs.Held.{adding, Holds, Changes, Settling, Settles, settled_at}
 use Rattle.shard.specs.declared.local.Own.{Own}
 use Rattle.shard.specs.View.{number, view, Fresh}
 use Rattle.shard.specs.Parts.{Pledges, Leaves, Minted, Grows, decided_on, entry_for, Entering, Entered, heard_in, FreshVote, FreshDone}
@@ -212,26 +212,20 @@ module _ {place sender verdict : ℕ} {ws : List ℕ} (pre : FreshVote place sen
 
 -- ---- A genesis token
 
-pub minted : {ws vs us xs : List ℕ} (index owner amount : ℕ) {n at : ℕ} → n ≡ (shard_of ws).held → at ≡ index → n < token_slots
-    → PutsToken ws n (genesis_token index owner amount) vs → Becomes (with_held (shard_of vs) (n + 1)) us
+pub minted : {ws us xs : List ℕ} (index owner amount : ℕ) {at : ℕ} → at ≡ index
+    → Changes (adding (genesis_token index owner amount ∷ [])) ws us
     → Becomes (with_given (shard_of us) (set (shard_of us).given at true)) xs → Minted ws index owner amount xs
 unfolding layout.view after_mint
-minted {ws} {vs} {us} {xs} index owner amount {n} {at} en ea h p q g =
-    let token = genesis_token index owner amount in
-    let tokens = set (tokens_of ws) n token in
+minted {ws} {us} {xs} index owner amount {at} ea p g =
+    let tokens = (view ws).tokens ++ (genesis_token index owner amount ∷ []) in
     let given = set (given_of ws) index true in
-    let held : shard_of us ≡ with_held (with_tokens (shard_of ws) tokens) (n + 1) =
-    q.is ∙ ap (λ (x : Shard). with_held x (n + 1)) p.is in
-    let is : shard_of xs ≡ with_given (with_held (with_tokens (shard_of ws) tokens) (n + 1)) given =
-    g.is ∙ rw ea (ap (λ (x : Shard). with_given x (set x.given index true)) held) in
-    let more : take (n + 1) tokens ≡ take n (tokens_of ws) ++ (token ∷ []) =
-    append-one (tokens_of ws) n token (omega (arith, length-tokens ws)) in
-    let some : length (view ws).tokens ≡ n = held-length ws (omega arith) ∙ sym en in
+    let is : shard_of xs ≡ with_given (with_held (with_tokens (shard_of ws) (tokens_of us)) (length tokens)) given =
+    g.is ∙ rw ea (ap (λ (x : Shard). with_given x (set x.given index true)) p.kept) in
     record {
       long = g.long;
-      seen = ap layout.view is ∙ rw (more, en) refl;
+      seen = ap layout.view is ∙ rw p.tokens refl;
       numbered = ap (λ (x : Shard). x.number) is;
-      holds = ap (λ (x : Shard). x.held) is ∙ sym (length-append (view ws).tokens (token ∷ []) ∙ rw some refl);
+      holds = ap (λ (x : Shard). x.held) is;
       knows = ap (λ (x : Shard). x.known) is;
     }
 

@@ -2,6 +2,12 @@
 // The interface: `new`, `mint_token`, `register_transaction`, `hear_vote`, `turn_shard`, `has_given_vote`, all of `queries`, and
 // `reporting::findings_of`. Internal, and public only because the crate `cluster` calls them: `hear_formed` with its `Vote`, and
 // `refusals::deliver_form`.
+// Stays: `Sound s` in each contract. `struct Shard<'a> { words: &'a mut Words, ghost sound: .. }` was tried and proves, but then each
+// function owes `same_reference`, and each export makes the struct first and still asks for `Sound`: no plainer.
+// Stays: a slot is its number, `place`, beside the words that C lends (`layout::entries` says why).
+// Stays: each call and each question here, and in `cluster` once more. Both are public, and C calls both; the cluster's is a line or two.
+// Stays: (receiver, index, owner, amount) and (receiver, sender, verdict, t) one by one, as the specification's `Call` and the exports
+// have them. A struct would be made at each export and taken apart at each check; `Vote` is what is left behind the form.
 #![tactic(auto)]
 
 ghost use Rattle.std.specs.Prelude.{◌≡◌, true, position};

@@ -12,6 +12,8 @@ use layout::counts::own_number;
 use model::Finding;
 use transaction::Transaction;
 
+// Stays: a bool for yes and no, which is all that a vote says; `Pledges` of the specification names the two fields.
+// The four findings are those of `model::Known`.
 // What the shard keeps of it with the transaction: its own vote, and what it found about each input here (document 02, 2).
 #[derive(Clone, Copy)]
 pub struct Own {

@@ -27,6 +27,7 @@ pub fn known_count(s: &Words) -> usize
 }
 
 // The token at a place of those held; none behind the last.
+// Stays: an `if`, here and twice below. `(place < held).then(..)` was tried: it needs answers of its own, as this has, and says no more.
 pub fn token_at(s: &Words, place: usize) -> Option<Token>
     requires { Sound s.now }
     ensures { result ≡ token_at (view s.now).tokens place }

@@ -1,5 +1,7 @@
 // The tables of refusals at one shard, in document 01's order: the refusal of the first test that holds, if one does. Each table is in two
 // parts: what the record says by itself (its form), then what the ledger says (the rest). Each test of a rest is a function of `rows`.
+// Stays: a form and a rest for each kind of call, as the specification's tables are, one for each kind, with rows of their own.
+// Stays: `me` beside the receiver, since 3 compares the two.
 ghost use Rattle.std.specs.Prelude.{◌≡◌, position};
 ghost use Rattle.transaction.specs.Lists.{first_of};
 ghost use Rattle.model.specs.Steps.{house};

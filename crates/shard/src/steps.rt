@@ -10,12 +10,11 @@ ghost use Rattle.shard.specs.Parts.{Minted, Grows, Entering, Entered, FreshVote,
 
 use crate::Vote;
 use crate::local::{Own, local_step};
-use holdings::committing::settle_at;
+use holdings::committing::{push_token, settle_at};
 use layout::Words;
-use layout::counts::{give, held, known_count, own_number, set_held, set_known_count};
+use layout::counts::{give, known_count, own_number, set_known_count};
 use layout::entries::heard_at;
 use layout::stores::{put_heard, put_known};
-use layout::tokens::put_token;
 use model::{Done, Known, Outcome, Token};
 use registry::deciding::outcome_at;
 use transaction::Transaction;
@@ -25,8 +24,6 @@ pub(crate) fn after_mint(s: &mut Words, index: u8, owner: u32, amount: u32)
     requires { (length s.old ≡ shard_words) × (((shard_of s.old).held < token_slots) × (index < genesis_slots)) }
     ensures { Minted s.old index owner amount s.new }
 {
-    let n = held(s);
-    let at = usize::from(index);
     let token = Token {
         creator: 0,
         index,
@@ -34,9 +31,8 @@ pub(crate) fn after_mint(s: &mut Words, index: u8, owner: u32, amount: u32)
         amount,
         pledge: 0,
     };
-    put_token(s, n, token);
-    set_held(s, n + 1);
-    give(s, at);
+    push_token(s, token);
+    give(s, usize::from(index));
 }
 
 // The transaction as it becomes known: the own vote counts as heard.
@@ -44,9 +40,9 @@ fn newly_known(me: u8, own: Own, t: Transaction) -> Known
     requires { me < 8 }
     ensures { result ≡ known_with me own.findings own.verdict t }
 {
-    let at = usize::from(me);
     let mut heard = [None; 8];
-    heard[at] = Some(own.verdict);
+    heard[usize::from(me)] = Some(own.verdict);
+    // Stays: a name for the array; written straight into the literal it was tried, and the borrow checker does not cover that.
     let findings = own.findings;
     Known {
         transaction: t,
@@ -56,6 +52,8 @@ fn newly_known(me: u8, own: Own, t: Transaction) -> Known
 }
 
 // A known transaction more.
+// Stays: beside `push_token`, which counts other slots. One function for both would take a trait with a store, two counts and their
+// laws, for two uses of three lines.
 fn add_known(s: &mut Words, k: Known)
     requires { (length s.old ≡ shard_words) × ((shard_of s.old).known < known_slots) }
     ensures { Grows s.old k s.new }
@@ -105,8 +103,7 @@ fn fresh_vote(s: &mut Words, place: usize, vote: &Vote) -> Outcome
     requires { FreshVote place vote.now.sender vote.now.verdict s.old }
     ensures { FreshDone place vote.now.sender vote.now.verdict s.old result s.new }
 {
-    let at = usize::from(vote.sender);
-    put_heard(s, place, at, vote.verdict == 1);
+    put_heard(s, place, usize::from(vote.sender), vote.verdict == 1);
     decide_at(s, place)
 }
 

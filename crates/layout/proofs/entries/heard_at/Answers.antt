@@ -7,7 +7,7 @@ use Rattle.layout.proofs.entries.heard_at.Goals as goal
 pub returns-then-at-lt8 : goal.returns-then-at-lt8
 returns-then-at-lt8 c =
     let sender : c.args.sender < 8 = search rules in
-    c.said_from.ensures ∙ ap said_from c.byte.ensures ∙ sym (heard-at c.args.s.now c.args.k c.args.sender c.requires sender)
+    c.said_from.ensures ∙ ap said_from (rw c.from-at.ensures at c.byte.ensures) ∙ sym (heard-at c.args.s.now c.args.k c.args.sender c.requires sender)
 
 pub returns : goal.returns
 returns c =

@@ -6,6 +6,6 @@ use Rattle.layout.proofs.entries.known_at.Goals as goal
 pub returns : goal.returns
 returns c =
     known-parts c.args.s.now c.args.k c.requires
-    c.transaction_at-t.ensures
-    (c.read_all-heard.ensures ∙ heard_array _ _)
-    c.findings_at-findings.ensures
+    c.transaction_at.ensures
+    (c.read_all.ensures ∙ heard_array _ _)
+    c.findings_at.ensures
