@@ -1,7 +1,6 @@
 // The call of a record, made on a lent cluster: what the listing and the static library both do with a record that was read.
 #![tactic(auto)]
 
-ghost use Rattle.std.specs.Prelude.{◌≡◌};
 ghost use Rattle.cluster.specs.View.{Sound, Steps};
 ghost use Rattle.calls.specs.Calls.{call_of};
 

@@ -7,7 +7,7 @@
 -- arguments, the result and the lent cluster afterwards, as the checker generates both from src/lib.rt. There is no second copy of a contract here, so
 -- that a contract that said less would break this proof.
 use Prim.Native.Nat.{ℕ}
-use mathlib.Core.Path.{◌≡◌, ap, sym, subst, ◌∙◌}
+use mathlib.Core.Path.{◌≡◌, sym, subst, ◌∙◌}
 use mathlib.Core.List.{List, Memᴰ}
 use contract.Lifetimes.{Lfts}
 use Rattle.std.specs.Prelude.{Ok, Err}

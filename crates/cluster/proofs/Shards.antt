@@ -4,7 +4,7 @@ use mathlib.Core.Path.{◌≡◌, refl, sym, ap, ◌∙◌, subst}
 use mathlib.Core.Bool.{Bool, true, false, not}
 use mathlib.Core.List.{List, [], ◌∷◌, map}
 use native.Mathlib.Omega.{arith}
-use borrow.Author.Tests.{eqb-true, eqb-false, ne_eqb, not-false, lt-leb}
+use borrow.Author.Tests.{eqb-true, eqb-false, not-false, lt-leb}
 use lib.Dec.{eqb}
 use Rattle.std.specs.Prelude.{Ok, Err}
 use lib.ListN.{length, get_or, set, replicate, length-set}
@@ -17,10 +17,10 @@ use Rattle.transaction.specs.Checks.{shard_fits}
 use Rattle.transaction.proofs.Tables.{first-stands}
 use Rattle.model.specs.Answers.{Answer}
 use Rattle.model.specs.Steps.{Ledger, house, empty_ledger}
-use Rattle.model.specs.Shard.{Call, mint, register, deliver, deliver_form, deliver_rest, deliver_refusals, shard_step, turn, delivered}
+use Rattle.model.specs.Shard.{Call, mint, register, deliver, deliver_form, deliver_rest, deliver_refusals, shard_step, turn}
 use Rattle.model.specs.Cluster.{ledger_at, gave, not_given, at_shard, cluster_step}
 use Rattle.model.proofs.Basics.{passed}
-use Rattle.model.proofs.Tables.{unless-refused, receiver_of, no_such_shard}
+use Rattle.model.proofs.Tables.{receiver_of, no_such_shard}
 use Rattle.model.proofs.Refusals.{shard-below}
 use Rattle.shard.specs.View as shard
 use Rattle.cluster.specs.View.{view, shard_at, SoundAt, Sound, Fresh, Steps}
@@ -195,9 +195,6 @@ pub record Freshened (c : List (List ℕ)) (i : ℕ) : Type 0 where
   pub within : i ≤ 8
   pub eight : length c ≡ 8
   pub so : (p : ℕ) → p < i → shard.Fresh p (shard_at c p)
-
-pub freshen_start : (c : List (List ℕ)) → length c ≡ 8 → Freshened c 0
-freshen_start c e = record { within = omega arith; eight = e; so = λ p h. absurd (omega arith) }
 
 below_it : (q i : ℕ) → q < i + 1 → (q ≡ i → ⊥) → q < i
 below_it q i h n = omega arith

@@ -26,7 +26,7 @@ pub fn new(c: &mut Cluster)
     }
 }
 
-// The place of the shard of that number: there are eight.
+// The place of the shard of that number: there are eight. A place, since `get_mut` does not promise what comes back of its loan.
 fn place_of(number: u8) -> Result<usize, Refusal>
     ensures within { IfOk result (λ place. (place ≡ number) × (place < 8)) }
     ensures above { IfErr result (λ refusal. (refusal ≡ Refusal.OutOfRange) × (8 ≤ number)) }
@@ -67,16 +67,16 @@ pub fn deliver_vote(
     requires { Sound c.old }
     ensures { Steps c.old (deliver receiver sender verdict t) result c.new }
 {
-    deliver_form(receiver, receiver, sender, verdict, t)?;
-    if !shard::has_given_vote(&c[usize::from(sender)], sender, verdict, t) {
-        return Err(Refusal::VoteNotGiven);
-    }
     let vote = Vote {
         sender,
         verdict,
         transaction: t,
     };
-    shard::hear_formed(&mut c[usize::from(receiver)], vote)
+    deliver_form(receiver, receiver, &vote)?;
+    if !shard::has_given_vote(&c[usize::from(sender)], sender, verdict, t) {
+        return Err(Refusal::VoteNotGiven);
+    }
+    shard::hear_formed(&mut c[usize::from(receiver)], &vote)
 }
 
 // A turn of the receiving shard.

@@ -13,7 +13,9 @@ use crate::taking::{VOTE, take_record};
 use transaction::refusal::Refusal;
 use words::{narrow, transaction_from};
 
-// The record at the front of the bytes, of any kind, by way of what the reader hands back.
+// The record at the front of the bytes, of any kind, by way of what the reader hands back. It is kept out of
+// `plankeeper_read`, whose short way needs no room for a reading.
+#[inline(never)]
 fn read_any(bytes: &[u8], fields: &mut [u32; 42]) -> u32
     ensures { Fills bytes.now result fields.new }
 {
@@ -28,7 +30,12 @@ fn read_any(bytes: &[u8], fields: &mut [u32; 42]) -> u32
 pub extern "C" fn plankeeper_read(bytes: &[u8], fields: &mut [u32; 42]) -> u32
     ensures { Fills bytes.now result fields.new }
 {
-    if reader::head_cause(bytes).is_err() || VOTE < bytes[0] {
+    // Stays: two tests, each with its call. As one test with `||` the call became part of this function, and reading in words took
+    // 1.75 times the baseline, where before it took 1.42.
+    if reader::head_cause(bytes).is_err() {
+        return read_any(bytes, fields);
+    }
+    if VOTE < bytes[0] {
         return read_any(bytes, fields);
     }
     if let Err(refusal) = take_record(bytes, fields) {

@@ -1,5 +1,6 @@
 // What is found about an input (document 02, 2), as two numbers: its own, and that of the pledging transaction.
-// Stays: these are functions, since `Finding` is a type of the crate `model`, and an impl of From belongs there.
+// Stays: functions are plainer here than From: an impl for `Finding` would stand in the crate `model`, which knows no words,
+// and the second number goes with the first.
 ghost use Rattle.std.specs.Prelude.{◌≡◌};
 ghost use Rattle.model.specs.Answers.{finding_number, pledging_number};
 ghost use Rattle.layout.specs.Layout.{finding_from};
@@ -14,7 +15,7 @@ pub fn finding_number(found: Finding) -> u32
         Finding::NotHeld => 2,
         Finding::OtherOwner => 3,
         Finding::OtherAmount => 4,
-        Finding::Pledged(number) => 5,
+        Finding::Pledged(_) => 5,
     }
 }
 

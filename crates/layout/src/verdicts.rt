@@ -1,5 +1,6 @@
 // What is heard from a sender, as a number: 0 nothing, 1 no, 2 yes.
-// Stays: these are functions: neither `Option` nor `u32` is a type of this crate, so that no impl of From can stand here.
+// Stays: functions are plainer than a From: that would need a type of this crate around the Option, made and taken apart at
+// each word.
 ghost use Rattle.std.specs.Prelude.{◌≡◌};
 ghost use Rattle.model.specs.Said.{said_number};
 ghost use Rattle.layout.specs.Layout.{said_from};

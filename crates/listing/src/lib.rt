@@ -76,24 +76,21 @@ pub(crate) fn step(c: &mut Cluster, number: u64, bytes: &[u8], out: &mut [u8], a
         c.new out.new }
 {
     let reading = reader::read(bytes);
-    match reading.answer {
-        Ok(fields) => {
-            let answer = call(c, fields, reading.transaction);
-            let line = Line::of_step(number, place_of(answer, receiver_of(fields)), answer);
-            Listed {
-                at: line.store(out, at),
-                taken: reading.taken,
-                ends: false,
-            }
-        }
-        Err(refusal) => {
-            let line = Line::of_step(number, None, Err(refusal));
-            Listed {
-                at: line.store(out, at),
-                taken: reading.taken,
-                ends: ends_reading(refusal),
-            }
-        }
+    let Ok(fields) = reading.answer else {
+        let refusal = reading.answer.unwrap_err();
+        let line = Line::of_step(number, None, Err(refusal));
+        return Listed {
+            at: line.store(out, at),
+            taken: reading.taken,
+            ends: ends_reading(refusal),
+        };
+    };
+    let answer = call(c, fields, reading.transaction);
+    let line = Line::of_step(number, place_of(answer, receiver_of(fields)), answer);
+    Listed {
+        at: line.store(out, at),
+        taken: reading.taken,
+        ends: false,
     }
 }
 
@@ -126,6 +123,7 @@ pub fn list_records(
         used: 0,
         ends: false,
     };
+    // Stays: a while. It counts nothing; each record says how far it goes.
     while so_far.goes_on(bytes.len() - so_far.taken, wanted, out.len() - so_far.used) {
         let line = step(c, so_far.number, &bytes[so_far.taken..], out, so_far.used);
         so_far = Progress {

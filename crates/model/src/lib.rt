@@ -7,6 +7,8 @@ use transaction::refusal::Refusal;
 
 // A held token: its creator (making swap) and index (position), its owner (household) and amount (portions),
 // and the number of the transaction that it is pledged to, 0 for none. Its shard is the one that holds it.
+// Stays: 0 for none, which check 3 keeps from being a transaction's number: `State`, of which the theorem `true_findings`
+// speaks, says `pledge ≡ 0`, and so do the words that C is told.
 #[derive(Clone, Copy)]
 pub struct Token {
     pub creator: u32,
@@ -31,6 +33,8 @@ pub enum Finding {
 // A known transaction with the verdicts heard, by sender: None where nothing is heard, else Some of yes (true) or no
 // (false); and with what was found at its registration about its inputs at this shard, in input order: as many findings
 // as there are such inputs.
+// Stays: four places for findings, the count beside them being that of the inputs here: nothing is allocated, and the
+// definitions `keeping` and `told` say what stands in a place that is not used.
 #[derive(Clone, Copy)]
 pub struct Known {
     pub transaction: Transaction,
@@ -62,6 +66,7 @@ pub enum Done {
 pub type Answer = Result<Done, Refusal>;
 
 // The findings about the inputs of a known transaction: how many there are, and what they are, in input order.
+// Stays: a count beside four places, as in `Known`.
 #[derive(Clone, Copy)]
 pub struct Findings {
     pub count: u8,

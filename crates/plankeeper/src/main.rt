@@ -24,6 +24,7 @@ const RECORD: usize = 102;
 const ROOMY: usize = 61440;
 
 // Standard input, read in large pieces. The bytes from `at` to `end` are not yet listed.
+// Stays: `ended` beside the bytes. No field is void where it is set: bytes may be left when the input ends.
 #[derive(Drop)]
 struct Input {
     stream: Stdin,
@@ -83,6 +84,7 @@ impl Input {
     }
 
     // As many bytes as are wanted.
+    // Stays: a while. It counts nothing; it reads until there is enough.
     fn fill(&mut self)
         ensures { cond self.new.ended 0 RECORD ≤ self.new.end - self.new.at }
     {
@@ -163,6 +165,7 @@ fn list_all(cluster: &mut Cluster, input: &mut Input, output: &mut Output) -> io
 {
     let mut number = 1;
     input.fill();
+    // Input has no length beforehand, and a loop is proved to end: so its turns are counted, with room for any input.
     for _ in 0..u64::MAX {
         if input.unread().is_empty() {
             break;

@@ -40,6 +40,8 @@ pub enum Record {
 }
 
 // The fields that were read or the refusal, with the transaction beside them, and the bytes taken from the front.
+// Stays: a blank transaction beside a refusal, as the definitions `refusal` and `reading_of` have it, of which `Reads` and
+// the round trips of `codec` speak.
 #[derive(Clone, Copy)]
 pub struct Reading {
     pub answer: Result<Record, Refusal>,

@@ -1,6 +1,6 @@
 -- A turn: what comes free, one known transaction after the other, and the ledger that is left.
 use Prim.Native.Nat.{ℕ, ◌+◌, ◌≤◌, ◌<◌}
-use mathlib.Core.Path.{◌≡◌, refl, sym, ap, subst, ◌∙◌}
+use mathlib.Core.Path.{◌≡◌, refl, sym, ap, ◌∙◌}
 use mathlib.Core.Bool.{Bool, true, false, cond, ◌&&◌, ◌||◌, or-false}
 use mathlib.Core.List.{List, [], ◌∷◌, ◌++◌}
 use native.Mathlib.Omega.{arith}
@@ -10,7 +10,6 @@ use Rattle.transaction.proofs.Slots.{any_append}
 use Rattle.model.specs.declared.Token.{Token}
 use Rattle.model.specs.declared.Known.{Known}
 use Rattle.model.specs.declared.Outcome.{Outcome}
-use Rattle.model.specs.declared.Outcome.TheVariants.{Abort}
 use Rattle.model.specs.Steps.{Ledger, outcome_of, pledged_to, pledge_when, is_aborted, is_pledged_to, freeing, is_aborted_for, pledged_to_aborted, after_turn}
 use Rattle.model.proofs.Capacity.{freeing-length}
 use Rattle.model.proofs.Turned.{freeing-none}
@@ -48,16 +47,6 @@ freeing-more known k (t ∷ tokens) = λ i. token i ∷ freeing-more known k tok
 -- ---- The known transaction in a slot
 
 module _ (ws : List ℕ) (place : ℕ) where
-  -- what is freed by its outcome
-  abbrev Freed : Outcome → List ℕ → Type 0
-  Freed decided vs =
-      Changes (freeing (λ (t : Token). is_aborted decided && is_pledged_to (slot_known ws place).transaction.number t)) ws vs
-
-  pub aborted_frees : {decided : Outcome} {number : ℕ} → decided ≡ outcome_of (slot_known ws place) → decided ≡ Abort
-      → number ≡ (slot_known ws place).transaction.number → {vs : List ℕ} → Changes (freeing (is_pledged_to number)) ws vs
-      → Changes (freeing (is_bound_to (slot_known ws place))) ws vs
-  aborted_frees e a en {vs} p = subst (λ (o : Outcome). Freed o vs) (sym a ∙ e) (rw en at p)
-
   pub lives_frees : {decided : Outcome} → decided ≡ outcome_of (slot_known ws place) → is_aborted decided ≡ false → Room ws
       → Changes (freeing (is_bound_to (slot_known ws place))) ws ws
   lives_frees e n r =

@@ -117,14 +117,6 @@ module _ (ws vs : List ℕ) (k : Known) (g : Grows ws k vs) (h : (shard_of ws).h
       ap (λ (x : Shard). get_or x.transactions (shard_of ws).known no_known) g.is.is
       ∙ get_or-set_same (transactions_of ws) (shard_of ws).known k no_known (omega (arith, length-known ws))
 
--- two stores
-pub grown : {ws vs us : List ℕ} {k : Known} {n : ℕ} → n ≡ (shard_of ws).known → PutsKnown ws n k vs
-    → Becomes (with_known (shard_of vs) (n + 1)) us → Grows ws k us
-grown {ws} {vs} {us} {k} {n} e p q =
-    let is : shard_of us ≡ with_known (with_transactions (shard_of ws) (set (shard_of ws).transactions n k)) (n + 1) =
-    q.is ∙ ap (λ (x : Shard). with_known x (n + 1)) p.is in
-    record { is = record { is = rw (← e) is; long = q.long } }
-
 -- a known transaction changed
 module _ (ws vs : List ℕ) (place : ℕ) (k : Known) (p : PutsKnown ws place k vs) (h : (shard_of ws).held ≤ token_slots)
     (below : place < (shard_of ws).known) (most : (shard_of ws).known ≤ known_slots) where
@@ -168,14 +160,6 @@ module _ (ws vs : List ℕ) (ledger : Ledger) (count place : ℕ) (k : Known) (p
       let q = holds-leaves vs us s in
       let d = leaves-then {c = decided_on (number ws) ledger k ledger.known} p q (rw (settled_is, p.seen) refl) in
       record { long = d.long; seen = d.seen; numbered = d.numbered; holds = d.holds; knows = d.knows ∙ p.knows }
-
--- the outcome as it was told can be carried out, and is
-pub told_settling : {told is : Outcome} {place : ℕ} {ws : List ℕ} → told ≡ is → Settling is place ws → Settling told place ws
-told_settling {place = place} {ws = ws} e s = subst (λ (o : Outcome). Settling o place ws) (sym e) s
-
-pub told_settles : {told is : Outcome} (place : ℕ) (ws : List ℕ) {vs : List ℕ} → told ≡ is → Settles told place ws vs
-    → (told ≡ is) × Settles is place ws vs
-told_settles place ws {vs} e s = (e, subst (λ (o : Outcome). Settles o place ws vs) e s)
 
 -- a transaction entered
 module _ {own : Own} {t : Transaction} {ws : List ℕ} (pre : Entering own t ws) {vs : List ℕ} {k : Known}

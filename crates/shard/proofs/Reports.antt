@@ -2,15 +2,14 @@
 use Prim.Native.Nat.{ℕ}
 use mathlib.Core.Path.{◌≡◌, refl, sym, ap, ◌∙◌}
 use mathlib.Core.List.{List}
-use lib.ListN.{length, get_or}
+use lib.ListN.{get_or}
 use Rattle.std.specs.Prelude.{Bool, Ok, Err, Option, Some, None, ok_or}
 use Rattle.transaction.specs.declared.refusal.Refusal.{Refusal}
 use Rattle.transaction.specs.declared.refusal.Refusal.TheVariants.{NoSuchNumber}
 use Rattle.transaction.specs.Lists.{first_of}
 use Rattle.transaction.proofs.Tables.{first-stands, first-behind}
-use Rattle.model.specs.declared.Finding.{Finding}
 use Rattle.model.specs.declared.Findings.{Findings}
-use Rattle.model.specs.Steps.{inputs_here, nothing_known}
+use Rattle.model.specs.Steps.{nothing_known}
 use Rattle.model.specs.Shard.{is_numbered}
 use Rattle.model.specs.Findings.{report_form, report_rest, report_refusals, told, report}
 use Rattle.model.proofs.Reported.{report-told, report-refused}
@@ -19,14 +18,6 @@ use Rattle.layout.specs.Layout.{slot_known}
 use Rattle.layout.proofs.Ledgers.{known-length, known-entry}
 use Rattle.shard.specs.View.{view, Sound}
 use Rattle.shard.specs.View as shard
-
--- the parts that are read
-pub told-slot : (ws : List ℕ) (place : ℕ) {me count : ℕ} {found : List Finding} → me ≡ shard.number ws
-    → count ≡ length (inputs_here me (slot_known ws place).transaction) → found ≡ (slot_known ws place).findings
-    → record { count = count; list = found } ≡ told (shard.number ws) (slot_known ws place)
-told-slot ws place em ec ef =
-    let many = ec ∙ (λ i. length (inputs_here (em i) (slot_known ws place).transaction)) in
-    λ i. record { count = many i; list = ef i }
 
 -- the refusal of what was not found
 pub refusal-of : {A : Type 0} (o : Option A) {refusal other : Refusal} → Err refusal ≡ ok_or o other → refusal ≡ other

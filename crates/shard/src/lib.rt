@@ -33,6 +33,9 @@ pub struct Vote {
     pub transaction: Transaction,
 }
 
+// Stays: each call asks for `Sound`. C lends the words as an array, and without unsafe there is no loan of a struct with an invariant over
+// lent words.
+
 // An empty shard of that number, whatever the words were.
 pub fn new(s: &mut Words, me: u8)
     ensures { Fresh me s.new }
@@ -41,6 +44,8 @@ pub fn new(s: &mut Words, me: u8)
 }
 
 // An opening: the shard holds a genesis token.
+// Stays: index, owner and amount go on one by one, as C hands them over; two functions behind this one take them, and a struct would be
+// taken apart at once.
 pub fn mint_token(s: &mut Words, receiver: u8, index: u8, owner: u32, amount: u32) -> Answer
     requires { Sound s.old }
     ensures { Steps s.old (mint receiver index owner amount) result s.new }
@@ -64,45 +69,44 @@ pub fn hear_vote(s: &mut Words, receiver: u8, sender: u8, verdict: u8, t: Transa
     requires { Sound s.old }
     ensures { Steps s.old (deliver receiver sender verdict t) result s.new }
 {
-    refusals::deliver_form(own_number(s), receiver, sender, verdict, t)?;
     let vote = Vote {
         sender,
         verdict,
         transaction: t,
     };
-    hear_formed(s, vote)
+    refusals::deliver_form(own_number(s), receiver, &vote)?;
+    hear_formed(s, &vote)
 }
 
 // A vote to this shard that has passed 3 to 6. Internal: a cluster, which asks for 16 behind them, calls it so that they are asked for once.
-pub fn hear_formed(s: &mut Words, vote: Vote) -> Answer
+pub fn hear_formed(s: &mut Words, vote: &Vote) -> Answer
     requires sound { Sound s.old }
-    requires formed { first_of (deliver_form house (number s.old) (number s.old) vote.sender vote.verdict vote.transaction) ≡ Ok tt }
-    ensures { Steps s.old (deliver (number s.old) vote.sender vote.verdict vote.transaction) result s.new }
+    requires formed { first_of (deliver_form house (number s.old) (number s.old) vote.now.sender vote.now.verdict vote.now.transaction) ≡ Ok tt }
+    ensures { Steps s.old (deliver (number s.old) vote.now.sender vote.now.verdict vote.now.transaction) result s.new }
 {
-    let t = vote.transaction;
-    match place_of_number(s, t.number) {
+    match place_of_number(s, vote.transaction.number) {
         Some(place) => hear(s, place, vote),
         None => bring(s, vote),
     }
 }
 
 // One on an unknown number.
-fn bring(s: &mut Words, vote: Vote) -> Answer
+fn bring(s: &mut Words, vote: &Vote) -> Answer
     requires sound { Sound s.old }
-    requires formed { first_of (deliver_form house (number s.old) (number s.old) vote.sender vote.verdict vote.transaction) ≡ Ok tt }
-    requires unknown { is_unknown vote.transaction (view s.old).known ≡ true }
-    ensures { Steps s.old (deliver (number s.old) vote.sender vote.verdict vote.transaction) result s.new }
+    requires formed { first_of (deliver_form house (number s.old) (number s.old) vote.now.sender vote.now.verdict vote.now.transaction) ≡ Ok tt }
+    requires unknown { is_unknown vote.now.transaction (view s.old).known ≡ true }
+    ensures { Steps s.old (deliver (number s.old) vote.now.sender vote.now.verdict vote.now.transaction) result s.new }
 {
     refusals::bring_rest(s, vote)?;
     Ok(steps::carry_brought(s, vote))
 }
 
 // One on a known number, which stands at the place.
-fn hear(s: &mut Words, place: usize, vote: Vote) -> Answer
+fn hear(s: &mut Words, place: usize, vote: &Vote) -> Answer
     requires sound { Sound s.old }
-    requires formed { first_of (deliver_form house (number s.old) (number s.old) vote.sender vote.verdict vote.transaction) ≡ Ok tt }
-    requires there { position (is_numbered vote.transaction.number) (view s.old).known ≡ Some place }
-    ensures { Steps s.old (deliver (number s.old) vote.sender vote.verdict vote.transaction) result s.new }
+    requires formed { first_of (deliver_form house (number s.old) (number s.old) vote.now.sender vote.now.verdict vote.now.transaction) ≡ Ok tt }
+    requires there { position (is_numbered vote.now.transaction.number) (view s.old).known ≡ Some place }
+    ensures { Steps s.old (deliver (number s.old) vote.now.sender vote.now.verdict vote.now.transaction) result s.new }
 {
     refusals::hear_rest(s, place, vote)?;
     Ok(steps::carry_vote(s, place, vote))

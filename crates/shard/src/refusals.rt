@@ -122,32 +122,26 @@ pub(crate) fn register_refusal(s: &Words, receiver: u8, t: Transaction) -> Resul
 }
 
 // 3 to 6 of a vote. Internal: public because a cluster asks for them before 16.
-pub fn deliver_form(
-    me: u8,
-    receiver: u8,
-    sender: u8,
-    verdict: u8,
-    t: Transaction,
-) -> Result<(), Refusal>
-    ensures { result ≡ first_of (deliver_form house me receiver sender verdict t) }
+pub fn deliver_form(me: u8, receiver: u8, vote: &Vote) -> Result<(), Refusal>
+    ensures { result ≡ first_of (deliver_form house me receiver vote.now.sender vote.now.verdict vote.now.transaction) }
 {
     if receiver != me {
         return Err(Refusal::OutOfRange);
     }
-    vote_cause(128, receiver, sender, verdict, t)?;
-    if !takes_part(receiver, t) {
+    vote_cause(128, receiver, vote.sender, vote.verdict, vote.transaction)?;
+    if !takes_part(receiver, vote.transaction) {
         return Err(Refusal::NotTakingPart);
     }
-    if !takes_part(sender, t) {
+    if !takes_part(vote.sender, vote.transaction) {
         return Err(Refusal::NotTakingPart);
     }
     Ok(())
 }
 
 // 11, or 9, 10 and 17: a vote on an unknown number.
-pub(crate) fn bring_rest(s: &Words, vote: Vote) -> Result<(), Refusal>
+pub(crate) fn bring_rest(s: &Words, vote: &Vote) -> Result<(), Refusal>
     requires { Sound s.now }
-    ensures { result ≡ first_of (bring_rest house (number s.now) (view s.now) vote.sender vote.transaction) }
+    ensures { result ≡ first_of (bring_rest house (number s.now) (view s.now) vote.now.sender vote.now.transaction) }
 {
     if vote.sender == own_number(s) {
         return Err(Refusal::NumberUnknown);
@@ -156,10 +150,10 @@ pub(crate) fn bring_rest(s: &Words, vote: Vote) -> Result<(), Refusal>
 }
 
 // 7 and 12: a vote on a known number, which stands at the place.
-pub(crate) fn hear_rest(s: &Words, place: usize, vote: Vote) -> Result<(), Refusal>
+pub(crate) fn hear_rest(s: &Words, place: usize, vote: &Vote) -> Result<(), Refusal>
     requires sound { Sound s.now }
-    requires there { position (is_numbered vote.transaction.number) (view s.now).known ≡ Some place }
-    ensures { result ≡ first_of (hear_rest (view s.now) vote.sender vote.verdict vote.transaction) }
+    requires there { position (is_numbered vote.now.transaction.number) (view s.now).known ≡ Some place }
+    ensures { result ≡ first_of (hear_rest (view s.now) vote.now.sender vote.now.verdict vote.now.transaction) }
 {
     if is_other(s, place, vote.transaction) {
         return Err(Refusal::NumberTaken);

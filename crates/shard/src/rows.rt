@@ -81,11 +81,11 @@ fn is_other_verdict(heard: Option<bool>, verdict: u8) -> bool
 }
 
 // 12: the other verdict is heard from this sender. Asked where the transaction stands at the place.
-pub(crate) fn has_other_verdict(s: &Words, place: usize, vote: Vote) -> bool
+pub(crate) fn has_other_verdict(s: &Words, place: usize, vote: &Vote) -> bool
     requires sound { Sound s.now }
-    requires there { position (is_numbered vote.transaction.number) (view s.now).known ≡ Some place }
-    requires known { any (is_for vote.transaction) (view s.now).known ≡ true }
-    ensures { result ≡ other_verdict (heard_from vote.sender (entry_of vote.transaction (view s.now).known)) vote.verdict }
+    requires there { position (is_numbered vote.now.transaction.number) (view s.now).known ≡ Some place }
+    requires known { any (is_for vote.now.transaction) (view s.now).known ≡ true }
+    ensures { result ≡ other_verdict (heard_from vote.now.sender (entry_of vote.now.transaction (view s.now).known)) vote.now.verdict }
 {
     let heard = heard_at(s, place, vote.sender);
     is_other_verdict(heard, vote.verdict)

@@ -101,9 +101,9 @@ pub(crate) fn carry_registration(s: &mut Words, t: Transaction) -> Done
 }
 
 // A fresh vote on the known transaction in a slot: it is noted, and what it decides is done.
-fn fresh_vote(s: &mut Words, place: usize, vote: Vote) -> Outcome
-    requires { FreshVote place vote.sender vote.verdict s.old }
-    ensures { FreshDone place vote.sender vote.verdict s.old result s.new }
+fn fresh_vote(s: &mut Words, place: usize, vote: &Vote) -> Outcome
+    requires { FreshVote place vote.now.sender vote.now.verdict s.old }
+    ensures { FreshDone place vote.now.sender vote.now.verdict s.old result s.new }
 {
     let at = usize::from(vote.sender);
     put_heard(s, place, at, vote.verdict == 1);
@@ -111,11 +111,12 @@ fn fresh_vote(s: &mut Words, place: usize, vote: Vote) -> Outcome
 }
 
 // A vote that passes, on the known transaction whose number stands at a place.
-pub(crate) fn carry_vote(s: &mut Words, place: usize, vote: Vote) -> Done
+pub(crate) fn carry_vote(s: &mut Words, place: usize, vote: &Vote) -> Done
     requires sound { Sound s.old }
-    requires there { position (is_numbered vote.transaction.number) (view s.old).known ≡ Some place }
-    requires passed { first_of (deliver_refusals house (number s.old) (view s.old) (number s.old) vote.sender vote.verdict vote.transaction) ≡ Ok tt }
-    ensures { Steps s.old (deliver (number s.old) vote.sender vote.verdict vote.transaction) (Ok result) s.new }
+    requires there { position (is_numbered vote.now.transaction.number) (view s.old).known ≡ Some place }
+    requires passed { first_of (deliver_refusals house (number s.old) (view s.old) (number s.old)
+        vote.now.sender vote.now.verdict vote.now.transaction) ≡ Ok tt }
+    ensures { Steps s.old (deliver (number s.old) vote.now.sender vote.now.verdict vote.now.transaction) (Ok result) s.new }
 {
     match heard_at(s, place, vote.sender) {
         None => Done::Heard(fresh_vote(s, place, vote)),
@@ -124,11 +125,12 @@ pub(crate) fn carry_vote(s: &mut Words, place: usize, vote: Vote) -> Done
 }
 
 // A vote that passes on an unknown number brings its transaction (document 02, 6): the registration, and then the vote.
-pub(crate) fn carry_brought(s: &mut Words, vote: Vote) -> Done
+pub(crate) fn carry_brought(s: &mut Words, vote: &Vote) -> Done
     requires sound { Sound s.old }
-    requires unknown { is_unknown vote.transaction (view s.old).known ≡ true }
-    requires passed { first_of (deliver_refusals house (number s.old) (view s.old) (number s.old) vote.sender vote.verdict vote.transaction) ≡ Ok tt }
-    ensures { Steps s.old (deliver (number s.old) vote.sender vote.verdict vote.transaction) (Ok result) s.new }
+    requires unknown { is_unknown vote.now.transaction (view s.old).known ≡ true }
+    requires passed { first_of (deliver_refusals house (number s.old) (view s.old) (number s.old)
+        vote.now.sender vote.now.verdict vote.now.transaction) ≡ Ok tt }
+    ensures { Steps s.old (deliver (number s.old) vote.now.sender vote.now.verdict vote.now.transaction) (Ok result) s.new }
 {
     let place = known_count(s);
     let own = local_step(s, vote.transaction);

@@ -36,6 +36,8 @@ pub struct Output {
 }
 
 // A transaction (document 01: a swap). The counts say how many slots are used.
+// Stays: counts beside four slots. They are a record's raw fields, any value can be handed in, and check 3 (`fields_fit`)
+// says what is wrong with it; `used_inputs` and `used_outputs` are the slots in use.
 #[derive(Clone, Copy, PartialEq, Eq)]
 pub struct Transaction {
     pub number: u32,

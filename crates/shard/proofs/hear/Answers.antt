@@ -8,7 +8,7 @@ use Rattle.shard.proofs.hear.Goals as goal
 -- Refused for the cause that the rest of the table says.
 pub returns-in_err-hear_rest : goal.returns-in_err-hear_rest
 returns-in_err-hear_rest c =
-    let vote = c.args.vote in
+    let vote = c.args.vote.now in
     let t = vote.transaction in
     let at = stands (is_numbered t.number) (view c.args.s.now).known c.args.place c.requires.there in
     rw (passed_on c.from_residual.result c.from_residual.ensures.1)
@@ -17,7 +17,7 @@ returns-in_err-hear_rest c =
 -- Passed: no row of the whole table holds.
 pub carry_vote-requires : goal.carry_vote-requires
 carry_vote-requires c =
-    let vote = c.args.vote in
+    let vote = c.args.vote.now in
     let t = vote.transaction in
     let at = stands (is_numbered t.number) (view c.args.s.now).known c.args.place c.requires.there in
     record {

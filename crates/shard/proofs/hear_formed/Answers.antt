@@ -7,6 +7,6 @@ use Rattle.shard.proofs.hear_formed.Goals as goal
 -- The search has found none of the number.
 pub bring-requires-clause-unknown : goal.bring-requires-clause-unknown
 bring-requires-clause-unknown c =
-    let number = c.args.vote.transaction.number in
+    let number = c.args.vote.now.transaction.number in
     let none = nowhere (is_numbered number) (view c.args.s.now).known (sym c.in-None.ensures.found) in
     ap not none.none

@@ -1,6 +1,7 @@
 use Rattle.shard.proofs.Ledgers.{stepped-here}
 use Rattle.shard.proofs.local.local_step.Goals as goal
 
+-- Stays, though the check finds both alone: a wrong version (pledges_before_judging) is tried against these answers.
 -- The findings are read off the words as they were before the pledges.
 pub findings_here-findings-requires : goal.findings_here-findings-requires
 findings_here-findings-requires c = c.requires.held

@@ -1,12 +1,9 @@
 use Rattle.std.proofs.Common.{sym, ◌∙◌, arith}
 use Rattle.model.specs.Totals.{total_amount}
-use Rattle.loops.proofs.Loops.{sum-start, sum-next, sum_end}
+use Rattle.loops.proofs.Loops.{sum-next, sum_end}
 use Rattle.layout.specs.Layout.{view, no_token}
 use Rattle.shard.proofs.Asked.{held-slots}
 use Rattle.shard.proofs.queries.total_amount.Goals as goal
-
-pub loop-place-init : goal.loop-place-init
-loop-place-init c = record { fits = omega arith; sums = sum-start }
 
 pub loop-place-preserved : goal.loop-place-preserved
 loop-place-preserved c =

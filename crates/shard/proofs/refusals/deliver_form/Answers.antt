@@ -53,26 +53,31 @@ module _ (me receiver sender verdict : ℕ) (t : Transaction) where
 
 pub returns-then-receiver-me : goal.returns-then-receiver-me
 returns-then-receiver-me c =
-    other c.args.me c.args.receiver c.args.sender c.args.verdict c.args.t c.if-receiver-me.true
+    other c.args.me c.args.receiver
+    c.args.vote.now.sender c.args.vote.now.verdict c.args.vote.now.transaction c.if-receiver-me.true
 
 pub returns-in_err-vote_cause : goal.returns-in_err-vote_cause
 returns-in_err-vote_cause c =
     passed_on c.from_residual.result c.from_residual.ensures.1
-    ∙ stands c.args.me c.args.receiver c.args.sender c.args.verdict c.args.t c.if-receiver-me.false c.in_err-vote_cause.ensures
+    ∙ stands c.args.me c.args.receiver
+    c.args.vote.now.sender c.args.vote.now.verdict c.args.vote.now.transaction c.if-receiver-me.false c.in_err-vote_cause.ensures
 
 pub returns-then-not-takes_part : goal.returns-then-not-takes_part
 returns-then-not-takes_part c =
-    passed c.args.me c.args.receiver c.args.sender c.args.verdict c.args.t c.if-receiver-me.false c.in_ok-vote_cause.ensures
+    passed c.args.me c.args.receiver
+    c.args.vote.now.sender c.args.vote.now.verdict c.args.vote.now.transaction c.if-receiver-me.false c.in_ok-vote_cause.ensures
     (here-not c.takes_part.ensures (ap not c.if-not-takes_part.true))
 
 pub returns-then-not-takes_part-2 : goal.returns-then-not-takes_part-2
 returns-then-not-takes_part-2 c =
-    passed c.args.me c.args.receiver c.args.sender c.args.verdict c.args.t c.if-receiver-me.false c.in_ok-vote_cause.ensures
+    passed c.args.me c.args.receiver
+    c.args.vote.now.sender c.args.vote.now.verdict c.args.vote.now.transaction c.if-receiver-me.false c.in_ok-vote_cause.ensures
     (past-not c.takes_part.ensures (ap not c.if-not-takes_part.false)
     (here-not c.takes_part-2.ensures (ap not c.if-not-takes_part-2.true)))
 
 pub returns : goal.returns
 returns c =
-    passed c.args.me c.args.receiver c.args.sender c.args.verdict c.args.t c.if-receiver-me.false c.in_ok-vote_cause.ensures
+    passed c.args.me c.args.receiver
+    c.args.vote.now.sender c.args.vote.now.verdict c.args.vote.now.transaction c.if-receiver-me.false c.in_ok-vote_cause.ensures
     (past-not c.takes_part.ensures (ap not c.if-not-takes_part.false)
     (past-not c.takes_part-2.ensures (ap not c.if-not-takes_part-2.false) none))

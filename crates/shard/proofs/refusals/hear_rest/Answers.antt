@@ -9,7 +9,7 @@ use Rattle.shard.proofs.refusals.hear_rest.Goals as goal
 pub has_other_verdict-requires : goal.has_other_verdict-requires
 has_other_verdict-requires c =
     let among = (view c.args.s.now).known in
-    let t = c.args.vote.transaction in
+    let t = c.args.vote.now.transaction in
     let at = stands (is_numbered t.number) among c.args.place c.requires.there in
     record {
       sound = c.requires.sound;

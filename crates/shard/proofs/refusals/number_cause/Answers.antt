@@ -5,13 +5,8 @@ use Rattle.model.specs.Steps.{house}
 use Rattle.model.specs.Shard.{is_numbered, register_rest}
 use Rattle.loops.proofs.Positions.{stands}
 use Rattle.shard.specs.View.{number, view}
-use Rattle.shard.proofs.Tables.{Says, here, past, place-slot, other-is, for_is}
+use Rattle.shard.proofs.Tables.{Says, here, past, other-is, for_is}
 use Rattle.shard.proofs.refusals.number_cause.Goals as goal
-
-pub same_at-requires : goal.same_at-requires
-same_at-requires c =
-    let at = stands (is_numbered c.args.t.number) (view c.args.s.now).known c.args.place c.requires.there in
-    place-slot c.requires.sound c.args.t at
 
 pub returns-then-same_at : goal.returns-then-same_at
 returns-then-same_at c =

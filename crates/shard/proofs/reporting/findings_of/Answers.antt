@@ -1,7 +1,6 @@
-use Rattle.std.proofs.Common.{Err, sym, ap, ◌∙◌, arith}
+use Rattle.std.proofs.Common.{Err, sym, ap, ◌∙◌}
 use Rattle.model.specs.Shard.{is_numbered}
 use Rattle.loops.proofs.Positions.{stands, nowhere}
-use Rattle.layout.proofs.Ledgers.{known-length}
 use Rattle.shard.specs.View.{view}
 use Rattle.shard.proofs.Reports.{refusal-of, report-formed, report-unknown, report-there}
 use Rattle.shard.proofs.Tables.{passed_on}
@@ -22,13 +21,6 @@ returns-in_err-place c =
     passed_on c.from_residual-in_err-place.result c.from_residual-in_err-place.ensures.1
     ∙ ap Err (refusal-of c.place_of_number.result c.in_err-place.ensures.value)
     ∙ report-unknown c.requires c.args.shard c.args.number formed nowhere
-
--- It stands in one of the slots, and what is told of that is reported.
-pub told_at-requires : goal.told_at-requires
-told_at-requires c =
-    let found = sym c.place_of_number.ensures.found ∙ c.in_ok-place.ensures.ok_part in
-    let at = stands (is_numbered c.args.number) (view c.args.s.now).known c.in_ok-place.place found in
-    omega (arith, at.below, known-length c.args.s.now c.requires.known, c.requires.known)
 
 pub returns : goal.returns
 returns c =

@@ -2,13 +2,8 @@
 use Rattle.model.specs.Shard.{is_numbered}
 use Rattle.loops.proofs.Positions.{stands}
 use Rattle.shard.specs.View.{view}
-use Rattle.shard.proofs.Tables.{place-slot, other-is}
+use Rattle.shard.proofs.Tables.{other-is}
 use Rattle.shard.proofs.rows.is_other.Goals as goal
-
-pub same_at-requires : goal.same_at-requires
-same_at-requires c =
-    let at = stands (is_numbered c.args.t.number) (view c.args.s.now).known c.args.place c.requires.there in
-    place-slot c.requires.sound c.args.t at
 
 pub returns : goal.returns
 returns c =
