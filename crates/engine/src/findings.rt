@@ -1,5 +1,6 @@
 // What was found about the inputs of a known transaction (document 02, 2), as eight words: for each finding its number and
 // that of the pledging transaction.
+// Stays: a number for an answer, and zeros where there is no finding. include/plankeeper.h tells both, and the definition `findings_words`.
 ghost use Rattle.std.specs.Prelude.{◌≡◌, cond, ◌&&◌, ltb, [], ◌∷◌, slice_index_or, take};
 ghost use Rattle.model.specs.Answers.{finding_number, pledging_number};
 ghost use Rattle.model.specs.declared.Finding.TheVariants.{Available};
