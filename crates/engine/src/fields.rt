@@ -1,5 +1,6 @@
 // What was read of a record, as 42 words: kind, receiver, sender, verdict, index, owner, amount, and the transaction's
 // 35.
+// Stays: functions, and no `From`. Neither a record nor an array is a type of this crate, so that it would need a type around one of them.
 // Stays: kinds as numbers, and zeros for a field that a kind does not have and for a refused record. include/plankeeper.h tells them, and the
 // definitions `record_words` and `answer_words`.
 ghost use Rattle.std.specs.Prelude.{◌≡◌, ◌+◌, ◌++◌};

@@ -22,6 +22,7 @@ fn pair_at(count: u8, found: &[Finding; 4], k: usize) -> [u32; 2]
     }
 }
 
+// Stays: four places, and how many are used. So the report has them (`Findings`, in the model), and nothing is allocated.
 fn findings_words(count: u8, found: [Finding; 4]) -> [u32; 8]
     ensures { result ≡ findings_words 4 (take count found) }
 {

@@ -2,6 +2,8 @@
 // and tested while it is in a register, and no slot waits for another.
 // Of the 42 words seven stand in front of the transaction, then its number and its counts; from 10 on the inputs, five words each, from 30 on
 // the outputs, three each. In the bytes an input has 14, an output 9.
+// Stays: bytes with a place, and words with a place. Parts cut out of them are no plainer: the cut would stand at each call, and the part's
+// length in each contract.
 ghost use Rattle.std.specs.Prelude.{◌≡◌, ℕ, Bool, cond, ◌+◌, ◌*◌, ◌≤◌, List, [], ◌∷◌, ◌++◌, length};
 ghost use Rattle.std.proofs.lemmas.List.Edits.{sets};
 ghost use Rattle.transaction.specs.Lists.{slots_fit};

@@ -20,6 +20,7 @@ use transaction::fields::counts_fit;
 use transaction::refusal::Refusal;
 use transaction::{Input, Output};
 
+// Stays: kinds as numbers, with names. A kind is a byte of the record, and any may stand there: the definition `kind_of` tells it as a number.
 const REGISTER: u8 = 1; // the kind of a registration
 
 pub(crate) const VOTE: u8 = 2; // and that of a vote
@@ -41,8 +42,9 @@ fn in_range(fits: bool) -> Result<(), Refusal>
     }
 }
 
-// Checks 4 and 5 of a transaction that has passed check 3, by the places of its inputs and of its outputs. The slots are read here, one by one, and not
-// by the reader's functions for four of them, which are too large for the compiler to make them part of this one as well.
+// Checks 4 and 5 of a transaction that has passed check 3, by the places of its inputs and of its outputs.
+// Stays: the slots are read here, and not by the reader's functions for four of them. Those are too large for the compiler to make them part of
+// this one as well: 124 instructions of a vote went to them in the first version (docs/PROOF-NOTES.md, 11).
 fn last_cause(bytes: &[u8], inputs: usize, outputs: usize, count: u8) -> Result<(), Refusal>
     requires { (inputs + 56 ≤ length bytes.now) × (outputs + 36 ≤ length bytes.now) }
     ensures { LastOf (inputs_at bytes.now inputs) (outputs_at bytes.now outputs) count result }

@@ -38,6 +38,7 @@ pub fn number_of<T: Drop>(answer: Result<T, Refusal>) -> u32
 }
 
 // What a transaction has four of, an input or an output, as N words, both ways.
+// Stays: a trait of its own. Neither an input nor an array is a type of this crate, so that `From` would need a type around one of them.
 pub trait Slot<const N: usize>: Copy {
     ghost in_words: { Self → List ℕ };
 
