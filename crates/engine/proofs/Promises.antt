@@ -22,14 +22,6 @@ use Rattle.engine.specs.Fields.{reading_words, Fills}
 use Rattle.engine.specs.Writing.{code_of, Encodes}
 use Rattle.engine.specs.Calls.{cluster_called, shard_called, applied_as, applied, ClusterDoes, ShardDoes}
 
-pub fills : {bytes : List ℕ} {r : Reading} {number : ℕ} {after : List ℕ} → Reads bytes r → number ≡ number_of r.answer
-    → after ≡ reading_words r → Fills bytes number after
-fills reads en ea = record { answered = en ∙ reads.number; filled = ea ∙ ap reading_words reads.whole }
-
-pub encodes : {cause : Result Unit Refusal} {bytes before : List ℕ} {answer : Result ℕ Refusal} {code : ℕ} {after : List ℕ}
-    → Writes cause bytes before answer after → code ≡ code_of answer → Encodes cause bytes before code after
-encodes writes e = record { answered = e ∙ ap code_of writes.answered; lent = writes.lent }
-
 -- a record and what stands behind it are all of the bytes
 pub rest-length : (l : List ℕ) {rest : List ℕ} → rest ≡ rest_of l → taken_of l + length rest ≡ length l
 unfolding rest_of

@@ -19,7 +19,7 @@ use Rattle.transaction.specs.declared.Transaction.{Transaction}
 use Rattle.std.proofs.Common.{Result, Ok, Err, is_err}
 use Rattle.transaction.specs.declared.refusal.Refusal.{Refusal}
 use Rattle.transaction.specs.declared.refusal.Refusal.TheVariants.{TokenTwice, SumsDiffer}
-use Rattle.transaction.specs.Refusals.{refusal_number, number_of}
+use Rattle.transaction.specs.Refusals.{number_of}
 use Rattle.transaction.specs.Lists.{repeats, total, slots_fit}
 use Rattle.transaction.specs.Tokens.{same_input, same_output, zero_input, zero_output}
 use Rattle.transaction.specs.Checks.{
@@ -39,7 +39,7 @@ use Rattle.transaction.proofs.Causes.{fits-inputs, fit-outputs, cause_0, cause_4
 use Rattle.reader.specs.declared.Record.{Record}
 use Rattle.reader.specs.declared.Record.TheVariants.{Register, Vote, Mint, Turn}
 use Rattle.reader.specs.Layout.{byte_at, word_at, input_at, output_at, inputs_at, outputs_at, transaction_at}
-use Rattle.reader.specs.Reading.{kind_of, head_cause, record_at, transaction_in}
+use Rattle.reader.specs.Reading.{kind_of, head_cause, record_at, transaction_in, reading_of}
 use Rattle.reader.proofs.Cases.{front-fit, front-passes, reading_good, reading_bad}
 use Rattle.writer.proofs.Stores.{behind, front}
 use Rattle.words.specs.Words.{input_words, output_words, words_of}
@@ -229,17 +229,27 @@ no-error (Ok passed) e = refl
 no-error (Err cause) e = absurd cc
 
 module _ (l : List ℕ) (h : head_cause l ≡ Ok tt) {answer : Result Unit Refusal} {taken : List ℕ} (takes : TakesRecord l answer taken) where
-  pub fills-taken : answer ≡ Ok tt → Fills l 0 taken
-  unfolding answer_words reading_words
-  fills-taken none =
-      let good = reading_good l h {fields = record_at l} {t = transaction_in l} (sym takes.answered ∙ none) refl refl refl in
-      record { answered = ap (λ (x : Result Unit Refusal). number_of x) (sym none ∙ takes.answered); filled = takes.stored none ∙ ap reading_words good }
-
-  pub fills-refused : {cause : Refusal} → answer ≡ Err cause → {number : ℕ} → number ≡ refusal_number cause → Fills l number (replicate 42 0)
+  zeros : (found : Result Unit Refusal) → is_err found ≡ true → answer ≡ found → replicate 42 0 ≡ reading_words (reading_of l)
   unfolding answer_words reading_words words_of
-  fills-refused e en =
-      let bad = reading_bad l h (sym takes.answered ∙ e) refl in
-      record { answered = en ∙ ap (λ (x : Result Unit Refusal). number_of x) (sym e ∙ takes.answered); filled = ap reading_words bad }
+  zeros (Ok passed) e same = absurd cc
+  zeros (Err cause) e same = ap reading_words (reading_bad l h (sym takes.answered ∙ same) refl)
+
+  module _ {number : ℕ} {after : List ℕ} (en : number ≡ number_of answer) where
+    pub fills-taken : is_err answer ≡ false → after ≡ taken → Fills l number after
+    unfolding answer_words reading_words
+    fills-taken e ea =
+        let none = no-error answer e in
+        let good = reading_good l h {fields = record_at l} {t = transaction_in l} (sym takes.answered ∙ none) refl refl refl in
+        record {
+          answered = en ∙ ap (λ (x : Result Unit Refusal). number_of x) takes.answered;
+          filled = ea ∙ takes.stored none ∙ ap reading_words good;
+        }
+
+    pub fills-refused : is_err answer ≡ true → after ≡ replicate 42 0 → Fills l number after
+    fills-refused e ea = record {
+      answered = en ∙ ap (λ (x : Result Unit Refusal). number_of x) takes.answered;
+      filled = ea ∙ zeros answer e refl;
+    }
 
 -- the front passes, and its words and the transaction's are put one behind the other
 module _ (l : List ℕ) (h : head_cause l ≡ Ok tt) (k : (kind_of l ≡ 1) ⊎ (kind_of l ≡ 2)) {fit : Bool} (fits : fit ≡ front-fit l) (pass : fit ≡ true)

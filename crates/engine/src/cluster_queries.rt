@@ -1,5 +1,7 @@
 // What can be asked of a cluster: exported functions. Nothing is changed but the words lent for the answer. A shard
 // above 7 is an empty one; where findings are asked for, it is refused.
+// Stays: the C interface. include/plankeeper.h declares a function for a cluster and one for a lone shard, each by its own name: C has no generic functions.
+// Stays: that the memory is `Sound` is asked of each caller, since C lends it as a pointer.
 ghost use Rattle.std.specs.Prelude.{◌≡◌, length};
 ghost use Rattle.model.specs.Steps.{house};
 ghost use Rattle.model.specs.Cluster.{ledger_at};

@@ -1,4 +1,7 @@
 // A cluster (document 01: a round of eight pantries) in its caller's memory, and calls on it: exported functions.
+// Stays: the C interface. include/plankeeper.h declares a function for a cluster and one for a lone shard, each by its own name: C has no generic functions.
+// Stays: the C interface. C has one function for each kind of record, with that kind's fields as its arguments.
+// Stays: the words, receiver to amount, are arguments one by one, and that the memory is `Sound` is asked of each caller: C hands over words and pointers.
 ghost use Rattle.std.specs.Prelude.{◌≡◌, ◌*◌};
 ghost use Rattle.model.specs.Shard.{mint, register, deliver, turn};
 ghost use Rattle.layout.specs.Layout.{shard_words};
@@ -35,10 +38,9 @@ pub extern "C" fn plankeeper_apply(c: &mut Cluster, bytes: &[u8]) -> u32
     ensures { ClusterDoes (applied c.old bytes.now) result c.new }
 {
     let reading = reader::read(bytes);
-    let answer = reading.answer;
-    let t = reading.transaction;
-    match answer {
-        Ok(fields) => answer_code(call(c, fields, t)),
+    // Stays: a `match`. With `and_then` the proof did not close: what the closure leaves in the lent cluster has no name that an answer may cite.
+    match reading.answer {
+        Ok(fields) => answer_code(call(c, fields, reading.transaction)),
         Err(refusal) => refusal_number(refusal),
     }
 }

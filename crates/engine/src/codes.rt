@@ -1,4 +1,5 @@
 // An answer as one number.
+// Stays: numbers for answers, outcomes and refusals. They are the C interface's (include/plankeeper.h), and 100 + .. to 600 + .. fit no enum's discriminants.
 ghost use Rattle.std.specs.Prelude.{◌≡◌, ◌≤◌};
 ghost use Rattle.transaction.specs.Refusals.{refusal_number};
 ghost use Rattle.engine.specs.Codes.{outcome_code, voted_code, answer_code};

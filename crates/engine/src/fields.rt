@@ -1,10 +1,11 @@
 // What was read of a record, as 42 words: kind, receiver, sender, verdict, index, owner, amount, and the transaction's
 // 35.
+// Stays: functions, and no `From`. Neither a record nor an array is a type of this crate, so that it would need a type around one of them.
+// Stays: kinds as numbers, and zeros for a field that a kind does not have and for a refused record. include/plankeeper.h tells them, and the
+// definitions `record_words` and `answer_words`.
 ghost use Rattle.std.specs.Prelude.{◌≡◌, ◌+◌, ◌++◌};
-ghost use Rattle.transaction.specs.Refusals.{number_of};
 ghost use Rattle.engine.specs.Fields.{record_words, answer_words, reading_words};
 
-use crate::codes::refusal_number;
 use reader::{Reading, Record};
 use transaction::refusal::Refusal;
 use words::words_of;
@@ -57,16 +58,6 @@ fn answer_words(answer: Result<Record, Refusal>) -> [u32; 7]
     }
 }
 
-// The refusal's number; 0 where a record was read.
-pub(crate) fn number_of(answer: Result<Record, Refusal>) -> u32
-    ensures { result ≡ number_of answer }
-{
-    match answer {
-        Ok(_) => 0,
-        Err(refusal) => refusal_number(refusal),
-    }
-}
-
 // The one array with the other behind it, as one of K words.
 pub(crate) fn joined<const M: usize, const N: usize, const K: usize>(
     head: [u32; M],
@@ -85,7 +76,5 @@ pub(crate) fn joined<const M: usize, const N: usize, const K: usize>(
 pub(crate) fn fields_of(reading: Reading) -> [u32; 42]
     ensures { result ≡ reading_words reading }
 {
-    let answer = reading.answer;
-    let t = reading.transaction;
-    joined(answer_words(answer), words_of(t))
+    joined(answer_words(reading.answer), words_of(reading.transaction))
 }

@@ -1,5 +1,6 @@
 // What was found about the inputs of a known transaction (document 02, 2), as eight words: for each finding its number and
 // that of the pledging transaction.
+// Stays: a number for an answer, and zeros where there is no finding. include/plankeeper.h tells both, and the definition `findings_words`.
 ghost use Rattle.std.specs.Prelude.{◌≡◌, cond, ◌&&◌, ltb, [], ◌∷◌, slice_index_or, take};
 ghost use Rattle.model.specs.Answers.{finding_number, pledging_number};
 ghost use Rattle.model.specs.declared.Finding.TheVariants.{Available};
@@ -21,6 +22,7 @@ fn pair_at(count: u8, found: &[Finding; 4], k: usize) -> [u32; 2]
     }
 }
 
+// Stays: four places, and how many are used. So the report has them (`Findings`, in the model), and nothing is allocated.
 fn findings_words(count: u8, found: [Finding; 4]) -> [u32; 8]
     ensures { result ≡ findings_words 4 (take count found) }
 {

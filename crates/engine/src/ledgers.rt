@@ -1,4 +1,5 @@
 // What is told of a shard's ledger, as words: a held token's five, a known transaction's 43.
+// Stays: a number for an answer, and zeros for none. C has no Option: include/plankeeper.h tells both.
 ghost use Rattle.std.specs.Prelude.{◌≡◌, ◌++◌};
 ghost use Rattle.engine.specs.Queries.{held_code, token_words, known_code, known_words};
 

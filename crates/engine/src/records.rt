@@ -1,4 +1,6 @@
 // Records read and written, in document 01's bytes: exported functions. Any bytes and any words get an answer.
+// Stays: the C interface. C has one function for each kind of record, with that kind's fields as its arguments.
+// Stays: answers are numbers, and a refused record's words are zeros: include/plankeeper.h promises both to a program in C.
 ghost use Rattle.std.specs.Prelude.{◌≡◌, length};
 ghost use Rattle.reader.specs.Reading.{taken_of};
 ghost use Rattle.writer.specs.Layout.{register_bytes, vote_bytes, mint_bytes, turn_bytes};
@@ -8,10 +10,10 @@ ghost use Rattle.engine.specs.Fields.{Fills};
 ghost use Rattle.engine.specs.Writing.{code_of, Encodes};
 
 use crate::codes::refusal_number;
-use crate::fields::{fields_of, number_of};
+use crate::fields::fields_of;
 use crate::taking::{VOTE, take_record};
 use transaction::refusal::Refusal;
-use words::{narrow, transaction_from};
+use words::{narrow, number_of, transaction_from};
 
 // The record at the front of the bytes, of any kind, by way of what the reader hands back. It is kept out of
 // `plankeeper_read`, whose short way needs no room for a reading.
@@ -30,19 +32,14 @@ fn read_any(bytes: &[u8], fields: &mut [u32; 42]) -> u32
 pub extern "C" fn plankeeper_read(bytes: &[u8], fields: &mut [u32; 42]) -> u32
     ensures { Fills bytes.now result fields.new }
 {
-    // Stays: two tests, each with its call. As one test with `||` the call became part of this function, and reading in words took
-    // 1.75 times the baseline, where before it took 1.42.
-    if reader::head_cause(bytes).is_err() {
+    if reader::head_cause(bytes).is_err() || VOTE < bytes[0] {
         return read_any(bytes, fields);
     }
-    if VOTE < bytes[0] {
-        return read_any(bytes, fields);
-    }
-    if let Err(refusal) = take_record(bytes, fields) {
+    let answer = take_record(bytes, fields);
+    if answer.is_err() {
         *fields = [0; 42];
-        return refusal_number(refusal);
     }
-    0
+    number_of(answer)
 }
 
 // How many bytes the record at the front takes, refused or not; all of them where no whole record stands there.
@@ -60,6 +57,7 @@ fn code(answer: Result<usize, Refusal>) -> u64
     ensures { result ≡ code_of answer }
 {
     match answer {
+        // Stays: `as`, since usize has no From into u64.
         Ok(size) => size as u64,
         Err(refusal) => 1000 * u64::from(refusal_number(refusal)),
     }

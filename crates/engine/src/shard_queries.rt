@@ -1,4 +1,6 @@
 // What can be asked of a lone shard: exported functions. Nothing is changed but the words lent for the answer.
+// Stays: the C interface. include/plankeeper.h declares a function for a cluster and one for a lone shard, each by its own name: C has no generic functions.
+// Stays: that the memory is `Sound` is asked of each caller, since C lends it as a pointer.
 ghost use Rattle.std.specs.Prelude.{◌≡◌, length};
 ghost use Rattle.model.specs.Findings.{report};
 ghost use Rattle.shard.specs.View.{view, Sound};

@@ -1,4 +1,7 @@
 // A lone shard (document 01: a pantry) in its caller's memory, and calls on it: exported functions.
+// Stays: the C interface. include/plankeeper.h declares a function for a cluster and one for a lone shard, each by its own name: C has no generic functions.
+// Stays: the C interface. C has one function for each kind of record, with that kind's fields as its arguments.
+// Stays: the words, receiver to amount, are arguments one by one, and that the memory is `Sound` is asked of each caller: C hands over words and pointers.
 ghost use Rattle.std.specs.Prelude.{◌≡◌};
 ghost use Rattle.model.specs.Shard.{mint, register, deliver, turn};
 ghost use Rattle.layout.specs.Layout.{shard_words};

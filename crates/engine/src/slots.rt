@@ -2,6 +2,8 @@
 // and tested while it is in a register, and no slot waits for another.
 // Of the 42 words seven stand in front of the transaction, then its number and its counts; from 10 on the inputs, five words each, from 30 on
 // the outputs, three each. In the bytes an input has 14, an output 9.
+// Stays: bytes with a place, and words with a place. Parts cut out of them are no plainer: the cut would stand at each call, and the part's
+// length in each contract.
 ghost use Rattle.std.specs.Prelude.{◌≡◌, ℕ, Bool, cond, ◌+◌, ◌*◌, ◌≤◌, List, [], ◌∷◌, ◌++◌, length};
 ghost use Rattle.std.proofs.lemmas.List.Edits.{sets};
 ghost use Rattle.transaction.specs.Lists.{slots_fit};
@@ -15,9 +17,9 @@ use transaction::fields::{input_slot_fits, output_slot_fits};
 use transaction::{Input, Output};
 use words::Slot;
 
-pub(crate) const INPUT: usize = 14; // the bytes of an input
+pub(crate) const INPUT_BYTES: usize = 14; // the bytes of an input
 
-pub(crate) const OUTPUT: usize = 9; // the bytes of an output
+pub(crate) const OUTPUT_BYTES: usize = 9; // the bytes of an output
 
 // A slot that a record has: so many bytes, which are N words.
 pub(crate) trait Taken<const N: usize>: Slot<N> {
@@ -38,6 +40,7 @@ pub(crate) trait Taken<const N: usize>: Slot<N> {
         ensures { result ≡ read_at bytes.now place };
 
     // In range where it is used, all zero where it is not.
+    // Stays: `used` tells of one slot of the four; two functions for it would need the same `if` in each turn of the loop.
     fn fits(self, used: bool) -> bool
         ensures { result ≡ cond used (used_fits self) (unused_fits self) };
 }
@@ -45,7 +48,7 @@ pub(crate) trait Taken<const N: usize>: Slot<N> {
 impl Taken<5> for Input {
     ghost SIZE = { 14 };
 
-    const SIZE: usize = INPUT;
+    const SIZE: usize = INPUT_BYTES;
 
     ghost read_at = { input_at };
 
@@ -65,7 +68,7 @@ impl Taken<5> for Input {
 impl Taken<3> for Output {
     ghost SIZE = { 9 };
 
-    const SIZE: usize = OUTPUT;
+    const SIZE: usize = OUTPUT_BYTES;
 
     ghost read_at = { output_at };
 

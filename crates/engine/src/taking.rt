@@ -1,7 +1,8 @@
 // A record with a transaction, put straight from the bytes into the lent words and checked on the way. Where it is refused, some words
 // have been written.
-ghost use Rattle.std.specs.Prelude.{◌≡◌, Ok, ◌⊎◌, [], ◌∷◌, ◌+◌, ◌≤◌, length};
+ghost use Rattle.std.specs.Prelude.{◌≡◌, true, false, Ok, MatchResult, ◌⊎◌, [], ◌∷◌, ◌+◌, ◌≤◌, length};
 ghost use Rattle.std.proofs.lemmas.List.Edits.{sets};
+ghost use Rattle.transaction.specs.declared.refusal.Refusal.TheVariants.{OutOfRange};
 ghost use Rattle.reader.specs.Layout.{inputs_at, outputs_at};
 ghost use Rattle.reader.specs.Reading.{kind_of, head_cause};
 ghost use Rattle.reader.specs.declared.Record.TheVariants.{Register, Vote};
@@ -9,7 +10,7 @@ ghost use Rattle.engine.specs.Fields.{record_words};
 ghost use Rattle.engine.specs.Taking.{LastOf, TakesTransaction, TakesRecord};
 
 use crate::fields::record_words;
-use crate::slots::{INPUT, OUTPUT, take_slots};
+use crate::slots::{INPUT_BYTES, OUTPUT_BYTES, take_slots};
 use reader::Record;
 use reader::bodies::front_fits;
 use reader::layout::{input_at, output_at, word_at};
@@ -19,6 +20,7 @@ use transaction::fields::counts_fit;
 use transaction::refusal::Refusal;
 use transaction::{Input, Output};
 
+// Stays: kinds as numbers, with names. A kind is a byte of the record, and any may stand there: the definition `kind_of` tells it as a number.
 const REGISTER: u8 = 1; // the kind of a registration
 
 pub(crate) const VOTE: u8 = 2; // and that of a vote
@@ -29,17 +31,29 @@ const INPUTS: usize = FRONT + words::INPUTS;
 
 const OUTPUTS: usize = FRONT + words::OUTPUTS;
 
-// Checks 4 and 5 of a transaction that has passed check 3, by the places of its inputs and of its outputs. The slots are read here, one by one, and not
-// by the reader's functions for four of them, which are too large for the compiler to make them part of this one as well.
+// Check 3, by whether the fields fit.
+fn in_range(fits: bool) -> Result<(), Refusal>
+    ensures { MatchResult result (λ passed. fits ≡ true) (λ refusal. (fits ≡ false) × (refusal ≡ OutOfRange)) }
+{
+    if fits {
+        Ok(())
+    } else {
+        Err(Refusal::OutOfRange)
+    }
+}
+
+// Checks 4 and 5 of a transaction that has passed check 3, by the places of its inputs and of its outputs.
+// Stays: the slots are read here, and not by the reader's functions for four of them. Those are too large for the compiler to make them part of
+// this one as well: 124 instructions of a vote went to them in the first version (docs/PROOF-NOTES.md, 11).
 fn last_cause(bytes: &[u8], inputs: usize, outputs: usize, count: u8) -> Result<(), Refusal>
     requires { (inputs + 56 ≤ length bytes.now) × (outputs + 36 ≤ length bytes.now) }
     ensures { LastOf (inputs_at bytes.now inputs) (outputs_at bytes.now outputs) count result }
 {
-    let x = array::from_fn(|k| input_at(bytes, inputs + k * INPUT));
+    let x = array::from_fn(|k| input_at(bytes, inputs + k * INPUT_BYTES));
     if named_twice(count, x) {
         return Err(Refusal::TokenTwice);
     }
-    let y = array::from_fn(|k| output_at(bytes, outputs + k * OUTPUT));
+    let y = array::from_fn(|k| output_at(bytes, outputs + k * OUTPUT_BYTES));
     if input_total(x) != output_total(y) {
         return Err(Refusal::SumsDiffer);
     }
@@ -53,16 +67,10 @@ fn take_transaction(bytes: &[u8], at: usize, fields: &mut [u32; 42]) -> Result<(
     let number = word_at(bytes, at);
     let inputs = bytes[at + 4];
     let outputs = bytes[at + 5];
-    if !counts_fit(number, inputs, outputs) {
-        return Err(Refusal::OutOfRange);
-    }
+    in_range(counts_fit(number, inputs, outputs))?;
     fields[FRONT..INPUTS].copy_from_slice(&[number, u32::from(inputs), u32::from(outputs)]);
-    if !take_slots::<Input, 5>(bytes, at + 6, inputs, fields, INPUTS) {
-        return Err(Refusal::OutOfRange);
-    }
-    if !take_slots::<Output, 3>(bytes, at + 62, outputs, fields, OUTPUTS) {
-        return Err(Refusal::OutOfRange);
-    }
+    in_range(take_slots::<Input, 5>(bytes, at + 6, inputs, fields, INPUTS))?;
+    in_range(take_slots::<Output, 3>(bytes, at + 62, outputs, fields, OUTPUTS))?;
     last_cause(bytes, at + 6, at + 62, inputs)
 }
 
@@ -71,9 +79,7 @@ pub(crate) fn take_record(bytes: &[u8], fields: &mut [u32; 42]) -> Result<(), Re
     requires { (head_cause bytes.now ≡ Ok tt) × ((kind_of bytes.now ≡ 1) ⊎ (kind_of bytes.now ≡ 2)) }
     ensures { TakesRecord bytes.now result fields.new }
 {
-    if !front_fits(bytes) {
-        return Err(Refusal::OutOfRange);
-    }
+    in_range(front_fits(bytes))?;
     if bytes[0] == REGISTER {
         let front = Record::Register { receiver: bytes[1] };
         fields[..FRONT].copy_from_slice(&record_words(front));

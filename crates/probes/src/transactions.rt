@@ -5,7 +5,7 @@ ghost use Rattle.transaction.specs.Refusals.{number_of};
 ghost use Rattle.transaction.specs.Checks.{cause_of};
 ghost use Rattle.words.specs.Words.{yes, byte_of, transaction_from};
 
-use words::{narrow, transaction_from};
+use words::{narrow, number_of, transaction_from};
 
 // The first of 3, 4, 5 that fits, where a shard has so many genesis indices (document 01: opening positions); 0 for
 // none.
@@ -15,10 +15,7 @@ pub extern "C" fn probe_cause(genesis: u32, transaction: &[u32; 35]) -> u32
 {
     let limit = narrow(genesis);
     let t = transaction_from(transaction);
-    match transaction::checks::cause(limit, t) {
-        Ok(()) => 0,
-        Err(refusal) => u32::from(u8::from(refusal)),
-    }
+    number_of(transaction::checks::cause(limit, t))
 }
 
 // 1 where the shard (document 01: the pantry) takes part in the transaction, 0 where it does not.

@@ -25,14 +25,8 @@ fn record_worth(fields: Record, t: Transaction) -> u64
             sender,
             verdict,
         } => u64::from(receiver) + u64::from(sender) + u64::from(verdict) + transaction_worth(t),
-        Record::Register { receiver } => u64::from(receiver),
-        Record::Mint {
-            receiver: _,
-            index: _,
-            owner: _,
-            amount,
-        } => u64::from(amount),
-        Record::Turn { receiver } => u64::from(receiver),
+        Record::Register { receiver } | Record::Turn { receiver } => u64::from(receiver),
+        Record::Mint { amount, .. } => u64::from(amount),
     }
 }
 

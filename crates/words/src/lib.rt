@@ -4,9 +4,11 @@
 #![tactic(auto)]
 
 ghost use Rattle.std.specs.Prelude.{◌≡◌, ℕ, ◌+◌, ◌≤◌, List, length, refl};
+ghost use Rattle.transaction.specs.Refusals.{number_of};
 ghost use Rattle.words.specs.Words.{byte_of, input_at, output_at, transaction_from, input_words, output_words, words_of};
 
 use std::array;
+use transaction::refusal::Refusal;
 use transaction::{Input, Output, TokenId, Transaction};
 
 pub const INPUTS: usize = 3; // where the inputs begin
@@ -25,7 +27,18 @@ pub fn narrow(w: u32) -> u8
     u8::try_from(w).unwrap_or(255)
 }
 
+// An answer as a word: the refusal's number, and 0 where it is none.
+pub fn number_of<T: Drop>(answer: Result<T, Refusal>) -> u32
+    ensures { result ≡ number_of answer }
+{
+    match answer {
+        Ok(_) => 0,
+        Err(refusal) => u32::from(u8::from(refusal)),
+    }
+}
+
 // What a transaction has four of, an input or an output, as N words, both ways.
+// Stays: a trait of its own. Neither an input nor an array is a type of this crate, so that `From` would need a type around one of them.
 pub trait Slot<const N: usize>: Copy {
     ghost in_words: { Self → List ℕ };
 
@@ -50,11 +63,10 @@ impl Slot<5> for Input {
     ghost long = { λ _. refl };
 
     fn to_words(self) -> [u32; 5] {
-        let token = self.token;
         [
-            u32::from(token.shard),
-            token.creator,
-            u32::from(token.index),
+            u32::from(self.token.shard),
+            self.token.creator,
+            u32::from(self.token.index),
             self.owner,
             self.amount,
         ]

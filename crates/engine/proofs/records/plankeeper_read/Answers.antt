@@ -5,7 +5,7 @@ use Rattle.reader.specs.Reading.{head_cause}
 use Rattle.reader.proofs.Cases.{whole, first_kinds}
 use Rattle.engine.proofs.Taken.{fills-taken, fills-refused, no-error}
 use Rattle.engine.proofs.records.plankeeper_read.Goals as goal
-use Rattle.engine.proofs.records.plankeeper_read.Goals.{Else-is_err}
+use Rattle.engine.proofs.records.plankeeper_read.Goals.{Else-is_err, then-is_err-2, else-is_err-2}
 
 -- a whole record stands at the front
 head : (c : Else-is_err) → head_cause c.args.bytes.now ≡ Ok tt
@@ -16,17 +16,17 @@ bounds-bytes-0 c =
     let passes = head (goal.at.bounds-bytes-0 c).Else-is_err in
     omega (arith, whole c.args.bytes.now passes)
 
-pub take_record-requires : goal.take_record-requires
-take_record-requires c =
-    let passes = head (goal.at.take_record-requires c).Else-is_err in
+pub take_record-answer-requires : goal.take_record-answer-requires
+take_record-answer-requires c =
+    let passes = head (goal.at.take_record-answer-requires c).Else-is_err in
     (passes, first_kinds c.args.bytes.now passes c.if-bytes-gt-VOTE.false)
-
-pub returns-in-Err : goal.returns-in-Err
-returns-in-Err c =
-    let passes = head (goal.at.returns-in-Err c).Else-is_err in
-    fills-refused c.args.bytes.now passes c.take_record.ensures c.in-Err.is c.refusal_number.ensures
 
 pub returns : goal.returns
 returns c =
+    let l = c.args.bytes.now in
     let passes = head (goal.at.returns c).Else-is_err in
-    fills-taken c.args.bytes.now passes c.take_record.ensures c.in_default.is
+    let told = sym c.is_err-2.ensures.value in
+    elim c.if-is_err-2.branch [
+      | then-is_err-2 w ↦ fills-refused l passes c.take_record-answer.ensures c.number_of.ensures (told ∙ w.if-is_err-2.true) w.fields-is
+      | else-is_err-2 w ↦ fills-taken l passes c.take_record-answer.ensures c.number_of.ensures (told ∙ w.if-is_err-2.false) w.fields-is
+    ]
