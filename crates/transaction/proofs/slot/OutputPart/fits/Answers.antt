@@ -1,5 +1,5 @@
 use Rattle.transaction.specs.Checks.{output_fits}
-use Rattle.transaction.proofs.fields.output_fits.Goals as goal
+use Rattle.transaction.proofs.slot.OutputPart.fits.Goals as goal
 
 pub returns : goal.returns
 unfolding output_fits

@@ -1,5 +1,5 @@
 use Rattle.transaction.specs.Checks.{input_fits}
-use Rattle.transaction.proofs.fields.input_fits.Goals as goal
+use Rattle.transaction.proofs.slot.InputPart.fits.Goals as goal
 
 pub returns : goal.returns
 unfolding input_fits
