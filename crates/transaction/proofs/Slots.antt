@@ -109,11 +109,3 @@ listed f n (x ∷ xs) = rw (listed f n xs) refl
 pub any-of : {A : Type 0} (f : A → ℕ) (n : ℕ) (xs : List A) {found : Bool} → found ≡ list_any (λ x. eqb n (f x)) xs
     → found ≡ any (eqb n) (map f xs)
 any-of f n xs e = e ∙ listed f n xs
-
--- the library's test of a list
-listed_any : {A : Type 0} (f : A → Bool) (xs : List A) → list_any f xs ≡ any f xs
-listed_any f [] = refl
-listed_any f (x ∷ xs) = rw (listed_any f xs) refl
-
-pub any-is : {A : Type 0} (f : A → Bool) (xs : List A) {found : Bool} → found ≡ list_any f xs → found ≡ any f xs
-any-is f xs e = e ∙ listed_any f xs

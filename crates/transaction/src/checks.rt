@@ -1,7 +1,7 @@
 // The first fitting of the checks 3, 4 and 5: one function for the reader, the writers, a shard and the cluster.
 ghost use Rattle.std.specs.Prelude.{◌≡◌, take};
 ghost use Rattle.transaction.specs.Lists.{any, repeats, first_of};
-ghost use Rattle.transaction.specs.Checks.{same_name, cause_of, register_checks, vote_checks, mint_checks, turn_checks};
+ghost use Rattle.transaction.specs.Checks.{same_name, names, cause_of, register_checks, vote_checks, mint_checks, turn_checks};
 
 use crate::equality::same_token;
 use crate::fields::{fields_fit, mint_fits, shard_fits};
@@ -15,20 +15,24 @@ fn same_name(a: Input, b: Input) -> bool
     same_token(a.token, b.token)
 }
 
-// One of the others names the same token.
-fn named_among(a: Input, others: &[Input]) -> bool
-    ensures { result ≡ any (same_name a) others.now }
+// One of the earlier inputs names the same token.
+fn named_before(a: Input, earlier: &[Input]) -> bool
+    ensures { result ≡ any (names a) earlier.now }
 {
-    others.iter().any(|b| same_name(a, *b))
+    for b in earlier {
+        if same_name(*b, a) {
+            return true;
+        }
+    }
+    false
 }
 
 // Check 4: one token is named twice among the used inputs.
 pub fn named_twice(count: u8, x: [Input; 4]) -> bool
     ensures { result ≡ repeats same_name (take count x) }
 {
-    let used = &x[..usize::from(count).min(4)];
-    for (k, a) in used.iter().enumerate() {
-        if named_among(*a, &used[k + 1..]) {
+    for k in 0..usize::from(count).min(4) {
+        if named_before(x[k], &x[..k]) {
             return true;
         }
     }
