@@ -33,6 +33,10 @@ input_at l k =
 unfoldable pub output_at : List ℕ → ℕ → Output
 output_at l k = record { shard = byte_at l k; owner = word_at l (k + 1); amount = word_at l (k + 5) }
 
+-- four of one size, one behind the other
+abbrev pub four_at : {A : Type 0} → ℕ → (List ℕ → ℕ → A) → List ℕ → ℕ → List A
+four_at size read l k = read l k ∷ read l (k + size) ∷ read l (k + 2 * size) ∷ read l (k + 3 * size) ∷ []
+
 -- four inputs of 14, four outputs of 9
 unfoldable pub inputs_at : List ℕ → ℕ → List Input
 inputs_at l k = input_at l k ∷ input_at l (k + 14) ∷ input_at l (k + 28) ∷ input_at l (k + 42) ∷ []

@@ -1,17 +1,16 @@
 // What `read` is made of where the whole record is there.
 ghost use Rattle.std.specs.Prelude.{◌≡◌, cond, ◌&&◌, ◌⊎◌, ◌<◌, eqb, leb};
 ghost use Rattle.transaction.specs.Refusals.{answer_of};
-ghost use Rattle.transaction.specs.Checks.{house_genesis, shard_fits, cause_of};
+ghost use Rattle.transaction.specs.Checks.{shard_fits};
 ghost use Rattle.reader.specs.Layout.{byte_at};
 ghost use Rattle.reader.specs.Reading.{kind_of, head_cause, read_cause, record_at, taken_of, reading_of, refusal};
 
 use crate::layout::word_at;
 use crate::{Reading, Record};
-use transaction::checks::{input_total, named_twice, output_total};
-use transaction::fields::{counts_fit, outputs_fit, shard_fits, two_inputs_fit};
+use transaction::checks;
+use transaction::fields::shard_fits;
 use transaction::parts::blank;
 use transaction::refusal::Refusal;
-use transaction::{Transaction, checks};
 
 // A refusal, with the bytes that the record takes.
 pub(crate) fn refused(cause: Refusal, taken: usize) -> Reading
@@ -55,36 +54,6 @@ pub fn front_fits(bytes: &[u8]) -> bool
         return shard_fits(receiver);
     }
     shard_fits(receiver) & shard_fits(bytes[2]) & (bytes[3] <= 1)
-}
-
-// The checks 3, 4 and 5 of the transaction, made of the parts that `transaction::checks::cause` is made of.
-// `read` alone calls it, so that the compiler makes it part of `read`, and stores no field before all are checked.
-pub(crate) fn cause_of(t: Transaction) -> Result<(), Refusal>
-    ensures { result ≡ cause_of house_genesis t }
-{
-    let i = t.input_count;
-    let o = t.output_count;
-    if !counts_fit(t.number, i, o) {
-        return Err(Refusal::OutOfRange);
-    }
-    let x = t.inputs;
-    if !two_inputs_fit(128, 0 < i, 1 < i, x[0], x[1]) {
-        return Err(Refusal::OutOfRange);
-    }
-    if !two_inputs_fit(128, 2 < i, 3 < i, x[2], x[3]) {
-        return Err(Refusal::OutOfRange);
-    }
-    let y = t.outputs;
-    if !outputs_fit(o, y) {
-        return Err(Refusal::OutOfRange);
-    }
-    if named_twice(i, x) {
-        return Err(Refusal::TokenTwice);
-    }
-    if input_total(x) != output_total(y) {
-        return Err(Refusal::SumsDiffer);
-    }
-    Ok(())
 }
 
 fn read_mint(bytes: &[u8]) -> Result<Record, Refusal>

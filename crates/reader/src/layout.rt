@@ -1,75 +1,76 @@
 // The fields of a record at their places, high byte first.
-ghost use Rattle.std.specs.Prelude.{◌≡◌, ◌+◌, ◌≤◌, length};
-ghost use Rattle.reader.specs.Layout.{joined, word_at, input_at, output_at, inputs_at, outputs_at, transaction_at};
+ghost use Rattle.std.specs.Prelude.{◌≡◌, ℕ, List, ◌+◌, ◌*◌, ◌≤◌, length};
+ghost use Rattle.reader.specs.Layout.{word_at, input_at, output_at, four_at, transaction_at};
 
 use transaction::{Input, Output, TokenId, Transaction};
-
-fn wide(x: u8) -> u32
-    ensures { result ≡ x }
-{
-    x as u32
-}
-
-fn four(a: u8, b: u8, c: u8, d: u8) -> u32
-    ensures { result ≡ joined a b c d }
-{
-    ((wide(a) * 256 + wide(b)) * 256 + wide(c)) * 256 + wide(d)
-}
 
 pub fn word_at(bytes: &[u8], at: usize) -> u32
     requires { at + 4 ≤ length bytes.now }
     ensures { result ≡ word_at bytes.now at }
 {
-    four(bytes[at], bytes[at + 1], bytes[at + 2], bytes[at + 3])
+    u32::from_be_bytes([bytes[at], bytes[at + 1], bytes[at + 2], bytes[at + 3]])
 }
 
-pub fn input_at(bytes: &[u8], at: usize) -> Input
-    requires { at + 14 ≤ length bytes.now }
-    ensures { result ≡ input_at bytes.now at }
-{
-    Input {
-        token: TokenId {
+// What a transaction has four of: so many bytes, one behind the other.
+pub trait InBytes: Copy {
+    ghost SIZE: { ℕ };
+
+    const SIZE: usize;
+
+    ghost read_at: { List ℕ → ℕ → Self };
+
+    // The one whose bytes begin at that place.
+    fn from_bytes(bytes: &[u8], at: usize) -> Self
+        requires { at + SIZE ≤ length bytes.now }
+        ensures { result ≡ read_at bytes.now at };
+}
+
+impl InBytes for Input {
+    ghost SIZE = { 14 };
+
+    const SIZE: usize = 14;
+
+    ghost read_at = { input_at };
+
+    fn from_bytes(bytes: &[u8], at: usize) -> Input {
+        Input {
+            token: TokenId {
+                shard: bytes[at],
+                creator: word_at(bytes, at + 1),
+                index: bytes[at + 5],
+            },
+            owner: word_at(bytes, at + 6),
+            amount: word_at(bytes, at + 10),
+        }
+    }
+}
+
+impl InBytes for Output {
+    ghost SIZE = { 9 };
+
+    const SIZE: usize = 9;
+
+    ghost read_at = { output_at };
+
+    fn from_bytes(bytes: &[u8], at: usize) -> Output {
+        Output {
             shard: bytes[at],
-            creator: word_at(bytes, at + 1),
-            index: bytes[at + 5],
-        },
-        owner: word_at(bytes, at + 6),
-        amount: word_at(bytes, at + 10),
+            owner: word_at(bytes, at + 1),
+            amount: word_at(bytes, at + 5),
+        }
     }
 }
 
-pub fn output_at(bytes: &[u8], at: usize) -> Output
-    requires { at + 9 ≤ length bytes.now }
-    ensures { result ≡ output_at bytes.now at }
-{
-    Output {
-        shard: bytes[at],
-        owner: word_at(bytes, at + 1),
-        amount: word_at(bytes, at + 5),
-    }
-}
-
-fn inputs_at(bytes: &[u8], at: usize) -> [Input; 4]
-    requires { at + 56 ≤ length bytes.now }
-    ensures { result ≡ inputs_at bytes.now at }
+// Four of them, one behind the other.
+fn four_at<S: InBytes>(bytes: &[u8], at: usize) -> [S; 4]
+    requires { at + 4 * S.SIZE ≤ length bytes.now }
+    ensures { result ≡ four_at S.SIZE S.read_at bytes.now at }
 {
     [
-        input_at(bytes, at),
-        input_at(bytes, at + 14),
-        input_at(bytes, at + 28),
-        input_at(bytes, at + 42),
-    ]
-}
-
-fn outputs_at(bytes: &[u8], at: usize) -> [Output; 4]
-    requires { at + 36 ≤ length bytes.now }
-    ensures { result ≡ outputs_at bytes.now at }
-{
-    [
-        output_at(bytes, at),
-        output_at(bytes, at + 9),
-        output_at(bytes, at + 18),
-        output_at(bytes, at + 27),
+        S::from_bytes(bytes, at),
+        S::from_bytes(bytes, at + S::SIZE),
+        S::from_bytes(bytes, at + 2 * S::SIZE),
+        S::from_bytes(bytes, at + 3 * S::SIZE),
     ]
 }
 
@@ -77,13 +78,11 @@ pub(crate) fn transaction_at(bytes: &[u8], at: usize) -> Transaction
     requires { at + 98 ≤ length bytes.now }
     ensures { result ≡ transaction_at bytes.now at }
 {
-    let inputs = inputs_at(bytes, at + 6);
-    let outputs = outputs_at(bytes, at + 62);
     Transaction {
         number: word_at(bytes, at),
         input_count: bytes[at + 4],
         output_count: bytes[at + 5],
-        inputs: inputs,
-        outputs: outputs,
+        inputs: four_at(bytes, at + 6),
+        outputs: four_at(bytes, at + 62),
     }
 }

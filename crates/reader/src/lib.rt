@@ -7,8 +7,8 @@ ghost use Rattle.std.specs.Prelude.{◌≡◌, MatchResult};
 ghost use Rattle.reader.specs.Reading.{Reads, head_cause, taken_of, rest_of};
 ghost use Rattle.reader.specs.Layout.{body_length};
 
-use transaction::Transaction;
 use transaction::refusal::Refusal;
+use transaction::{Transaction, checks};
 
 pub mod layout; // fields at their places
 pub mod bodies; // what `read` is made of
@@ -103,7 +103,7 @@ pub fn read(bytes: &[u8]) -> Reading
         return bodies::refused(Refusal::OutOfRange, size);
     }
     let transaction = layout::transaction_at(bytes, size - 98);
-    if let Err(cause) = bodies::cause_of(transaction) {
+    if let Err(cause) = checks::cause(128, transaction) {
         return bodies::refused(cause, size);
     }
     Reading {

@@ -4,7 +4,6 @@ use mathlib.Core.Path.{◌≡◌, refl, sym, ap}
 use mathlib.Core.Bool.{Bool, true, false, ◌&&◌}
 use borrow.Author.Tests.{eq-eqb, ne_eqb}
 use lib.Dec.{eqb}
-use lib.ListN.{length}
 use Rattle.std.proofs.Common.{Ok, Err}
 use Rattle.transaction.specs.declared.refusal.Refusal.TheVariants.{OutOfRange, TokenTwice, SumsDiffer}
 use Rattle.transaction.specs.declared.Input.{Input}
@@ -23,7 +22,7 @@ use Rattle.transaction.specs.Checks.{
   balanced,
   cause_of,
 }
-use Rattle.transaction.proofs.Slots.{and_left, and_right, total-used, slot, pair_0, pair_1}
+use Rattle.transaction.proofs.Slots.{and_left, and_right, total-used}
 use Rattle.transaction.proofs.Same.{same_input_equal, same_output_equal}
 
 -- an unused slot holds no amount
@@ -44,19 +43,6 @@ module _ (genesis : ℕ) (t : Transaction) where
   pub counts : fields_fit genesis t ≡ true → counts_fit t ≡ true
   unfolding fields_fit
   counts h = and_left (counts_fit t) fits-inputs (and_left (counts_fit t && fits-inputs) fits-outputs h)
-
-  -- the test of an input's slot
-  abbrev input-slot : ℕ → Bool
-  input-slot = slot zero_input t.inputs (input_fits genesis) (same_input zero_input) t.input_count
-
-  -- the inputs, two slots at a time, up to the first two that do not pass
-  module _ (long : length t.inputs ≡ 4) {p : Bool} (ep : p ≡ (input-slot 0 && input-slot 1)) where
-    pub two_fail : p ≡ false → false ≡ fits-inputs
-    two_fail n = pair_0 zero_input t.inputs long (input_fits genesis) (same_input zero_input) t.input_count ep n
-
-    pub two-pass : p ≡ true → {q : Bool} → q ≡ (input-slot 2 && input-slot 3) → q ≡ fits-inputs
-    two-pass y eq =
-        pair_1 zero_input t.inputs long (input_fits genesis) (same_input zero_input) t.input_count ep y eq
 
   -- check 3 from its parts, up to the first that fails
   pub fit-counts : false ≡ counts_fit t → false ≡ fields_fit genesis t

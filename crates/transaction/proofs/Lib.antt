@@ -3,3 +3,4 @@ pub mod Same
 pub mod Causes
 pub mod Long
 pub mod Tables
+pub mod Walks

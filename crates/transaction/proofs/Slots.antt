@@ -1,7 +1,7 @@
 -- Lists of four slots with a count of the used ones: what the functions of specs/Lists say of them, slot by slot.
 use Prim.Native.Nat.{ℕ, zero, suc, ◌+◌, ◌<◌}
 use mathlib.Core.Path.{◌≡◌, refl, sym, ap, ◌∙◌}
-use mathlib.Core.Bool.{Bool, true, false, cond, ◌&&◌, ◌||◌, and_assoc, and-true, or_assoc, or-false, false≢true}
+use mathlib.Core.Bool.{Bool, true, false, cond, ◌&&◌, ◌||◌, and_assoc, and-true, or_assoc, false≢true}
 use mathlib.Core.List.{List, [], ◌∷◌, ◌++◌, map}
 use native.Mathlib.Omega.{arith}
 use borrow.Author.Tests.{lt-ltb}
@@ -20,19 +20,6 @@ four d (a ∷ b ∷ c ∷ []) h = absurd (omega arith)
 four d (a ∷ b ∷ c ∷ e ∷ []) h = refl
 four d (a ∷ b ∷ c ∷ e ∷ f ∷ x) h = absurd (omega arith)
 
--- the tests of one to three slots, with and without those that fail for the count
-or_1 : (p : Bool) → p || false ≡ p || false || false || false
-or_1 true = refl
-or_1 false = refl
-
-or_2 : (p q : Bool) → p || (q || false) ≡ p || q || false || false
-or_2 true q = refl
-or_2 false q = sym (or_assoc q false false)
-
-or_3 : (p q r : Bool) → p || (q || (r || false)) ≡ p || q || r || false
-or_3 true q r = refl
-or_3 false q r = sym (or_assoc q r false)
-
 -- a count of four or more passes each test of the count
 pub above : (n k : ℕ) → k < 4 → ltb k (suc (suc (suc (suc n)))) ≡ true
 above n k h = lt-ltb k (suc (suc (suc (suc n)))) (omega arith)
@@ -50,18 +37,6 @@ module _ {A : Type 0} (u z : A → Bool) (a b c e : A) where
       rw (above n 0 (omega arith), above n 1 (omega arith), above n 2 (omega arith), above n 3 (omega arith))
       (rw (take-nil {A = A} n, drop-nil {A = A} n) (simp (and_assoc, and-true)))
 
-module _ {A : Type 0} (f : A → Bool) (a b c e : A) where
-  any_of : (n : ℕ)
-      → any f (take n (a ∷ b ∷ c ∷ e ∷ []))
-      ≡ ltb 0 n && f a || ltb 1 n && f b || ltb 2 n && f c || ltb 3 n && f e
-  any_of zero = refl
-  any_of (suc zero) = or_1 (f a)
-  any_of (suc (suc zero)) = or_2 (f a) (f b)
-  any_of (suc (suc (suc zero))) = or_3 (f a) (f b) (f c)
-  any_of (suc (suc (suc (suc n)))) =
-      rw (above n 0 (omega arith), above n 1 (omega arith), above n 2 (omega arith), above n 3 (omega arith))
-      (rw (take-nil {A = A} n) (simp (or_assoc, or-false)))
-
 -- the test of the slot at a place
 abbrev pub slot : {A : Type 0} → A → List A → (A → Bool) → (A → Bool) → ℕ → ℕ → Bool
 slot d x u z n place = cond (ltb place n) (u (get_or x place d)) (z (get_or x place d))
@@ -74,19 +49,6 @@ module _ {A : Type 0} (d : A) (x : List A) (long : length x ≡ 4) where
   slots-by u z n ep eq er es =
       rw (ep, eq, er, es)
       (sym (slots-of u z (get_or x 0 d) (get_or x 1 d) (get_or x 2 d) (get_or x 3 d) n) ∙ ap (slots_fit u z n) (four d x long))
-
-  -- two slots at a time, up to the first two that do not pass
-  module _ (u z : A → Bool) (n : ℕ) {p : Bool} (ep : p ≡ (slot d x u z n 0 && slot d x u z n 1)) where
-    pairs_by : {q : Bool} → q ≡ (slot d x u z n 2 && slot d x u z n 3) → p && q ≡ slots_fit u z n x
-    pairs_by eq =
-        let both = and_assoc (slot d x u z n 0 && slot d x u z n 1) (slot d x u z n 2) (slot d x u z n 3) in
-        rw (ep, eq) (sym both ∙ slots-by u z n refl refl refl refl)
-
-    pub pair_0 : p ≡ false → false ≡ slots_fit u z n x
-    pair_0 np = rw np at (pairs_by refl)
-
-    pub pair_1 : p ≡ true → {q : Bool} → q ≡ (slot d x u z n 2 && slot d x u z n 3) → q ≡ slots_fit u z n x
-    pair_1 yp eq = rw yp at (pairs_by eq)
 
   -- slot by slot, up to the first that does not pass
   module _ (u z : A → Bool) (n : ℕ) where
@@ -103,15 +65,6 @@ module _ {A : Type 0} (d : A) (x : List A) (long : length x ≡ 4) where
 
         pub slot_3 : slot d x u z n 2 ≡ true → {s : Bool} → s ≡ slot d x u z n 3 → s ≡ slots_fit u z n x
         slot_3 y2 es = rw (y0, y1, y2) at (slots-by u z n refl refl refl es)
-
-  -- some used slot passes
-  pub any-by : (f : A → Bool) (n : ℕ) {p q r s : Bool}
-      → p ≡ f (get_or x 0 d) → q ≡ f (get_or x 1 d) → r ≡ f (get_or x 2 d) → s ≡ f (get_or x 3 d)
-      → ltb 0 n && p || ltb 1 n && q || ltb 2 n && r || ltb 3 n && s ≡ any f (take n x)
-  any-by f n ep eq er es =
-      rw (ep, eq, er, es)
-      (sym (any_of f (get_or x 0 d) (get_or x 1 d) (get_or x 2 d) (get_or x 3 d) n)
-      ∙ ap (λ (l : List A). any f (take n l)) (four d x long))
 
 -- Sums: unused slots that are zero add nothing.
 pub total-append : {A : Type 0} (f : A → ℕ) (x y : List A) → total f (x ++ y) ≡ total f x + total f y

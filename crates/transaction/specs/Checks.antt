@@ -56,6 +56,10 @@ fields_fit genesis t =
 unfoldable pub same_name : Input → Input → Bool
 same_name x y = same_token x.token y.token
 
+-- the same, asked of an earlier input
+abbrev pub names : Input → Input → Bool
+names x y = same_name y x
+
 unfoldable pub named_twice : Transaction → Bool
 named_twice t = repeats same_name (used_inputs t)
 

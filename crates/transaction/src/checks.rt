@@ -1,12 +1,13 @@
 // The first fitting of the checks 3, 4 and 5: one function for the reader, the writers, a shard and the cluster.
-ghost use Rattle.std.specs.Prelude.{◌≡◌, ◌<◌, take};
-ghost use Rattle.transaction.specs.Lists.{repeats, total, first_of};
-ghost use Rattle.transaction.specs.Checks.{same_name, input_amount, output_amount, cause_of, register_checks, vote_checks, mint_checks, turn_checks};
+ghost use Rattle.std.specs.Prelude.{◌≡◌, take};
+ghost use Rattle.transaction.specs.Lists.{any, repeats, first_of};
+ghost use Rattle.transaction.specs.Checks.{same_name, names, cause_of, register_checks, vote_checks, mint_checks, turn_checks};
 
 use crate::equality::same_token;
 use crate::fields::{fields_fit, mint_fits, shard_fits};
 use crate::refusal::Refusal;
-use crate::{Input, Output, Transaction};
+use crate::slot::total;
+use crate::{Input, Transaction};
 
 fn same_name(a: Input, b: Input) -> bool
     ensures { result ≡ same_name a b }
@@ -14,56 +15,28 @@ fn same_name(a: Input, b: Input) -> bool
     same_token(a.token, b.token)
 }
 
+// One of the earlier inputs names the same token.
+fn named_before(a: Input, earlier: &[Input]) -> bool
+    ensures { result ≡ any (names a) earlier.now }
+{
+    for b in earlier {
+        if same_name(*b, a) {
+            return true;
+        }
+    }
+    false
+}
+
 // Check 4: one token is named twice among the used inputs.
 pub fn named_twice(count: u8, x: [Input; 4]) -> bool
     ensures { result ≡ repeats same_name (take count x) }
 {
-    let a = x[0];
-    let b = x[1];
-    if count < 2 {
-        return false;
+    for k in 0..usize::from(count).min(4) {
+        if named_before(x[k], &x[..k]) {
+            return true;
+        }
     }
-    if same_name(a, b) {
-        return true;
-    }
-    let c = x[2];
-    if count < 3 {
-        return false;
-    }
-    if same_name(a, c) | same_name(b, c) {
-        return true;
-    }
-    let d = x[3];
-    if count < 4 {
-        return false;
-    }
-    same_name(a, d) | same_name(b, d) | same_name(c, d)
-}
-
-fn wide(amount: u32) -> u64
-    ensures { (result ≡ amount) × (result < 4294967296) }
-{
-    amount as u64
-}
-
-pub fn input_total(x: [Input; 4]) -> u64
-    ensures { result ≡ total input_amount x }
-{
-    let a = x[0];
-    let b = x[1];
-    let c = x[2];
-    let d = x[3];
-    wide(a.amount) + wide(b.amount) + wide(c.amount) + wide(d.amount)
-}
-
-pub fn output_total(y: [Output; 4]) -> u64
-    ensures { result ≡ total output_amount y }
-{
-    let a = y[0];
-    let b = y[1];
-    let c = y[2];
-    let d = y[3];
-    wide(a.amount) + wide(b.amount) + wide(c.amount) + wide(d.amount)
+    false
 }
 
 // All four slots are summed: check 3 has passed, so that unused ones add nothing.
@@ -78,8 +51,7 @@ pub fn cause(genesis: u8, t: Transaction) -> Result<(), Refusal>
     if named_twice(count, x) {
         return Err(Refusal::TokenTwice);
     }
-    let y = t.outputs;
-    if input_total(x) != output_total(y) {
+    if total(x) != total(t.outputs) {
         return Err(Refusal::SumsDiffer);
     }
     Ok(())

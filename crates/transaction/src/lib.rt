@@ -1,11 +1,12 @@
 // The plain types that every part of the engine speaks of, the field checks 3, 4 and 5, and equality.
 // Fields are raw: every value can be handed in, and the checks say what is wrong with it.
 // The interface: the types; `checks::cause`, `register_cause`, `vote_cause`, `mint_cause` and `turn_cause`; `equality::same_transaction`; all of `parts`.
-// Internal, and public only because the crates `reader` and `engine` are made of them: `fields`, and the rest of `checks`.
+// Internal, and public only because the crates `reader` and `engine` are made of them: `slot`, `fields`, and the rest of `checks`.
 #![tactic(auto)]
 
 pub mod refusal; // the table of refusals
 pub mod equality; // every field agrees
+pub mod slot; // what stands in a slot, an input or an output
 pub mod fields; // check 3
 pub mod checks; // checks 3, 4 and 5 in their order
 pub mod parts; // the used slots, and the shards that take part

@@ -2,7 +2,7 @@
 ghost use Rattle.std.specs.Prelude.{◌≡◌, take};
 ghost use Rattle.transaction.specs.Tokens.{used_inputs, used_outputs, used_input, used_output, takes_part, blank_transaction};
 
-use crate::{Input, Output, TokenId, Transaction};
+use crate::{Input, Output, Transaction};
 
 // The first slots of four, as many as the count says.
 fn used<T>(slots: &[T; 4], count: u8) -> &[T]
@@ -52,25 +52,11 @@ pub fn takes_part(shard: u8, t: Transaction) -> bool
 pub fn blank() -> Transaction
     ensures { result ≡ blank_transaction }
 {
-    let i = Input {
-        token: TokenId {
-            shard: 0,
-            creator: 0,
-            index: 0,
-        },
-        owner: 0,
-        amount: 0,
-    };
-    let o = Output {
-        shard: 0,
-        owner: 0,
-        amount: 0,
-    };
     Transaction {
         number: 0,
         input_count: 0,
         output_count: 0,
-        inputs: [i; 4],
-        outputs: [o; 4],
+        inputs: [Input::ZERO; 4],
+        outputs: [Output::ZERO; 4],
     }
 }

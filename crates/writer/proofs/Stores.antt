@@ -1,10 +1,15 @@
 -- Stores one behind the other are one store of the bytes joined.
-use Prim.Native.Nat.{ℕ, suc, ◌+◌, ◌/◌, ◌%◌, ◌≤◌}
-use native.Mathlib.Nat.{add-zero, add-suc, suc-add, zero-add}
+use Prim.Native.Nat.{ℕ, suc, ◌+◌, ◌-◌, ◌*◌, ◌/◌, ◌%◌, ◌<◌, ◌≤◌}
+use native.Mathlib.Nat.{add-zero, add-suc, suc-add, zero-add, suc-mul}
+use native.Mathlib.Numerals.{add-one}
+use native.Mathlib.Omega.{arith}
 use mathlib.Core.Path.{◌≡◌, refl, sym, ap, ◌∙◌}
-use mathlib.Core.List.{List, [], ◌∷◌, ◌++◌}
-use lib.ListN.{length, drop, get_or}
-use lib.Seq.{sets, sets-eq}
+use mathlib.Core.List.{List, [], ◌∷◌, ◌++◌, append_assoc, append-nil}
+use lib.ListN.{length, take, drop, get_or}
+use lib.Seq.{sets, sets-eq, drop-cons}
+use borrow.Rule.Slice.PartMut.{post_of, put_mid, Post-is}
+use Rattle.std.specs.Int.{w32, to_be_bytes}
+use Rattle.transaction.proofs.Slots.{four}
 use Rattle.transaction.specs.declared.Input.{Input}
 use Rattle.transaction.specs.declared.Output.{Output}
 use Rattle.transaction.specs.declared.Transaction.{Transaction}
@@ -16,6 +21,7 @@ use Rattle.writer.specs.Layout.{
   output_bytes,
   inputs_bytes,
   outputs_bytes,
+  bytes_of_all,
   transaction_bytes,
   register_bytes,
   vote_bytes,
@@ -63,21 +69,31 @@ unfolding turn_bytes
 length-turn r = refl
 
 -- Runs of stores: the parts of a record, each stored right behind the one before it.
-pub word-run : (l : List ℕ) (at v : ℕ) {a b c d : List ℕ}
-    → a ≡ sets l at (byte_of (v / 16777216))
-    → b ≡ sets a (at + 1) (byte_of (v / 65536 % 256))
-    → c ≡ sets b (at + 2) (byte_of (v / 256 % 256))
-    → d ≡ sets c (at + 3) (byte_of (v % 256))
-    → d ≡ sets l at (word_of v)
+-- a number copied into the part of the bytes that is as long
+pub word-put : (l : List ℕ) (at v : ℕ) {copy : List ℕ} → v < 4294967296 → copy ≡ to_be_bytes w32 v → at + 4 ≤ length l
+    → put_mid at (at + 4 - at) l copy ≡ sets l at (word_of v)
 unfolding word_of
-word-run l at v e1 e2 e3 e4 =
-    let one = byte_of (v / 16777216) in
-    let two = byte_of (v / 65536 % 256) in
-    let three = byte_of (v / 256 % 256) in
-    let four = byte_of (v % 256) in
-    behind l at (one ++ two ++ three) four 3 refl
-    (behind l at (one ++ two) three 2 refl
-    (behind l at one two 1 refl e1 e2) e3) e4
+word-put l at v {copy} small e room =
+    let first : v / 16777216 % 256 ≡ v / 16777216 = omega arith in
+    let is : copy ≡ word_of v = e ∙ rw first refl in
+    sym (append_assoc (take at l) copy (post_of at (at + 4 - at) l))
+    ∙ rw (is, Post-is at (at + 4) l (omega arith))
+    (sym (sets-eq (word_of v) l at room))
+
+-- several, each stored right behind the one before
+pub all-next : {A : Type 0} (f : A → List ℕ) (n : ℕ) → ((x : A) → length (f x) ≡ n) → (l : List ℕ) (at k : ℕ) (xs : List A) (d : A)
+    → k < length xs → sets (sets l (at + k * n) (f (get_or xs k d))) (at + (k + 1) * n) (bytes_of_all f (drop (k + 1) xs))
+    ≡ sets l (at + k * n) (bytes_of_all f (drop k xs))
+all-next {A = A} f n long l at k xs d h =
+    let x = get_or xs k d in
+    let ys = bytes_of_all f (drop (k + 1) xs) in
+    let here : drop k xs ≡ x ∷ drop (k + 1) xs = drop-cons xs k d h ∙ rw add-one refl in
+    let place : at + (k + 1) * n ≡ at + k * n + length (f x) = rw (long x) (lemma at k n) in
+    ap (λ (p : ℕ). sets (sets l (at + k * n) (f x)) p ys) place ∙ sym (sets-append l (at + k * n) (f x) ys)
+    ∙ ap (λ (z : List A). sets l (at + k * n) (bytes_of_all f z)) (sym here)
+  where
+    lemma : (a k n : ℕ) → a + (k + 1) * n ≡ a + k * n + n
+    lemma a k n = rw (add-one, suc-mul) (omega arith)
 
 pub input-run : (l : List ℕ) (at : ℕ) (x : Input) {a b c d e : List ℕ}
     → a ≡ sets l at (byte_of x.token.shard)
@@ -107,37 +123,21 @@ output-run l at y e1 e2 e3 =
     behind l at (byte_of y.shard ++ word_of y.owner) (word_of y.amount) 5 refl
     (behind l at (byte_of y.shard) (word_of y.owner) 1 refl e1 e2) e3
 
-pub inputs-run : (l : List ℕ) (at : ℕ) (x : List Input) {a b c d : List ℕ}
-    → a ≡ sets l at (input_bytes (get_or x 0 zero_input))
-    → b ≡ sets a (at + 14) (input_bytes (get_or x 1 zero_input))
-    → c ≡ sets b (at + 28) (input_bytes (get_or x 2 zero_input))
-    → d ≡ sets c (at + 42) (input_bytes (get_or x 3 zero_input))
-    → d ≡ sets l at (inputs_bytes x)
-unfolding word_of input_bytes inputs_bytes
-inputs-run l at x e1 e2 e3 e4 =
-    let one = input_bytes (get_or x 0 zero_input) in
-    let two = input_bytes (get_or x 1 zero_input) in
-    let three = input_bytes (get_or x 2 zero_input) in
-    let four = input_bytes (get_or x 3 zero_input) in
-    behind l at (one ++ two ++ three) four 42 refl
-    (behind l at (one ++ two) three 28 refl
-    (behind l at one two 14 refl e1 e2) e3) e4
+-- all four of a transaction
+all-four : {A : Type 0} (f : A → List ℕ) (a b c d : A) → bytes_of_all f (a ∷ b ∷ c ∷ d ∷ []) ≡ f a ++ f b ++ f c ++ f d
+all-four f a b c d = simp (append_assoc, append-nil)
 
-pub outputs-run : (l : List ℕ) (at : ℕ) (y : List Output) {a b c d : List ℕ}
-    → a ≡ sets l at (output_bytes (get_or y 0 zero_output))
-    → b ≡ sets a (at + 9) (output_bytes (get_or y 1 zero_output))
-    → c ≡ sets b (at + 18) (output_bytes (get_or y 2 zero_output))
-    → d ≡ sets c (at + 27) (output_bytes (get_or y 3 zero_output))
-    → d ≡ sets l at (outputs_bytes y)
-unfolding word_of output_bytes outputs_bytes
-outputs-run l at y e1 e2 e3 e4 =
-    let one = output_bytes (get_or y 0 zero_output) in
-    let two = output_bytes (get_or y 1 zero_output) in
-    let three = output_bytes (get_or y 2 zero_output) in
-    let four = output_bytes (get_or y 3 zero_output) in
-    behind l at (one ++ two ++ three) four 27 refl
-    (behind l at (one ++ two) three 18 refl
-    (behind l at one two 9 refl e1 e2) e3) e4
+pub inputs-put : {m : List ℕ} (l : List ℕ) (at : ℕ) (x : List Input) → length x ≡ 4 → m ≡ sets l at (bytes_of_all input_bytes x) → m ≡ sets l at (inputs_bytes x)
+unfolding inputs_bytes
+inputs-put l at x long e =
+    e ∙ ap (λ (z : List Input). sets l at (bytes_of_all input_bytes z)) (sym (four zero_input x long))
+    ∙ ap (sets l at) (all-four input_bytes (get_or x 0 zero_input) (get_or x 1 zero_input) (get_or x 2 zero_input) (get_or x 3 zero_input))
+
+pub outputs-put : {m : List ℕ} (l : List ℕ) (at : ℕ) (y : List Output) → length y ≡ 4 → m ≡ sets l at (bytes_of_all output_bytes y) → m ≡ sets l at (outputs_bytes y)
+unfolding outputs_bytes
+outputs-put l at y long e =
+    e ∙ ap (λ (z : List Output). sets l at (bytes_of_all output_bytes z)) (sym (four zero_output y long))
+    ∙ ap (sets l at) (all-four output_bytes (get_or y 0 zero_output) (get_or y 1 zero_output) (get_or y 2 zero_output) (get_or y 3 zero_output))
 
 pub transaction-run : (l : List ℕ) (at : ℕ) (t : Transaction) {a b c d e : List ℕ}
     → a ≡ sets l at (word_of t.number)

@@ -1,10 +1,8 @@
 -- The writers' promise: on a refusal, and where the record was written.
-use Rattle.std.proofs.Common.{ℕ, ◌≡◌, ◌≤◌, Bool, true, false, List, [], ◌∷◌, ◌++◌, Result, Ok, Err, length, drop, ltb, refl, sym, ◌∙◌}
-use borrow.Author.Tests.{ltb-false}
+use Rattle.std.proofs.Common.{ℕ, ◌≡◌, Bool, List, ◌++◌, Result, Ok, Err, length, drop, refl, ◌∙◌}
 use Rattle.transaction.specs.declared.refusal.Refusal.{Refusal}
-use Rattle.transaction.specs.declared.refusal.Refusal.TheVariants.{BufferTooShort}
 use Rattle.transaction.specs.Lists.{first_of}
-use Rattle.transaction.proofs.Tables.{first-front, first-behind}
+use Rattle.transaction.proofs.Tables.{first-front}
 use Rattle.writer.specs.Writing.{room_checks, with_room, Writes}
 
 -- what ok says: the fields pass

@@ -1,5 +1,5 @@
 -- Document 01, 'Records': the bytes of each kind of record, field behind field.
-use Rattle.std.specs.Prelude.{ℕ, ◌/◌, ◌%◌, List, [], ◌∷◌, ◌++◌, get_or}
+use Rattle.std.specs.Prelude.{ℕ, ◌/◌, ◌%◌, ◌≡◌, refl, length, List, [], ◌∷◌, ◌++◌, get_or}
 use Rattle.transaction.specs.declared.Input.{Input}
 use Rattle.transaction.specs.declared.Output.{Output}
 use Rattle.transaction.specs.declared.Transaction.{Transaction}
@@ -21,6 +21,24 @@ input_bytes x =
 -- an output's 9 bytes: shard 1, owner 4, amount 4
 unfoldable pub output_bytes : Output → List ℕ
 output_bytes y = byte_of y.shard ++ word_of y.owner ++ word_of y.amount
+
+-- laws that impls of src/ cite
+pub length-word : (v : ℕ) → length (word_of v) ≡ 4
+unfolding word_of
+length-word v = refl
+
+pub length-input : (x : Input) → length (input_bytes x) ≡ 14
+unfolding word_of input_bytes
+length-input x = refl
+
+pub length-output : (y : Output) → length (output_bytes y) ≡ 9
+unfolding word_of output_bytes
+length-output y = refl
+
+-- several, one behind the other
+abbrev pub bytes_of_all : {A : Type 0} → (A → List ℕ) → List A → List ℕ
+bytes_of_all f [] = []
+bytes_of_all f (x ∷ xs) = f x ++ bytes_of_all f xs
 
 -- four inputs of 14, four outputs of 9
 unfoldable pub inputs_bytes : List Input → List ℕ

@@ -57,16 +57,16 @@ transaction_at-transaction-requires c =
     omega (arith, size-within l head (first_kinds l head c.if-bytes-gt2.false), taken-within l, c.in-Ok.ensures.1)
 
 -- the fields in front pass, and one of the transaction's checks does not
-pub returns-in-Err-cause_of : goal.returns-in-Err-cause_of
-returns-in-Err-cause_of c =
+pub returns-in-Err-cause : goal.returns-in-Err-cause
+returns-in-Err-cause c =
     let l = c.args.bytes.now in
     let head = c.in-Ok.ensures.0 in
     let kinds = first_kinds l head c.if-bytes-gt2.false in
     let place = ap (λ (n : ℕ). transaction_at l (n - 98)) c.in-Ok.ensures.1 in
     let there : c.transaction_at-transaction.result ≡ transaction_in l =
     c.transaction_at-transaction.ensures ∙ place ∙ transaction-last l head kinds in
-    let checked = front-passes l head kinds c.front_fits.ensures c.if-not-front_fits.false there c.cause_of.ensures in
-    reads l (c.refused-in-Err-cause_of.ensures ∙ reading_bad l head (checked ∙ c.in-Err-cause_of.is) c.in-Ok.ensures.1)
+    let checked = front-passes l head kinds c.front_fits.ensures c.if-not-front_fits.false there c.cause.ensures in
+    reads l (c.refused-in-Err-cause.ensures ∙ reading_bad l head (checked ∙ c.in-Err-cause.is) c.in-Ok.ensures.1)
 
 -- kind 1 or 2
 pub front_fields-requires : goal.front_fields-requires
@@ -83,5 +83,5 @@ returns c =
     let place = ap (λ (n : ℕ). transaction_at l (n - 98)) c.in-Ok.ensures.1 in
     let there : c.transaction_at-transaction.result ≡ transaction_in l =
     c.transaction_at-transaction.ensures ∙ place ∙ transaction-last l head kinds in
-    let checked = front-passes l head kinds c.front_fits.ensures c.if-not-front_fits.false there c.cause_of.ensures in
+    let checked = front-passes l head kinds c.front_fits.ensures c.if-not-front_fits.false there c.cause.ensures in
     reads l (reading_good l head (checked ∙ c.in_default.is) c.front_fields.ensures there c.in-Ok.ensures.1)

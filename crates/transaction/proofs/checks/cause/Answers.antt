@@ -19,14 +19,14 @@ returns-then-named_twice c =
     cause_4 g t fit twice
 
 -- checks 3 and 4 pass, and the sums differ
-pub returns-then-input_total-output_total : goal.returns-then-input_total-output_total
+pub returns-then-total : goal.returns-then-total
 unfolding named_twice
-returns-then-input_total-output_total c =
+returns-then-total c =
     let g = c.args.genesis in
     let t = c.args.t in
     let fit : true ≡ fields_fit g t = sym c.if-not-fields_fit.false ∙ c.fields_fit.ensures in
     let once : false ≡ named_twice t = sym c.if-named_twice.false ∙ c.named_twice.ensures in
-    cause_5 g t fit once c.input_total.ensures c.output_total.ensures c.if-input_total-output_total.true
+    cause_5 g t fit once c.total.ensures c.total-2.ensures c.if-total.true
 
 -- all three checks pass
 pub returns : goal.returns
@@ -36,4 +36,4 @@ returns c =
     let t = c.args.t in
     let fit : true ≡ fields_fit g t = sym c.if-not-fields_fit.false ∙ c.fields_fit.ensures in
     let once : false ≡ named_twice t = sym c.if-named_twice.false ∙ c.named_twice.ensures in
-    cause_0 g t fit once c.input_total.ensures c.output_total.ensures c.if-input_total-output_total.false
+    cause_0 g t fit once c.total.ensures c.total-2.ensures c.if-total.false

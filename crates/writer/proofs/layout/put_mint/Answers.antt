@@ -5,4 +5,4 @@ use Rattle.writer.proofs.layout.put_mint.Goals as goal
 pub returns : goal.returns
 returns c =
     mint-run c.args.out.now _ _ _ _ c.requires
-    c.put_byte.ensures c.put_byte-2.ensures c.put_byte-3.ensures c.put_word.ensures c.put_word-2.ensures
+    c.put.ensures c.put-2.ensures c.put-3.ensures c.put-4.ensures c.put-5.ensures

@@ -5,4 +5,4 @@ use Rattle.writer.proofs.layout.put_register.Goals as goal
 pub returns : goal.returns
 returns c =
     register-run c.args.out.now _ _ c.requires
-    c.put_byte.ensures c.put_byte-2.ensures c.put_transaction.ensures
+    c.put.ensures c.put-2.ensures c.put_transaction.ensures

@@ -5,4 +5,4 @@ use Rattle.writer.proofs.layout.put_turn.Goals as goal
 pub returns : goal.returns
 returns c =
     turn-run c.args.out.now _ c.requires
-    c.put_byte.ensures c.put_byte-2.ensures
+    c.put.ensures c.put-2.ensures

@@ -1,7 +1,0 @@
-use Rattle.reader.specs.Layout.{output_at}
-use Rattle.reader.proofs.layout.output_at.Goals as goal
-
--- each part is what the definition reads at its place
-pub returns : goal.returns
-unfolding output_at
-returns c = cc

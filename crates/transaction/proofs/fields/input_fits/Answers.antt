@@ -1,6 +1,0 @@
-use Rattle.transaction.specs.Checks.{input_fits}
-use Rattle.transaction.proofs.fields.input_fits.Goals as goal
-
-pub returns : goal.returns
-unfolding input_fits
-returns c = cc
