@@ -12,8 +12,8 @@ ghost use Rattle.transaction.specs.Checks.{house_genesis, input_fits, output_fit
 ghost use Rattle.reader.specs.Layout.{input_at, output_at};
 ghost use Rattle.engine.specs.Taking.{TakesSlots, four_slots, four_words};
 
-use reader::layout::{input_at, output_at};
-use transaction::fields::{input_slot_fits, output_slot_fits};
+use reader::layout::InBytes;
+use transaction::slot::slot_fits;
 use transaction::{Input, Output};
 use words::Slot;
 
@@ -57,11 +57,11 @@ impl Taken<5> for Input {
     ghost unused_fits = { same_input zero_input };
 
     fn at(bytes: &[u8], place: usize) -> Input {
-        input_at(bytes, place)
+        Input::from_bytes(bytes, place)
     }
 
     fn fits(self, used: bool) -> bool {
-        input_slot_fits(128, used, self)
+        slot_fits(128, used, self)
     }
 }
 
@@ -77,11 +77,11 @@ impl Taken<3> for Output {
     ghost unused_fits = { same_output zero_output };
 
     fn at(bytes: &[u8], place: usize) -> Output {
-        output_at(bytes, place)
+        Output::from_bytes(bytes, place)
     }
 
     fn fits(self, used: bool) -> bool {
-        output_slot_fits(used, self)
+        slot_fits(128, used, self)
     }
 }
 

@@ -13,11 +13,12 @@ use crate::fields::record_words;
 use crate::slots::{INPUT_BYTES, OUTPUT_BYTES, take_slots};
 use reader::Record;
 use reader::bodies::front_fits;
-use reader::layout::{input_at, output_at, word_at};
+use reader::layout::{InBytes, word_at};
 use std::array;
-use transaction::checks::{input_total, named_twice, output_total};
+use transaction::checks::named_twice;
 use transaction::fields::counts_fit;
 use transaction::refusal::Refusal;
+use transaction::slot::total;
 use transaction::{Input, Output};
 
 // Stays: kinds as numbers, with names. A kind is a byte of the record, and any may stand there: the definition `kind_of` tells it as a number.
@@ -49,12 +50,12 @@ fn last_cause(bytes: &[u8], inputs: usize, outputs: usize, count: u8) -> Result<
     requires { (inputs + 56 ≤ length bytes.now) × (outputs + 36 ≤ length bytes.now) }
     ensures { LastOf (inputs_at bytes.now inputs) (outputs_at bytes.now outputs) count result }
 {
-    let x = array::from_fn(|k| input_at(bytes, inputs + k * INPUT_BYTES));
+    let x = array::from_fn(|k| Input::from_bytes(bytes, inputs + k * INPUT_BYTES));
     if named_twice(count, x) {
         return Err(Refusal::TokenTwice);
     }
-    let y = array::from_fn(|k| output_at(bytes, outputs + k * OUTPUT_BYTES));
-    if input_total(x) != output_total(y) {
+    let y = array::from_fn(|k| Output::from_bytes(bytes, outputs + k * OUTPUT_BYTES));
+    if total(x) != total(y) {
         return Err(Refusal::SumsDiffer);
     }
     Ok(())

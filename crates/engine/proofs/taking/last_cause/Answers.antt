@@ -35,8 +35,8 @@ returns-then-named_twice c =
     (search rules) (search rules) (search rules) (search rules) in
     last_4 (c.named_twice.ensures ∙ ap (twice c.args.count) taken) c.if-named_twice.true
 
-pub returns-then-input_total-output_total : goal.returns-then-input_total-output_total
-returns-then-input_total-output_total c =
+pub returns-then-total : goal.returns-then-total
+returns-then-total c =
     let taken =
     ins c.args.bytes.now c.args.inputs c.from_fn-x.result c.from_fn-x.ensures.items.long
     (search rules) (search rules) (search rules) (search rules) in
@@ -44,8 +44,8 @@ returns-then-input_total-output_total c =
     outs c.args.bytes.now c.args.outputs c.from_fn-y.result c.from_fn-y.ensures.items.long
     (search rules) (search rules) (search rules) (search rules) in
     last_5 (c.named_twice.ensures ∙ ap (twice c.args.count) taken) c.if-named_twice.false
-    (c.input_total.ensures ∙ ap (total input_amount) taken) (c.output_total.ensures ∙ ap (total output_amount) made)
-    c.if-input_total-output_total.true
+    (c.total.ensures ∙ ap (total input_amount) taken) (c.total-2.ensures ∙ ap (total output_amount) made)
+    c.if-total.true
 
 pub returns : goal.returns
 returns c =
@@ -56,5 +56,5 @@ returns c =
     outs c.args.bytes.now c.args.outputs c.from_fn-y.result c.from_fn-y.ensures.items.long
     (search rules) (search rules) (search rules) (search rules) in
     last_0 (c.named_twice.ensures ∙ ap (twice c.args.count) taken) c.if-named_twice.false
-    (c.input_total.ensures ∙ ap (total input_amount) taken) (c.output_total.ensures ∙ ap (total output_amount) made)
-    c.if-input_total-output_total.false
+    (c.total.ensures ∙ ap (total input_amount) taken) (c.total-2.ensures ∙ ap (total output_amount) made)
+    c.if-total.false
