@@ -4,22 +4,19 @@ use mathlib.Core.Path.{◌≡◌, refl, sym, ap, ◌∙◌}
 use mathlib.Core.List.{List}
 use native.Mathlib.Omega.{arith}
 use lib.ListN.{length, length-drop}
-use Rattle.std.proofs.Common.{Result, Ok, Err}
+use Rattle.std.proofs.Common.{Ok, Err}
 use Rattle.transaction.specs.declared.refusal.Refusal.{Refusal}
-use Rattle.transaction.specs.Refusals.{refusal_number, number_of}
+use Rattle.transaction.specs.Refusals.{refusal_number}
 use Rattle.reader.specs.declared.Record.{Record}
 use Rattle.reader.specs.declared.Reading.{Reading}
 use Rattle.reader.specs.Reading.{taken_of, rest_of, Reads}
 use Rattle.reader.proofs.Cases.{taken-within}
-use Rattle.writer.specs.Writing.{Writes}
 use Rattle.model.specs.Answers.{Answer}
 use Rattle.model.specs.Shard.{Call}
 use Rattle.shard.specs.View as shard
 use Rattle.cluster.specs.View as cluster
 use Rattle.calls.specs.Calls.{call_of}
 use Rattle.engine.specs.Codes.{answer_code}
-use Rattle.engine.specs.Fields.{reading_words, Fills}
-use Rattle.engine.specs.Writing.{code_of, Encodes}
 use Rattle.engine.specs.Calls.{cluster_called, shard_called, applied_as, applied, ClusterDoes, ShardDoes}
 
 -- a record and what stands behind it are all of the bytes
