@@ -11,6 +11,7 @@ use transaction::Transaction;
 use transaction::refusal::Refusal;
 
 // A record of any kind, as the reader gives it. A genesis token's record and a turn take nothing of the transaction.
+// Stays: a record's fields and its transaction side by side, as `Reading` has them; the definition `record_cause` takes both.
 pub fn write(fields: Record, t: Transaction, out: &mut [u8]) -> Result<usize, Refusal>
     ensures { Writes (record_cause fields t (length out.old)) (record_bytes fields t)
         out.old result out.new }

@@ -1,4 +1,5 @@
 // The listing: document 01, 'The listing program'. Each line's bytes and the total; the program only reads and prints.
+// Stays: `Sound c` in contracts, for the reason that the crate `shard` has for its own.
 #![tactic(auto)]
 
 ghost use Rattle.std.specs.Prelude.{◌≡◌, ◌+◌, ◌≤◌, leb, length};
@@ -137,6 +138,7 @@ pub fn list_records(
 }
 
 // The last line: TOTAL and the amounts held at all shards, stored from the front of the lent line.
+// Stays: how many bytes the line has, as the definition `Shows` speaks of it.
 pub fn total(c: &Cluster, line: &mut [u8; 64]) -> usize
     requires { Sound c.now }
     ensures { Shows (total_line (total_held (view c.now))) line.old line.new result }

@@ -1,4 +1,6 @@
 // A line under way: words put one behind the other. Internal: a caller sees that there is room for each.
+// Stays: words put one behind the other. The definitions `line_of` and `total_line`, of which `whole_listing` speaks, are
+// bytes, which no contract of Display tells, and the bound of each word keeps a line within 64.
 ghost use Rattle.std.specs.Prelude.{◌≡◌, ◌+◌, ◌≤◌, [], ◌∷◌, ◌++◌, length};
 ghost use Rattle.model.specs.Answers.{outcome_word, verdict_word};
 ghost use Rattle.listing.specs.Lines.{decimal, spaced, words_of, place_text, line_of, total_line};
@@ -162,6 +164,7 @@ impl Line {
     }
 
     // Stores the line from a place on: the place behind it.
+    // Stays: a place in the lent bytes, and the place behind: the definition `Puts` has both.
     pub(crate) fn store(&self, out: &mut [u8], at: usize) -> usize
         requires within { length self.now ≤ 64 }
         requires room { at + 64 ≤ length out.old }

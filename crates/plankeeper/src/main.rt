@@ -136,6 +136,7 @@ impl Output {
 }
 
 // The records among the unread bytes, their lines behind those that wait.
+// Stays: `Sound`, for the reason that the crate `shard` has for its own.
 fn list_part(cluster: &mut Cluster, number: u64, input: &mut Input, output: &mut Output) -> Progress
     requires { Sound cluster.old }
     ensures { ListsAll cluster.old number (slice_range input.old.bytes input.old.at input.old.end)

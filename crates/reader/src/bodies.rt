@@ -1,4 +1,7 @@
 // What `read` is made of where the whole record is there.
+// Stays: one function for each kind of record, and kinds as the bytes that they are: the specification's fields, and the
+// definition `kind_of`, have them so. That a whole record of a kind stands there is asked of each: who calls
+// has looked, and a struct for it would be made once and taken apart at once.
 ghost use Rattle.std.specs.Prelude.{◌≡◌, cond, ◌&&◌, ◌⊎◌, ◌<◌, eqb, leb};
 ghost use Rattle.transaction.specs.Refusals.{answer_of};
 ghost use Rattle.transaction.specs.Checks.{shard_fits};

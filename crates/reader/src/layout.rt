@@ -1,4 +1,6 @@
 // The fields of a record at their places, high byte first.
+// Stays: a place beside the bytes, since the definitions `word_at`, `input_at` and `output_at`, on which `Reads` rests, have
+// the same two arguments.
 ghost use Rattle.std.specs.Prelude.{◌≡◌, ℕ, List, ◌+◌, ◌*◌, ◌≤◌, length};
 ghost use Rattle.reader.specs.Layout.{word_at, input_at, output_at, four_at, transaction_at};
 

@@ -14,6 +14,7 @@ pub mod layout; // fields at their places
 pub mod bodies; // what `read` is made of
 
 // The fields of a record beside its transaction, as they stand in the bytes.
+// Stays: the verdict as its byte, as all fields: any value can be handed in, and check 3 says which is wrong.
 #[derive(Clone, Copy)]
 pub enum Record {
     // kind 1: the receiving shard (document 01: the receiving pantry)

@@ -1,4 +1,6 @@
 // The first fitting of the checks 3, 4 and 5: one function for the reader, the writers, a shard and the cluster.
+// Stays: one function for each kind of record, as the specification has a table for each; fields one by one, any value of
+// which can be handed in.
 ghost use Rattle.std.specs.Prelude.{◌≡◌, take};
 ghost use Rattle.transaction.specs.Lists.{any, repeats, first_of};
 ghost use Rattle.transaction.specs.Checks.{same_name, names, cause_of, register_checks, vote_checks, mint_checks, turn_checks};

@@ -28,6 +28,7 @@ impl Transaction {
 }
 
 // The used input at a place, if there is one.
+// Stays: one for inputs and one for outputs, which are two fields with counts of their own; what both do is `used`.
 pub fn used_input(t: Transaction, place: usize) -> Option<Input>
     ensures { result ≡ used_input t place }
 {

@@ -30,6 +30,7 @@ pub enum Refusal {
 impl From<Refusal> for u8 {
     ghost from_gives = { λ refusal number. number ≡ refusal_number refusal };
 
+    // Stays: a cast. It is how an enum with numbers gives its number.
     fn from(refusal: Refusal) -> u8 {
         refusal as u8
     }

@@ -91,6 +91,7 @@ impl Output {
 }
 
 // One slot: in range where it is used, all zero where it is not.
+// Stays: whether it is used is data of the slot, as `slots_fit` has it: both tests read the same slot.
 pub fn slot_fits<S: Part>(genesis: u8, used: bool, x: S) -> bool
     ensures { result ≡ cond used (S.fits genesis x) (S.is_zero x) }
 {

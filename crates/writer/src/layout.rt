@@ -1,4 +1,6 @@
 // The fields of a record stored at their places, high byte first.
+// Stays: one function for each kind of record, as the specification has a table for each; a place beside the bytes, since
+// `sets`, of which the contracts speak, has the same two arguments; kinds and verdicts as the bytes that they are.
 ghost use Rattle.std.specs.Prelude.{◌≡◌, ℕ, List, refl, ◌++◌, ◌+◌, ◌*◌, ◌≤◌, length, drop};
 ghost use Rattle.std.proofs.lemmas.List.Edits.{sets};
 ghost use Rattle.writer.specs.Layout.{byte_of, word_of, input_bytes, output_bytes, bytes_of_all, transaction_bytes};

@@ -1,4 +1,5 @@
 // The record writers: document 01, 'Records'. A refused record leaves every lent byte as it was.
+// Stays: one function for each kind of record, all of them public, with fields one by one, any value of which can be handed in.
 #![tactic(auto)]
 
 ghost use Rattle.std.specs.Prelude.{◌≡◌, length};
