@@ -13,7 +13,46 @@ use Rattle.transaction.specs.Tokens.{zero_input, zero_output}
 use Rattle.std.specs.Prelude.{None}
 use Rattle.model.specs.Said.{Said}
 use Rattle.model.specs.declared.Finding.{Finding}
-use Rattle.layout.specs.Layout.{token_slots, known_slots, genesis_slots, input_size, output_size, inputs_offset, outputs_offset, heard_offset, found_size, findings_offset, known_size, entry_place, word, byte, tab, input_in, output_in, inputs_in, outputs_in, transaction_in, said_from, said_in, heard_in, found_in, findings_in, known_in, token_at, known_at, given_at, tokens_of, transactions_of, given_of, no_token, slot_token, slot_known, array_in, Same, Local}
+use Rattle.layout.specs.Layout.{
+  token_slots,
+  known_slots,
+  genesis_slots,
+  input_size,
+  output_size,
+  inputs_offset,
+  outputs_offset,
+  heard_offset,
+  found_size,
+  findings_offset,
+  known_size,
+  entry_place,
+  word,
+  byte,
+  tab,
+  input_in,
+  output_in,
+  inputs_in,
+  outputs_in,
+  transaction_in,
+  said_from,
+  said_in,
+  heard_in,
+  found_in,
+  findings_in,
+  known_in,
+  token_at,
+  known_at,
+  given_at,
+  tokens_of,
+  transactions_of,
+  given_of,
+  no_token,
+  slot_token,
+  slot_known,
+  array_in,
+  Same,
+  Local,
+}
 use Rattle.layout.specs.Reads.{tab-at, known_get, said_local, input_local, output_local, found_local}
 use Rattle.layout.proofs.Regions.{length-tab, array_local}
 

@@ -1,6 +1,31 @@
 -- What stands where in a shard's words, and the shard that the words stand for. A word more is one line among the
 -- places; a field more is one line there and one in the reading.
-use Rattle.std.specs.Prelude.{ℕ, zero, suc, ◌+◌, ◌*◌, ◌%◌, ◌≤◌, ◌<◌, Bool, true, false, cond, not, ◌≡◌, Some, None, List, [], ◌∷◌, eqb, length, get_or, set, take}
+use Rattle.std.specs.Prelude.{
+  ℕ,
+  zero,
+  suc,
+  ◌+◌,
+  ◌*◌,
+  ◌%◌,
+  ◌≤◌,
+  ◌<◌,
+  Bool,
+  true,
+  false,
+  cond,
+  not,
+  ◌≡◌,
+  Some,
+  None,
+  List,
+  [],
+  ◌∷◌,
+  eqb,
+  length,
+  get_or,
+  set,
+  take,
+}
 use Rattle.transaction.specs.declared.Input.{Input}
 use Rattle.transaction.specs.declared.Output.{Output}
 use Rattle.transaction.specs.declared.Transaction.{Transaction}

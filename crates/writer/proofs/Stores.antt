@@ -127,13 +127,15 @@ output-run l at y e1 e2 e3 =
 all-four : {A : Type 0} (f : A → List ℕ) (a b c d : A) → bytes_of_all f (a ∷ b ∷ c ∷ d ∷ []) ≡ f a ++ f b ++ f c ++ f d
 all-four f a b c d = simp (append_assoc, append-nil)
 
-pub inputs-put : {m : List ℕ} (l : List ℕ) (at : ℕ) (x : List Input) → length x ≡ 4 → m ≡ sets l at (bytes_of_all input_bytes x) → m ≡ sets l at (inputs_bytes x)
+pub inputs-put : {m : List ℕ} (l : List ℕ) (at : ℕ) (x : List Input) → length x ≡ 4
+    → m ≡ sets l at (bytes_of_all input_bytes x) → m ≡ sets l at (inputs_bytes x)
 unfolding inputs_bytes
 inputs-put l at x long e =
     e ∙ ap (λ (z : List Input). sets l at (bytes_of_all input_bytes z)) (sym (four zero_input x long))
     ∙ ap (sets l at) (all-four input_bytes (get_or x 0 zero_input) (get_or x 1 zero_input) (get_or x 2 zero_input) (get_or x 3 zero_input))
 
-pub outputs-put : {m : List ℕ} (l : List ℕ) (at : ℕ) (y : List Output) → length y ≡ 4 → m ≡ sets l at (bytes_of_all output_bytes y) → m ≡ sets l at (outputs_bytes y)
+pub outputs-put : {m : List ℕ} (l : List ℕ) (at : ℕ) (y : List Output) → length y ≡ 4
+    → m ≡ sets l at (bytes_of_all output_bytes y) → m ≡ sets l at (outputs_bytes y)
 unfolding outputs_bytes
 outputs-put l at y long e =
     e ∙ ap (λ (z : List Output). sets l at (bytes_of_all output_bytes z)) (sym (four zero_output y long))

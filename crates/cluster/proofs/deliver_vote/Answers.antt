@@ -39,4 +39,6 @@ hear_formed-requires c =
 pub returns : goal.returns
 returns c =
     let vote = formed c.in_ok-deliver_form.ensures in
-    rw c.from-2.ensures (heard c.requires vote (rw c.from.ensures at c.has_given_vote.ensures) (ap not c.if-not-has_given_vote.false) (rw c.from-2.ensures at c.hear_formed.ensures))
+    rw c.from-2.ensures
+    (heard c.requires vote (rw c.from.ensures at c.has_given_vote.ensures) (ap not c.if-not-has_given_vote.false)
+    (rw c.from-2.ensures at c.hear_formed.ensures))

@@ -9,7 +9,9 @@ use Rattle.engine.proofs.records.plankeeper_read.Goals.{Else-is_err, then-is_err
 
 -- a whole record stands at the front
 head : (c : Else-is_err) → head_cause c.args.bytes.now ≡ Ok tt
-head c = no-error (head_cause c.args.bytes.now) (ap (λ (x : Result Unit Refusal). is_err x) (sym c.head_cause.ensures) ∙ sym c.is_err.ensures.value ∙ c.if-is_err.false)
+head c =
+    no-error (head_cause c.args.bytes.now)
+    (ap (λ (x : Result Unit Refusal). is_err x) (sym c.head_cause.ensures) ∙ sym c.is_err.ensures.value ∙ c.if-is_err.false)
 
 pub bounds-bytes-0 : goal.bounds-bytes-0
 bounds-bytes-0 c =
