@@ -1,4 +1,4 @@
--- The parts of the local step, input by input: what is found, and the inputs that were found available.
+-- The parts of the local step, input by input: what is found, and the inputs that were found available. Then the same slot by slot.
 use Rattle.std.proofs.Common.{
   ℕ,
   zero,
@@ -11,6 +11,8 @@ use Rattle.std.proofs.Common.{
   true,
   false,
   cond,
+  ◌&&◌,
+  ltb,
   List,
   [],
   ◌∷◌,
@@ -28,16 +30,21 @@ use Rattle.std.proofs.Common.{
   arith,
   rules,
 }
+use native.Mathlib.Nat.{not-suc-le-zero, le_of_suc-le-suc}
+use borrow.Author.Tests.{lt-ltb, le-ltb, ltb-true, ltb-false}
 use Rattle.std.proofs.lemmas.List.{map_more, length-map, take_all, length-take-le}
 use Rattle.transaction.specs.declared.Input.{Input}
 use Rattle.transaction.specs.declared.Transaction.{Transaction}
+use Rattle.transaction.specs.Tokens.{zero_input}
 use Rattle.model.specs.declared.Token.{Token}
 use Rattle.model.specs.declared.Finding.{Finding}
+use Rattle.model.specs.declared.Finding.TheVariants.{Available}
 use Rattle.model.specs.Lists.{keep}
 use Rattle.model.specs.Answers.{is_available}
-use Rattle.model.specs.Steps.{inputs_here, available, available_here, finding, findings, keeping}
+use Rattle.model.specs.Steps.{inputs_here, available, available_here, finding, findings, found_at, keeping}
 use Rattle.model.proofs.Reported.{finding-available}
 use Rattle.loops.specs.Lists.{one_if}
+use Rattle.layout.specs.Layout.{no_finding}
 
 -- one finding more is kept
 keeping-push : (l : List Finding) (f : Finding) → length l < 4
@@ -123,3 +130,63 @@ pub pick_end : (me : ℕ) (tokens : List Token) (t : Transaction) (here : List I
 unfolding findings available_here
 pick_end me tokens t here found i h few e f is =
     is ∙ rw (take_all i here h, f, ← e) (picked-all tokens here few)
+
+-- ---- Slot by slot
+
+ltb-suc : (i n : ℕ) → ltb (suc i) (suc n) ≡ ltb i n
+ltb-suc i n = go (ltb i n) refl
+  where
+    go : (b : Bool) → ltb i n ≡ b → ltb (suc i) (suc n) ≡ b
+    go true e = lt-ltb (suc i) (suc n) (omega (arith, ltb-true i n e))
+    go false e = le-ltb (suc i) (suc n) (omega (arith, ltb-false i n e))
+
+-- what a function makes of a used slot
+used-at : {A B : Type 0} (f : A → B) (x : List A) (n i : ℕ) (d : A) (e : B) → i < length x
+    → get_or (map f (take n x)) i e ≡ cond (ltb i n) (f (get_or x i d)) e
+used-at f [] n i d e h = absurd (not-suc-le-zero h)
+used-at f (a ∷ x) zero i d e h = rw (le-ltb i 0 (omega arith)) refl
+used-at f (a ∷ x) (suc n) zero d e h = rw (lt-ltb 0 (suc n) (omega arith)) refl
+used-at f (a ∷ x) (suc n) (suc i) d e h = rw (ltb-suc i n) (used-at f x n i d e (le_of_suc-le-suc h))
+
+-- four slots, of which the first are the inputs here, as many as the count says
+module _ (slots : List Input) (long : length slots ≡ 4) (count me : ℕ) (tokens : List Token) (t : Transaction)
+    (are : take count slots ≡ inputs_here me t) where
+  -- the input in a slot, and whether the slot is used
+  abbrev slot : ℕ → Input
+  slot i = get_or slots i zero_input
+
+  abbrev used : ℕ → Bool
+  used i = ltb i count
+
+  -- the finding about the input in a slot
+  finding-at : (i : ℕ) → i < 4 → get_or (findings me tokens t) i Available ≡ cond (used i) (finding tokens (slot i)) Available
+  unfolding findings
+  finding-at i l =
+      ap (λ (inputs : List Input). get_or (map (finding tokens) inputs) i Available) (sym are)
+      ∙ used-at (finding tokens) slots count i zero_input Available (omega (arith, long))
+
+  -- as it is kept
+  kept_at : (i : ℕ) → i < 4 → {q : Finding} → q ≡ cond (used i) (finding tokens (slot i)) Available → q ≡ found_at (findings me tokens t) i
+  kept_at i l e = e ∙ sym (finding-at i l)
+
+  -- a used slot's finding tells whether its input is available
+  slot_tells : (i : ℕ) → i < 4 → used i && is_available (get_or (findings me tokens t) i Available) ≡ used i && available tokens (slot i)
+  slot_tells i l = ap (λ (f : Finding). used i && is_available f) (finding-at i l) ∙ go (used i)
+    where
+      go : (b : Bool) → b && is_available (cond b (finding tokens (slot i)) Available) ≡ b && available tokens (slot i)
+      go true = finding-available tokens (slot i)
+      go false = refl
+
+  module _ (found : List Finding) (is : found ≡ keeping (findings me tokens t)) where
+    -- an input was found available, and its slot is used
+    abbrev wanted : ℕ → Bool
+    wanted i = used i && is_available (get_or found i no_finding)
+
+    -- so the available ones are added
+    adds : (i : ℕ) → i < 4 → get_or (keeping (findings me tokens t)) i no_finding ≡ get_or (findings me tokens t) i Available
+        → (inputs : List Input) {more : List Input} → more ≡ inputs ++ one_if (wanted i) (slot i)
+        → more ≡ inputs ++ one_if (used i && available tokens (slot i)) (slot i)
+    adds i l e inputs z =
+        z ∙ ap (λ (b : Bool). inputs ++ one_if b (slot i))
+        (ap (λ (k : List Finding). used i && is_available (get_or k i no_finding)) is
+        ∙ ap (λ (f : Finding). used i && is_available f) e ∙ slot_tells i l)

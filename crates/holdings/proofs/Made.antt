@@ -1,4 +1,4 @@
--- The tokens that a commit makes, output by output.
+-- The tokens that a commit makes, output by output; and one element more behind a list, where it is wanted.
 use Rattle.std.proofs.Common.{
   ℕ,
   suc,
@@ -10,6 +10,8 @@ use Rattle.std.proofs.Common.{
   true,
   false,
   cond,
+  not,
+  ◌&&◌,
   List,
   [],
   ◌∷◌,
@@ -17,6 +19,7 @@ use Rattle.std.proofs.Common.{
   length,
   take,
   drop,
+  set,
   get_or,
   sym,
   ap,
@@ -28,7 +31,28 @@ use Rattle.std.proofs.lemmas.List.{take_more, take-append-drop, length-take-le}
 use Rattle.transaction.specs.declared.Output.{Output}
 use Rattle.model.specs.declared.Token.{Token}
 use Rattle.model.specs.Steps.{output_here, token_of, tokens_from}
+use borrow.Author.Tests.{not-true, not-false}
+use mathlib.Core.List.{append-nil}
+use Rattle.loops.specs.Lists.{one_if}
+use Rattle.loops.proofs.Loops.{append-one}
 use Rattle.holdings.specs.Held.{made_from}
+
+-- one element more, or none
+module _ {A : Type 0} (wanted : Bool) (l : List A) (n : ℕ) (x : A) where
+  pub push_none : not wanted ≡ true → take n l ≡ take n l ++ one_if wanted x
+  push_none e = rw (not-true wanted e) (sym (append-nil (take n l)))
+
+  pub push_one : not wanted ≡ false → n < length l → take (n + 1) (set l n x) ≡ take n l ++ one_if wanted x
+  push_one e h = rw (not-false wanted e) (append-one l n x h)
+
+-- an element that is wanted only where its slot is used
+module _ {A : Type 0} (used wanted : Bool) (l : List A) (x : A) where
+  pub unused : not used ≡ true → l ≡ l ++ one_if (used && wanted) x
+  unused e = rw (not-true used e) (sym (append-nil l))
+
+  pub used_if : {found : Bool} {r : List A} → not used ≡ false → found ≡ wanted → r ≡ l ++ one_if found x
+      → r ≡ l ++ one_if (used && wanted) x
+  used_if e f h = rw (not-false used e, ← f) h
 
 module _ (me number : ℕ) where
   -- what some outputs make stands in front of what those behind them make

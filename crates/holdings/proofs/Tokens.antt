@@ -273,6 +273,18 @@ module _ (ws : List ℕ) (wanted : Bool) (x : Token) where
   pub none_made : wanted ≡ false → Room ws → Changes (adding (one_if wanted x)) ws ws
   none_made e r = rw (e, append-nil) (holds_same ws r)
 
+-- room for some of them
+pub some_left : (ws : List ℕ) (m n : ℕ) → Left ws (m + n) → Left ws m
+some_left ws m n r = (r.0, omega (arith, r.1))
+
+-- room that is left behind tokens made
+pub still-left : (ws vs : List ℕ) (m : List Token) (n : ℕ) → Left ws (length m + n) → Changes (adding m) ws vs
+    → Left vs n
+still-left ws vs m n r p =
+    let more : (shard_of vs).held ≡ (shard_of ws).held + length m =
+    holds-held vs p ∙ length-append (ledger_of ws).tokens m ∙ rw (held-length ws r.0.held) refl in
+    (record { long = p.long; held = omega (arith, r.1, more) }, omega (arith, r.1, more))
+
 -- the tokens that a commit makes, output by output
 module _ (me number : ℕ) (l : List Output) (ws : List ℕ) where
   abbrev made : ℕ → List Token
@@ -285,10 +297,9 @@ module _ (me number : ℕ) (l : List Output) (ws : List ℕ) where
     -- there is room for the next one's
     pub make-room : Left ws (length (tokens_from me number 0 l)) → Left vs (length (made_from me number i (get_or l i d)))
     make-room r =
-        let more : (shard_of vs).held ≡ (shard_of ws).held + length (made i) =
-        holds-held vs p ∙ length-append (ledger_of ws).tokens (made i) ∙ rw (held-length ws r.0.held) refl in
+        let next : ℕ = length (made_from me number i (get_or l i d)) in
         let fits = made-room me number l i d h in
-        (record { long = p.long; held = omega (arith, r.1, more, fits) }, omega (arith, r.1, more, fits))
+        still-left ws vs (made i) next (r.0, omega (arith, r.1, fits)) p
 
     pub make-next : (us : List ℕ) → Changes (adding (made_from me number i (get_or l i d))) vs us
         → Changes (adding (made (i + 1))) ws us

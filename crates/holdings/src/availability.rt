@@ -6,8 +6,8 @@ ghost use Rattle.model.specs.declared.Token.{Token};
 ghost use Rattle.model.specs.Steps.{names, free_for, available, inputs_here, available_here, findings, keeping};
 ghost use Rattle.layout.specs.Layout.{token_slots, shard_of, ledger_of};
 
+use crate::Inputs;
 use crate::finding::was_available;
-use crate::inputs::Inputs;
 use layout::Words;
 use layout::counts::held;
 use layout::tokens::token_at;

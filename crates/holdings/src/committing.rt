@@ -5,9 +5,9 @@ ghost use Rattle.model.specs.Steps.{made_here, commit};
 ghost use Rattle.layout.specs.Layout.{token_slots, ledger_of};
 ghost use Rattle.holdings.specs.Held.{made_from, adding, destroying, Room, Left, Changes, Settling, Settles};
 
+use crate::Inputs;
 use crate::availability::{inputs_here, names_token};
 use crate::freeing::abort_at;
-use crate::inputs::Inputs;
 use layout::Words;
 use layout::counts::{held, own_number, set_held};
 use layout::entries::transaction_at;

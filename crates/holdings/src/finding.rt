@@ -8,8 +8,8 @@ ghost use Rattle.model.specs.Steps.{inputs_here, obstacle, finding, findings, ke
 ghost use Rattle.model.specs.Demand.{has_spot};
 ghost use Rattle.layout.specs.Layout.{token_slots, shard_of, ledger_of};
 
+use crate::Inputs;
 use crate::availability::is_available;
-use crate::inputs::Inputs;
 use layout::Words;
 use layout::counts::held;
 use layout::tokens::{is_token, token_at};

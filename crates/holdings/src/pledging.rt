@@ -4,8 +4,8 @@ ghost use Rattle.model.specs.declared.Token.{Token};
 ghost use Rattle.model.specs.Steps.{pledge_when, pledges};
 ghost use Rattle.holdings.specs.Held.{Room, Changes, Tells};
 
+use crate::Inputs;
 use crate::availability::names_token;
-use crate::inputs::Inputs;
 use layout::Words;
 use layout::counts::held;
 use layout::tokens::{put_pledge, token_at};

@@ -4,7 +4,7 @@ ghost use Rattle.transaction.specs.declared.Transaction.{Transaction};
 ghost use Rattle.model.specs.declared.Token.{Token};
 ghost use Rattle.model.specs.Steps.{inputs_here, available_here, vote};
 
-use crate::inputs::Inputs;
+use crate::Inputs;
 
 // Fourth, m(S, τ): the vote on whichever transaction I(S, τ) and D(S, τ) are handed in of. It is yes if I(S, τ) = D(S, τ);
 // D(S, τ) is a part of I(S, τ), so that the counts tell.
