@@ -196,6 +196,9 @@ pub record Freshened (c : List (List ℕ)) (i : ℕ) : Type 0 where
   pub eight : length c ≡ 8
   pub so : (p : ℕ) → p < i → shard.Fresh p (shard_at c p)
 
+pub freshen_start : (c : List (List ℕ)) → length c ≡ 8 → Freshened c 0
+freshen_start c e = record { within = omega arith; eight = e; so = λ p h. absurd (omega arith) }
+
 below_it : (q i : ℕ) → q < i + 1 → (q ≡ i → ⊥) → q < i
 below_it q i h n = omega arith
 

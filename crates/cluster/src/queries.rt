@@ -5,7 +5,7 @@ ghost use Rattle.std.specs.Prelude.{◌≡◌, length, MatchOption};
 ghost use Rattle.model.specs.Steps.{house};
 ghost use Rattle.model.specs.Cluster.{ledger_at};
 ghost use Rattle.model.specs.Findings.{report_at};
-ghost use Rattle.shard.specs.Queries.{token_at, known_at, outcome_at, outcome_of_number};
+ghost use Rattle.shard.specs.Queries.{token_at, get_known, known_at, outcome_at, outcome_of_number};
 ghost use Rattle.cluster.specs.View.{view, Sound, NoShard, IsShard};
 ghost use Rattle.model.specs.Totals.{held_in, total_held};
 
@@ -49,12 +49,24 @@ pub fn known_count(c: &Cluster, number: u8) -> usize
 }
 
 // The transaction at a place of those that it knows; none behind the last.
-pub fn known_at(c: &Cluster, number: u8, place: usize) -> Option<Known>
+pub fn get_known(c: &Cluster, number: u8, place: usize) -> Option<Known>
+    requires { Sound c.now }
+    ensures { result ≡ get_known (ledger_at house (view c.now) number).known place }
+{
+    let s = shard_at(c, number)?;
+    queries::get_known(s, place)
+}
+
+// The transaction at a place of those that it knows; a blank one behind the last.
+// Stays: zeros where nothing is, as `known_at` of the crate `shard` has them.
+pub fn known_at(c: &Cluster, number: u8, place: usize) -> Known
     requires { Sound c.now }
     ensures { result ≡ known_at (ledger_at house (view c.now) number).known place }
 {
-    let s = shard_at(c, number)?;
-    queries::known_at(s, place)
+    match shard_at(c, number) {
+        Some(s) => queries::known_at(s, place),
+        None => queries::blank_known(),
+    }
 }
 
 // The outcome there of the transaction at a place of those that it knows.

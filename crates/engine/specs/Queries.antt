@@ -8,7 +8,7 @@ use Rattle.model.specs.declared.Outcome.{Outcome}
 use Rattle.model.specs.Said.{said_number}
 use Rattle.model.specs.Answers.{Report, finding_number, pledging_number}
 use Rattle.model.specs.Findings.{reported}
-use Rattle.shard.specs.Queries.{token_at, known_at, outcome_at}
+use Rattle.shard.specs.Queries.{token_at, get_known, outcome_at}
 use Rattle.words.specs.Words.{words_of}
 use Rattle.engine.specs.Codes.{outcome_code, told_code}
 
@@ -40,7 +40,7 @@ pub record TellsToken (tokens : List Token) (place answer : ℕ) (after : List �
 -- the transaction at a place of those known, likewise
 pub record TellsKnown (known : List Known) (place answer : ℕ) (after : List ℕ) : Type 0 where
   pub answered : answer ≡ known_code (outcome_at known place)
-  pub filled : after ≡ known_words (known_at known place)
+  pub filled : after ≡ known_words (get_known known place)
 
 -- findings in so many places, two words each: its number and that of the pledging transaction; zeros behind the last
 abbrev pub findings_words : ℕ → List Finding → List ℕ

@@ -65,7 +65,7 @@ pub extern "C" fn plankeeper_known_at(
 {
     let at = narrow(shard);
     tell_known(
-        queries::known_at(c, at, place),
+        queries::get_known(c, at, place),
         queries::outcome_at(c, at, place),
         known,
     )

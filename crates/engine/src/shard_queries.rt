@@ -51,7 +51,7 @@ pub extern "C" fn plankeeper_shard_known_at(s: &Words, place: usize, known: &mut
     ensures { TellsKnown (view s.now).known place result known.new }
 {
     tell_known(
-        queries::known_at(s, place),
+        queries::get_known(s, place),
         queries::outcome_at(s, place),
         known,
     )

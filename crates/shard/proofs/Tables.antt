@@ -11,9 +11,9 @@ use Rattle.std.specs.Prelude.{None, Result, Ok, Err, IsErrAnd}
 use Rattle.std.proofs.lemmas.Result.{err_from_is_err_and}
 use Rattle.transaction.specs.declared.Transaction.{Transaction}
 use Rattle.transaction.specs.declared.refusal.Refusal.{Refusal}
-use Rattle.transaction.specs.declared.refusal.Refusal.TheVariants.{OutOfRange, NumberTaken, KnownAlready}
+use Rattle.transaction.specs.declared.refusal.Refusal.TheVariants.{OutOfRange, NumberTaken, KnownAlready, NumberUnknown}
 use Rattle.transaction.specs.Lists.{any, first_of}
-use Rattle.transaction.proofs.Tables.{table_stands, table_behind}
+use Rattle.transaction.proofs.Tables.{row_holds, row_passes, table_stands, table_behind}
 use Rattle.model.specs.declared.Known.{Known}
 use Rattle.model.specs.Said.{Said}
 use Rattle.model.specs.Steps.{house, is_for, place_of, entry_of, nothing_known, heard_from, outputs_here}
@@ -41,11 +41,11 @@ pub none : Says [] (Ok tt)
 none = record { so = refl }
 
 pub here : {told test : Bool} {refusal : Refusal} {rest : Table} → told ≡ test → told ≡ true → Says ((test, refusal) ∷ rest) (Err refusal)
-here e y = record { so = rw (← e, y) refl }
+here {test = test} {refusal} {rest} e y = record { so = row_holds test refusal rest (sym e ∙ y) }
 
 pub past : {told test : Bool} {refusal : Refusal} {verdict : Verdict} {rest : Table} → told ≡ test → told ≡ false → Says rest verdict
     → Says ((test, refusal) ∷ rest) verdict
-past e n s = record { so = rw (← e, n) s.so }
+past {test = test} {refusal} {rest = rest} e n s = record { so = row_passes test refusal rest (sym e ∙ n) s.so }
 
 -- the same where the test is told by its opposite
 pub here-not : {told test : Bool} {refusal : Refusal} {rest : Table} → told ≡ test → not told ≡ true
@@ -82,6 +82,15 @@ module _ (receiver me : ℕ) (rest : Table) where
   pub own-shard : {verdict : Verdict} → receiver ≡ me → verdict ≡ first_of rest → Says ((not (eqb receiver me), OutOfRange) ∷ rest) verdict
   own-shard e s = past {test = not (eqb receiver me)} refl (ap not (eq-eqb receiver me e)) (record { so = s })
 
+-- ---- 11 where sender and receiver are one
+
+module _ {sender me own : ℕ} (em : me ≡ own) (rest : Table) where
+  pub own-vote : sender ≡ me → Says ((eqb sender own, NumberUnknown) ∷ rest) (Err NumberUnknown)
+  own-vote e = here {test = eqb sender own} refl (eq-eqb sender own (e ∙ em))
+
+  pub others-vote : {verdict : Verdict} → (sender ≡ me → ⊥) → Says rest verdict → Says ((eqb sender own, NumberUnknown) ∷ rest) verdict
+  others-vote n s = past {test = eqb sender own} refl (ne_eqb sender own (λ z. n (z ∙ sym em))) s
+
 -- ---- The tests that go by how many transactions are known: 13 and 9
 
 module _ {ws : List ℕ} (sound : Sound ws) {count : ℕ} (ec : count ≡ (shard_of ws).known) where
@@ -102,11 +111,15 @@ module _ {ws : List ℕ} (sound : Sound ws) (t : Transaction) where
 
   -- it is not known, so that 7 and 8 do not fit
   module _ (nowhere : Nowhere (is_numbered t.number) known) {verdict : Verdict} {rest : Table} where
-    pub unknown-passes : Says rest verdict
-        → Says ((any (is_other t) (view ws).known, NumberTaken) ∷ (any (is_for t) (view ws).known, KnownAlready) ∷ rest) verdict
-    unknown-passes s =
-        past {told = false} (sym (none_passes known sound.once t.number nowhere (is_other t) (asks-other t))) refl
-        (past {told = false} (sym (none_passes known sound.once t.number nowhere (is_for t) (asks_for t))) refl s)
+    pub other-passes : {refusal : Refusal} → Says rest verdict → Says ((any (is_other t) (view ws).known, refusal) ∷ rest) verdict
+    other-passes s = past {told = false} (sym (none_passes known sound.once t.number nowhere (is_other t) (asks-other t))) refl s
+
+    pub known-passes : {refusal : Refusal} → Says rest verdict → Says ((any (is_for t) (view ws).known, refusal) ∷ rest) verdict
+    known-passes s = past {told = false} (sym (none_passes known sound.once t.number nowhere (is_for t) (asks_for t))) refl s
+
+  pub unknown-passes : Nowhere (is_numbered t.number) known → {verdict : Verdict} {rest : Table} → Says rest verdict
+      → Says ((any (is_other t) (view ws).known, NumberTaken) ∷ (any (is_for t) (view ws).known, KnownAlready) ∷ rest) verdict
+  unknown-passes nowhere s = other-passes nowhere (known-passes nowhere s)
 
   -- it is known, for this transaction or for another
   module _ {place : ℕ} (at : Stands (is_numbered t.number) known place) where

@@ -2,8 +2,9 @@
 // The interface: `new`, `mint_token`, `register_transaction`, `hear_vote`, `turn_shard`, `has_given_vote`, all of `queries`, and
 // `reporting::findings_of`. Internal, and public only because the crate `cluster` calls them: `hear_formed` with its `Vote`, and
 // `refusals::deliver_form`.
-// Stays: `Sound s` in each contract. `struct Shard<'a> { words: &'a mut Words, ghost sound: .. }` was tried and proves, but then each
-// function owes `same_reference`, and each export makes the struct first and still asks for `Sound`: no plainer.
+// Stays: `Sound s` in each contract. C lends the words as an array, and to take them for a struct with that invariant would be unsafe. A
+// struct around the loan, `struct Shard<'a> { words: &'a mut Words, ghost sound: .. }`, was tried and proves, but then each function owes
+// `same_reference`, and each export makes the struct first and still asks for `Sound`: no plainer.
 // Stays: a slot is its number, `place`, beside the words that C lends (`layout::entries` says why).
 // Stays: each call and each question here, and in `cluster` once more. Both are public, and C calls both; the cluster's is a line or two.
 // Stays: (receiver, index, owner, amount) and (receiver, sender, verdict, t) one by one, as the specification's `Call` and the exports
@@ -38,9 +39,6 @@ pub struct Vote {
     pub verdict: u8,
     pub transaction: Transaction,
 }
-
-// Stays: each call asks for `Sound`. C lends the words as an array, and without unsafe there is no loan of a struct with an invariant over
-// lent words.
 
 // An empty shard of that number, whatever the words were.
 pub fn new(s: &mut Words, me: u8)

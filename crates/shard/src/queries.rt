@@ -2,9 +2,9 @@
 ghost use Rattle.std.specs.Prelude.{◌≡◌, false, ◌≤◌, get_or, length};
 ghost use Rattle.shard.specs.View.{view, Sound};
 ghost use Rattle.model.specs.Totals.{total_amount};
-ghost use Rattle.shard.specs.Queries.{token_at, token_of_id, known_at, outcome_at, outcome_of_number};
+ghost use Rattle.shard.specs.Queries.{token_at, token_of_id, get_known, blank_known, known_at, outcome_at, outcome_of_number};
 
-use holdings::finding::place_of_token;
+use holdings::finding::{nothing_found, place_of_token};
 use layout::{Words, counts, entries, tokens};
 use model::{Known, Outcome, Token};
 use registry::deciding;
@@ -48,14 +48,34 @@ pub fn find_token(s: &Words, creator: u32, index: u8) -> Option<Token>
 }
 
 // The known transaction at a place; none behind the last.
-pub fn known_at(s: &Words, place: usize) -> Option<Known>
+pub fn get_known(s: &Words, place: usize) -> Option<Known>
     requires { Sound s.now }
-    ensures { result ≡ known_at (view s.now).known place }
+    ensures { result ≡ get_known (view s.now).known place }
 {
     if place < counts::known_count(s) {
         return Some(entries::known_at(s, place));
     }
     None
+}
+
+// No known transaction: what stands behind the last one.
+// Stays: zeros where nothing is, here and in `known_at`, which could not fail and still cannot. `get_known`, beside it, has None.
+pub fn blank_known() -> Known
+    ensures { result ≡ blank_known }
+{
+    Known {
+        transaction: transaction::parts::blank(),
+        heard: [None; 8],
+        findings: nothing_found(),
+    }
+}
+
+// The known transaction at a place; a blank one behind the last.
+pub fn known_at(s: &Words, place: usize) -> Known
+    requires { Sound s.now }
+    ensures { result ≡ known_at (view s.now).known place }
+{
+    get_known(s, place).unwrap_or(blank_known())
 }
 
 // The outcome of the known transaction at a place.

@@ -1,9 +1,8 @@
-use Rattle.std.proofs.Common.{ap, ◌∙◌, Some, arith}
-use Rattle.shard.proofs.Asked.{known-within, known-behind}
+use Rattle.std.proofs.Common.{rules}
+use Rattle.std.proofs.lemmas.Option.{unwrap_or-slice_get}
+use Rattle.shard.specs.View.{view}
+use Rattle.shard.specs.Queries.{blank_known}
 use Rattle.shard.proofs.queries.known_at.Goals as goal
 
-pub returns-then-place-known_count : goal.returns-then-place-known_count
-returns-then-place-known_count c = ap Some c.known_at.ensures ∙ known-within c.requires c.args.place (omega arith)
-
 pub returns : goal.returns
-returns c = known-behind c.requires c.args.place (omega arith)
+returns c = let read = unwrap_or-slice_get (view c.args.s.now).known c.args.place blank_known in search (rules, read)
