@@ -106,7 +106,9 @@ impl Input {
 }
 
 impl Output {
-    fn new(stream: Stdout) -> Output {
+    fn new(stream: Stdout) -> Output
+        ensures { result.used ≡ 0 }
+    {
         Output {
             stream,
             bytes: [0; BUFFER],
@@ -135,10 +137,12 @@ impl Output {
     }
 }
 
-// The records among the unread bytes, their lines behind those that wait.
+// The records among the unread bytes, their lines behind those that wait. Room is left for more than one line, so that
+// every turn goes on.
 // Stays: `Sound`, for the reason that the crate `shard` has for its own.
 fn list_part(cluster: &mut Cluster, number: u64, input: &mut Input, output: &mut Output) -> Progress
-    requires { Sound cluster.old }
+    requires sound { Sound cluster.old }
+    requires room { output.old.used ≤ ROOMY }
     ensures { ListsAll cluster.old number (slice_range input.old.bytes input.old.at input.old.end)
         (cond input.old.ended 0 RECORD) (drop output.old.used output.old.bytes) result
         cluster.new (drop output.old.used output.new.bytes) }
@@ -162,7 +166,8 @@ fn finish(cluster: &Cluster, output: &mut Output) -> io::Result<()>
 
 // Every record's line, and the last one. After a write that failed nothing more is listed.
 fn list_all(cluster: &mut Cluster, input: &mut Input, output: &mut Output) -> io::Result<()>
-    requires { Sound cluster.old }
+    requires sound { Sound cluster.old }
+    requires room { output.old.used ≤ ROOMY }
 {
     let mut number = 1;
     input.fill();
