@@ -41,7 +41,7 @@ decides-both heard shards others =
     ∙ rw (any_append (is_no heard) shards others, all_append (is_yes heard) shards others) refl
 
 -- one shard more
-decides-one : (heard : List Said) (shard : ℕ) → by_said (get_or heard shard None) ≡ decision_of heard (shard ∷ [])
+pub decides-one : (heard : List Said) (shard : ℕ) → by_said (get_or heard shard None) ≡ decision_of heard (shard ∷ [])
 decides-one heard shard =
     rw (or-false (is_no heard shard), and-true (is_yes heard shard)) (one (get_or heard shard None))
   where

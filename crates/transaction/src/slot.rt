@@ -98,7 +98,8 @@ pub fn slot_fits<S: Part>(genesis: u8, used: bool, x: S) -> bool
     if used { x.fits(genesis) } else { x.is_zero() }
 }
 
-// All four, of which the first are used, as many as the count says.
+// All four, of which the first are used, as many as the count says. As `fields_fit`, it is part of `cause`.
+#[inline(always)]
 pub fn slots_fit<S: Part>(genesis: u8, count: u8, slots: [S; 4]) -> bool
     ensures { result ≡ slots_fit (S.fits genesis) S.is_zero count slots }
 {

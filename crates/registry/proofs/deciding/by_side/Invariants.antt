@@ -7,4 +7,4 @@ use Rattle.registry.proofs.deciding.by_side.Given as goal
 abbrev pub invariant-loop-i : goal.invariant-loop-i
 invariant-loop-i g l =
     let known = slot_known l.s l.k in
-    l.decided ≡ decision_of known.heard (map g.P.Side.shard (take l.i (g.P.Side.slots known.transaction)))
+    l.decided ≡ decision_of known.heard (map g.P.Side.shard (take l.i (take l.n (g.P.Side.slots known.transaction))))
