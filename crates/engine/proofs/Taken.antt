@@ -9,7 +9,7 @@ use native.Mathlib.Omega.{arith}
 use borrow.Author.Count.{below_more}
 use borrow.Rule.Slice.PartMut.{put_mid}
 use lib.Dec.{eqb, leb, ltb}
-use lib.ListN.{length, length-append, take, replicate, drop_of_length-le}
+use lib.ListN.{length, length-append, set, take, replicate, drop_of_length-le}
 use lib.Seq.{sets, take_all}
 use Rattle.std.proofs.lemmas.List.Edits.{sets-eq}
 use Rattle.std.proofs.lemmas.Slice.{put_mid-paste}
@@ -45,6 +45,23 @@ use Rattle.writer.proofs.Stores.{behind, front}
 use Rattle.words.specs.Words.{input_words, output_words, words_of}
 use Rattle.engine.specs.Fields.{record_words, answer_words, reading_words, Fills}
 use Rattle.engine.specs.Taking.{four_slots, four_words, LastOf, TakesTransaction, TakesRecord}
+
+-- words stored at places one behind the other are a run
+pub three-words : (l : List ℕ) (to u v w : ℕ) → set (set (set l to u) (to + 1) v) (to + 2) w ≡ sets l to (u ∷ v ∷ w ∷ [])
+three-words l to u v w =
+    let one : to + 1 ≡ suc to = omega arith in
+    let two : to + 2 ≡ suc (suc to) = omega arith in
+    rw (one, two) refl
+
+pub five-words : (l : List ℕ) (to u v w x y : ℕ)
+    → set (set (set (set (set l to u) (to + 1) v) (to + 2) w) (to + 3) x) (to + 4) y
+    ≡ sets l to (u ∷ v ∷ w ∷ x ∷ y ∷ [])
+five-words l to u v w x y =
+    let one : to + 1 ≡ suc to = omega arith in
+    let two : to + 2 ≡ suc (suc to) = omega arith in
+    let three : to + 3 ≡ suc (suc (suc to)) = omega arith in
+    let four : to + 4 ≡ suc (suc (suc (suc to))) = omega arith in
+    rw (one, two, three, four) refl
 
 -- words that stand in a part of a slice are stored there
 pub part-sets : (l : List ℕ) (a k : ℕ) (ys vs : List ℕ) → ys ≡ vs → length vs ≡ k → a + k ≤ length l → put_mid a k l ys ≡ sets l a vs

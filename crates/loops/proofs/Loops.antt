@@ -1,7 +1,7 @@
 -- Loops over the first n elements of an array: one law for each shape, over the element type. At index i, `slice i n l` is what is left of the list.
 -- Each shape has its invariant, a record, with laws for the start, for a turn, for a turn that ends the search, and for the end.
 use Prim.Native.Nat.{ℕ, suc, ◌+◌, ◌≤◌, ◌<◌}
-use mathlib.Core.Path.{◌≡◌, ◌∙◌}
+use mathlib.Core.Path.{◌≡◌, refl, ◌∙◌}
 use mathlib.Core.List.{List, [], ◌∷◌, ◌++◌}
 use mathlib.Core.Bool.{Bool, true, false}
 use native.Mathlib.Numerals.{add-one}
@@ -22,6 +22,9 @@ pub record Seeking {A : Type 0} (f : A → Bool) (l : List A) (n i : ℕ) : Type
   pub left : any f (take n l) ≡ any f (slice i n l)
 
 module _ {A : Type 0} {f : A → Bool} {l : List A} {n : ℕ} where
+  pub seek_start : Seeking f l n 0
+  seek_start = record { within = omega arith; left = refl }
+
   pub seek_end : {i : ℕ} → Seeking f l n i → n ≤ i → any f (take n l) ≡ false
   seek_end {i} s h = let e : i ≡ n = omega arith in s.left ∙ rw (e, slice_empty)
 
@@ -38,6 +41,9 @@ pub record Finding {A : Type 0} (f : A → Bool) (l : List A) (n i : ℕ) : Type
   pub left : find f (take n l) ≡ i + find f (slice i n l)
 
 module _ {A : Type 0} {f : A → Bool} {l : List A} {n : ℕ} where
+  pub find-start : Finding f l n 0
+  find-start = record { within = omega arith; left = omega arith }
+
   pub find_end : {i : ℕ} → Finding f l n i → n ≤ i → find f (take n l) ≡ i
   find_end {i} s h =
       let e : i ≡ n = omega arith in

@@ -1,6 +1,8 @@
 -- The elements that pass among the first i, and one element more.
-use Rattle.std.proofs.Common.{ℕ, ◌≡◌, ◌+◌, ◌<◌, ◌≤◌, Bool, true, false, cond, List, [], ◌∷◌, ◌++◌, length, take, get_or, min, refl, sym, ap, ◌∙◌, arith, rules}
+use Rattle.std.proofs.Common.{ℕ, zero, suc, ◌≡◌, ◌+◌, ◌<◌, ◌≤◌, Bool, true, false, cond, ltb, List, [], ◌∷◌, ◌++◌, length, take, get_or, min, refl, sym, ap, ◌∙◌, arith, rules}
 use Rattle.std.proofs.lemmas.List.{take_more, take_min, length-take}
+use lib.Seq.{take-nil}
+use Rattle.transaction.proofs.Slots.{above, four}
 use Rattle.model.specs.Lists.{keep}
 use Rattle.model.proofs.Basics.{keep-length}
 use Rattle.loops.specs.Lists.{one_if}
@@ -35,3 +37,20 @@ used-are l long count n e = rw e (ap (λ (k : ℕ). take (min count k) l) (sym l
 pub used-below : {A : Type 0} (l : List A) → length l ≡ 4 → (count n i : ℕ) → n ≡ min count 4 → n ≤ i → i ≤ n → take i l ≡ take count l
 used-below l long count n i e h k = let same : i ≡ n = omega arith in
     ap (λ (m : ℕ). take m l) same ∙ used-are l long count n e
+
+-- ---- The used ones of four slots, slot by slot
+
+slots-of : {A : Type 0} (a b c e : A) (n : ℕ)
+    → take n (a ∷ b ∷ c ∷ e ∷ []) ≡ one_if (ltb 0 n) a ++ one_if (ltb 1 n) b ++ one_if (ltb 2 n) c ++ one_if (ltb 3 n) e
+slots-of a b c e zero = refl
+slots-of a b c e (suc zero) = refl
+slots-of a b c e (suc (suc zero)) = refl
+slots-of a b c e (suc (suc (suc zero))) = refl
+slots-of {A} a b c e (suc (suc (suc (suc n)))) =
+    rw (above n 0 (omega arith), above n 1 (omega arith), above n 2 (omega arith), above n 3 (omega arith)) (rw (take-nil {A = A} n) refl)
+
+module _ {A : Type 0} (d : A) (x : List A) (long : length x ≡ 4) where
+  pub used-slots : (n : ℕ)
+      → take n x ≡ one_if (ltb 0 n) (get_or x 0 d) ++ one_if (ltb 1 n) (get_or x 1 d) ++ one_if (ltb 2 n) (get_or x 2 d) ++ one_if (ltb 3 n) (get_or x 3 d)
+  used-slots n =
+      ap (λ (l : List A). take n l) (sym (four d x long)) ∙ slots-of (get_or x 0 d) (get_or x 1 d) (get_or x 2 d) (get_or x 3 d) n

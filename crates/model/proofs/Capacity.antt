@@ -88,6 +88,16 @@ use Rattle.model.proofs.Steps.{Inv, at_one, play-keeps}
 
 -- ---- Lengths and sums
 
+-- how many are kept, counted one by one
+-- Stays: no proof cites it, and no other law says it.
+pub keep-count : {A : Type 0} (f : A → Bool) (l : List A) → length (keep f l) ≡ total (λ (x : A). cond (f x) 1 0) l
+keep-count f [] = refl
+keep-count f (x ∷ l) = go (f x) (keep-count f l)
+  where
+    go : (b : Bool) → length (keep f l) ≡ total (λ x. cond (f x) 1 0) l → length (cond b (x ∷ keep f l) (keep f l)) ≡ cond b 1 0 + total (λ x. cond (f x) 1 0) l
+    go true h = omega arith
+    go false h = omega arith
+
 -- a sum after one element was replaced
 pub total-set : {A : Type 0} (f : A → ℕ) (l : List A) (i : ℕ) (a d : A) → i < length l → total f (set l i a) + f (get_or l i d) ≡ total f l + f a
 total-set f [] i a d h = absurd (omega arith)

@@ -18,7 +18,7 @@ use Rattle.model.specs.declared.Done.TheVariants.{Minted, Registered, Heard, Aga
 use Rattle.model.specs.Steps.{Limits, Ledger, empty_ledger, inputs_here}
 use Rattle.model.specs.Shard.{Call, mint, register, deliver, shard_step, turn}
 use Rattle.model.specs.Cluster.{ledger_at, at_shard, cluster_step}
-use Rattle.model.specs.Model.{Entry, Model, entry_for, step, after, play}
+use Rattle.model.specs.Model.{Entry, Model, entry_for, step, after, answers, play}
 use Rattle.model.specs.Demand.{committed, outcome_at}
 use Rattle.model.proofs.Basics.{eqb-eq, eqb_apart, clash}
 use Rattle.model.proofs.Lookups.{alone-repeats}
@@ -160,9 +160,14 @@ numbered NoSuchNumber = refl
 numbered TurnedAlready = refl
 
 -- a refusal has a number
+number-left : (limits : Limits) (me : ℕ) (ledger : Ledger) (call : Call) (r : Ledger × Answer)
+    → ShardEffect limits me ledger call r → (refusal : Refusal) → r.1 ≡ Err refusal → number_of r.1 ≢ 0
+number-left limits me ledger call r effect refusal e z = eqb_apart (numbered refusal) (sym (ap number_of e) ∙ z)
+
+-- a refusal has a number
 pub refused-number : (limits : Limits) (me : ℕ) (ledger : Ledger) (call : Call) (refusal : Refusal)
     → (shard_step limits me ledger call).1 ≡ Err refusal → number_of (shard_step limits me ledger call).1 ≢ 0
-refused-number limits me ledger call refusal e z = eqb_apart (numbered refusal) (sym (ap number_of e) ∙ z)
+refused-number limits me ledger call = number-left limits me ledger call (shard_step limits me ledger call) (shard-effect limits me ledger call)
 
 -- ---- Tokens and numbers
 
@@ -239,3 +244,16 @@ after-append limits place model [] more = ap (λ (n : ℕ). after limits n model
 after-append limits place model (call ∷ calls) more =
     after-append limits (suc place) (step limits place model call).0 calls more
     ∙ ap (λ (n : ℕ). after limits n (after limits (suc place) (step limits place model call).0 calls) more) (omega arith)
+
+-- and their answers
+-- Stays: no proof cites it, and no other law says it.
+pub answers-append : (limits : Limits) (place : ℕ) (model : Model) (calls more : List Call)
+    → answers limits place model (calls ++ more) ≡ answers limits place model calls
+    ++ answers limits (length calls + place) (after limits place model calls) more
+unfolding after answers
+answers-append limits place model [] more = ap (λ (n : ℕ). answers limits n model more) (omega arith)
+answers-append limits place model (call ∷ calls) more =
+    ap (λ (l : List Answer). (step limits place model call).1 ∷ l)
+    (answers-append limits (suc place) (step limits place model call).0 calls more
+    ∙ ap (λ (n : ℕ). answers limits (suc place) (step limits place model call).0 calls
+    ++ answers limits n (after limits (suc place) (step limits place model call).0 calls) more) (omega arith))

@@ -90,7 +90,7 @@ module _ (l : List ℕ) (h : head_cause l ≡ Ok tt) where
   whole =
       leb-false _ _ (none_of (eqb (length l) 0) (is_none (body_length (kind_of l))) (leb (length l) (body_of l)) h).1.1
 
-  known : is_none (body_length (kind_of l)) ≡ false
+  pub known : is_none (body_length (kind_of l)) ≡ false
   unfolding head_cause
   known = (none_of (eqb (length l) 0) (is_none (body_length (kind_of l))) (leb (length l) (body_of l)) h).1.0
 

@@ -96,16 +96,21 @@ total-used f u z none n x h =
     ap (total f) (sym (take-append-drop n x)) ∙ total-append f (take n x) (drop n x) in
     omega arith
 
--- a test over two lists, one behind the other
+-- a test over a mapped list, and over two lists one behind the other
+pub any-map : {A B : Type 0} (f : B → Bool) (g : A → B) (x : List A) → any f (map g x) ≡ any (λ (a : A). f (g a)) x
+any-map f g [] = refl
+any-map f g (a ∷ x) = ap (λ (b : Bool). f (g a) || b) (any-map f g x)
+
 pub any_append : {A : Type 0} (f : A → Bool) (x y : List A) → any f (x ++ y) ≡ any f x || any f y
 any_append f [] y = refl
 any_append f (a ∷ x) y = ap (λ (b : Bool). f a || b) (any_append f x y) ∙ sym (or_assoc (f a) (any f x) (any f y))
 
--- the library's test of a list, where a number read off each element is looked for
-listed : {A : Type 0} (f : A → ℕ) (n : ℕ) (xs : List A) → list_any (λ x. eqb n (f x)) xs ≡ any (eqb n) (map f xs)
-listed f n [] = refl
-listed f n (x ∷ xs) = rw (listed f n xs) refl
+-- the library's test of a list
+listed : {A : Type 0} (f : A → Bool) (xs : List A) → list_any f xs ≡ any f xs
+listed f [] = refl
+listed f (x ∷ xs) = rw (listed f xs) refl
 
+-- where a number read off each element is looked for
 pub any-of : {A : Type 0} (f : A → ℕ) (n : ℕ) (xs : List A) {found : Bool} → found ≡ list_any (λ x. eqb n (f x)) xs
     → found ≡ any (eqb n) (map f xs)
-any-of f n xs e = e ∙ listed f n xs
+any-of f n xs e = e ∙ listed (λ x. eqb n (f x)) xs ∙ sym (any-map (eqb n) f xs)

@@ -3,6 +3,15 @@ use Rattle.std.proofs.Common.{◌≡◌, refl, sym, ◌∙◌, Bool, true, false
 use Rattle.transaction.specs.declared.refusal.Refusal.{Refusal}
 use Rattle.transaction.specs.Lists.{first_of}
 
+-- a row whose test holds, and one whose test does not
+module _ (test : Bool) (refusal : Refusal) (others : List (Bool × Refusal)) where
+  pub row_holds : test ≡ true → Err refusal ≡ first_of ((test, refusal) ∷ others)
+  row_holds e = rw e refl
+
+  pub row_passes : {found : Result Unit Refusal} → test ≡ false → found ≡ first_of others
+      → found ≡ first_of ((test, refusal) ∷ others)
+  row_passes e f = rw e f
+
 -- Where one of the first table's checks fails, no check behind them counts; where none fails, those behind do.
 pub first-stands : (fields others : List (Bool × Refusal)) {refusal : Refusal} → first_of fields ≡ Err refusal
     → first_of (fields ++ others) ≡ Err refusal

@@ -48,6 +48,11 @@ front l xs n q h e =
     e ∙ sets-eq xs l 0 (rw (zero-add, q) h) ∙ rw (zero-add, q) refl
 
 -- the lengths of the parts of a record, and of the whole
+-- Stays: no proof cites the first, and no other law says it.
+pub length-inputs : (x : List Input) → length (inputs_bytes x) ≡ 56
+unfolding word_of input_bytes inputs_bytes
+length-inputs x = refl
+
 pub length-transaction : (t : Transaction) → length (transaction_bytes t) ≡ 98
 unfolding word_of input_bytes output_bytes inputs_bytes outputs_bytes transaction_bytes
 length-transaction t = refl
